@@ -9,7 +9,7 @@
 -- `ArgMovesByClass` (`stepped`), `ArgMovesEffect` (`relied_kept`, `passed_moved`).
 -- `Arrivals` says where vregs are at a block's start, with what the branch into it defines, and `PlacesOnArrival`
 -- has a function that gives this location (`arrives`). `DefinitionsCarry` is what a branch defines, `EdgesInto` that
--- no other branch leads into such a branch's successors.
+-- no other branch leads into the successors of a branch that defines something.
 -- `BlockEnd/BranchEndsBlock` adds the branch itself; `WellFormedBranch` gives premises for well-formed functions.
 -- `LocationsAfterBranch` (`branch_kept`) says for `Walk` what a branch keeps of slots and locations.
 -- `ArgMovesAreParallel` and `WellFormedMayBranch` serve contracts of the code: no file here imports them.

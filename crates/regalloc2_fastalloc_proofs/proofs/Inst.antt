@@ -1,9 +1,9 @@
 -- One instruction by itself, with the moves before and after it.
 -- Read first: the record `CarriedBut` in `BoundaryToFirstOperand`: what is known at a boundary between instructions.
 -- Depends on `Evictions`, `Operands` and `Moves`, and on `InstCarries` of regalloc2_semantics.
--- Main theorem: `alone` in `OneInstCarries`. From a state between instructions after it, allocating an instruction
--- leaves one before it, and its listing carries each known vreg from the places where it is needed before to those
--- after; after a return nothing is needed.
+-- Main theorem: `carries_by_itself` in `OneInstCarries`. From a state between instructions after it, allocating an instruction
+-- leaves one before it, and its listing carries each known vreg from the places where it is needed before to the places
+-- where it is needed after; after an instruction that ends its block nothing is needed.
 -- The walk goes backward, in three parts. `BoundaryToFirstOperand` (`opened`): fixed registers are reserved and
 -- evicted, clobbers evicted. Then `Operands/AllOperands` (`laid_both`). `LastOperandToBoundary` (`closed`): across the
 -- instruction itself, and the moves of its uses.

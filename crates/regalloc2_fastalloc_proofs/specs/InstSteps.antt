@@ -96,7 +96,7 @@ pub data EvictsVReg (point : ℕ) (r : Register) (old new : StateValue) : Type 0
       SetsAlloc old.places new.places v s
       → new.edits ≡ old.edits ++ a_move point s (InRegister r) ∷ [] → SameMachine old new → new.lrus ≡ old.lrus → EvictsVReg point r old new
 
--- which never fails: it takes no other register
+-- emptying an allocatable register never fails: it takes no other register
 abbrev pub EvictVReg : ℕ → Register → StateValue → Outcome (Unit {0}) → Type 0
 EvictVReg point r old (next x new) = EvictsVReg point r old new
 EvictVReg point r old no_register = ⊥
@@ -212,7 +212,7 @@ pub record UsesReg (r : Register) (old new : StateValue) : Type 0 where
   pub newest : order_of new r.class ≡ r ∷ filter (λ q. not (is_register r q)) (order_of old r.class)
   pub others : (class : RegClass) → class ≢ r.class → order_of new class ≡ order_of old class
 
--- so does the place of an operand that requires any register or any place, if it is an allocatable register
+-- the place of an operand that requires any register or any place becomes the most recently used of its class, if it is an allocatable register
 pub data UsesPlace (w : Requirement) (p : Place) (old new : StateValue) : Type 0 where
   used : (r : Register) → (w ≡ AnyPlace) ⊎ (w ≡ AnyReg) → p ≡ InRegister r → has_register old.allocatable r ≡ true → UsesReg r old new → UsesPlace w p old new
   not_used : ((r : Register) → (w ≡ AnyPlace) ⊎ (w ≡ AnyReg) → p ≡ InRegister r → has_register old.allocatable r ≡ false) → new ≡ old →
@@ -247,7 +247,7 @@ abbrev pub AllocOperand : ℕ → OperandRequest → InstRegs → StateValue →
 AllocOperand point o t old (next (p, u) new) = AllocsOperand point o p t u old new
 AllocOperand point o t old no_register = LacksPlace point o t old
 
--- a move, unless its target is none or its source
+-- a move, on the condition `is_made`
 pub data AddMoveIf (point : ℕ) (class : RegClass) (is_made : Bool) (from to : Place) (t : InstRegs) (old : StateValue) : Outcome InstRegs → Type 0 where
   sent : {o : Outcome InstRegs} → is_made ≡ true → AddMove point class from to t old o → AddMoveIf point class is_made from to t old o
   unsent : {u : InstRegs} {new : StateValue} → is_made ≡ false → u ≡ t → new ≡ old → AddMoveIf point class is_made from to t old (next u new)
@@ -502,7 +502,7 @@ pub data EvictsEach (point : ℕ) : List Register → InstRegs → StateValue �
   one_more : (r : Register) (rs : List Register) (t u w : InstRegs) (old m new : StateValue) → EvictsPReg point r t u old m → EvictsEach point rs u m w new →
       EvictsEach point (r ∷ rs) t old w new
 
--- one of them can't be emptied, after others were
+-- a register of the list can't be emptied, after others were
 pub record EachIsNotEvicted (point : ℕ) (t : InstRegs) (old : StateValue) : Type 0 where
   pub cleared : List Register
   pub inst_regs : InstRegs

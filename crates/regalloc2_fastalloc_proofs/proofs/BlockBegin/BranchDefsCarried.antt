@@ -33,7 +33,7 @@ use Rattle.regalloc2_fastalloc_proofs.proofs.Operands.DefinedNumbers.{defined_by
 use Rattle.regalloc2_fastalloc_proofs.proofs.BlockEnd.DefsInSlots.{IsAnyOrStack}
 use Rattle.regalloc2_fastalloc_proofs.proofs.BlockBegin.StoresOfDefs.{walked_stores}
 use Rattle.regalloc2_fastalloc_proofs.proofs.Safety.StoresKeepSafe.{order_each, stored_concerned}
-use Rattle.regalloc2_fastalloc_proofs.proofs.Branches.Arrivals.{left_at, IsNeeded, Arrive, DefsPlaced}
+use Rattle.regalloc2_fastalloc_proofs.proofs.Branches.Arrivals.{left_at, IsUsedBeyondBranch, Arrive, DefsPlaced}
 
 -- the parameter of a number, or none
 find_param : (ps : List VirtualRegister) (v : VirtualRegister) → ((n : ℕ) × (n < length ps) × (slice_index_or ps n no_vreg ≡ v))
@@ -81,7 +81,7 @@ pub record StoredAtBegin : Type 0 where
   pub placed : (e k : ℕ) → IsEdgeInto f b e k → DefsPlaced f placesf F e
   pub v : VirtualRegister
   pub made : Made f v
-  pub needed : IsNeeded f v
+  pub needed : IsUsedBeyondBranch f v
   pub has_slot : (n : ℕ) → n < length (block_at f b).params → slice_index_or (block_at f b).params n no_vreg ≡ v → slot_in middle v.number ≢ NoPlace
 
 module _ (stored : StoredAtBegin) where
@@ -105,7 +105,7 @@ module _ (stored : StoredAtBegin) where
         let same : Some x.0.to ≡ Some p = sym (goes_to x.0 x.1 j v x.2) ∙ mine in
         (x.0, x.1, (let y : x.0.to ≡ p = cc in y), at x.0.from x.2.from x.2.there)
 
-    -- and stores for other vregs leave v's slot alone
+    -- stores for other vregs leave v's slot alone
     avoids : (p : Place) → F v.number ≡ Some p → ((j : ℕ) → IsStoredFor f e k middle.slots j v → ⊥) → (t : Store) → IsOneOf t s.stores → Avoids t p
     avoids p mine none t is =
         let one = s.each t is in

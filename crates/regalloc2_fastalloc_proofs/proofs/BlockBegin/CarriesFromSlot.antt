@@ -22,8 +22,8 @@ use Rattle.regalloc2_fastalloc_proofs.specs.BlockStart.{ReloadsAtBegin}
 use Rattle.regalloc2_fastalloc_proofs.proofs.Safety.StepsKeepState.{place_in, slot_in}
 use Rattle.regalloc2_fastalloc_proofs.proofs.Operands.RecordOverState.{opt, stands_at, slots_at}
 use Rattle.regalloc2_fastalloc_proofs.proofs.Inst.AcrossInst.{lives_in}
-use Rattle.regalloc2_fastalloc_proofs.proofs.Inst.OneInstCarries.{Between}
-use Rattle.regalloc2_fastalloc_proofs.proofs.Moves.StepsAppendEdits.{Pushes, none_pushed, one_pushed}
+use Rattle.regalloc2_fastalloc_proofs.proofs.Inst.OneInstCarries.{IsBetweenInsts}
+use Rattle.regalloc2_fastalloc_proofs.proofs.Moves.StepsAppendEdits.{AppendsEdits, none_pushed, one_pushed}
 use Rattle.regalloc2_fastalloc_proofs.proofs.BlockBegin.ReloadAtBegin.{IsReload, Begun, begun, reloads_at_begin_carried}
 
 -- whether an option is the given place
@@ -52,7 +52,7 @@ module _ (insts : ℕ → InstValue) (placesf : ℕ → List Place) (i n : ℕ) 
   from_first t = walked insts (at_point (listed t.edits)) placesf i (suc n)
 
   -- reloads in front do nothing to what is carried from nowhere
-  reloaded : (old new : List (ℕ × MoveValue)) → Pushes (IsReload (before i)) old new →
+  reloaded : (old new : List (ℕ × MoveValue)) → AppendsEdits (IsReload (before i)) old new →
       Carries v (walked insts (at_point (listed old)) placesf i (suc n)) (λ p. ⊥) E →
       Carries v (walked insts (at_point (listed new)) placesf i (suc n)) (λ p. ⊥) E
   reloaded old new none_pushed c = c
@@ -68,7 +68,7 @@ module _ (insts : ℕ → InstValue) (placesf : ℕ → List Place) (i n : ℕ) 
       ∙ before_part-push insts e.1 (listed es) placesf i n item in
       subst (λ l. Carries v l (λ p. ⊥) E) (sym (walked-more insts (listed (es ++ e ∷ [])) placesf i n ∙ in_front)) moved
 
-  module _ (params : List VirtualRegister) (old new : StateValue) (begins : ReloadsAtBegin (before i) params old new) (between : Between i old) (block : Bool)
+  module _ (params : List VirtualRegister) (old new : StateValue) (begins : ReloadsAtBegin (before i) params old new) (between : IsBetweenInsts i old) (block : Bool)
       (F : Option Place) (slot : (r : Register) → F ≡ Some (InRegister r) → ⊥)
       (stays : (p : Place) → slots_at new v.number ≡ Some p → F ≡ Some p) where
     -- if the block doesn't write v
@@ -79,7 +79,7 @@ module _ (insts : ℕ → InstValue) (placesf : ℕ → List Place) (i n : ℕ) 
         let b : Begun i params old new = begun i params old new begins between in
         carries_weaken v (from_first new) (λ p. Need (lives_in new) (λ x. false) X (stands_at new) (slots_at new) v.number p) (λ p. F ≡ Some p) E E
         (λ p h. elim h [
-          | located l at ↦ stays p (by_place p (b.settled v.number) at)
+          | located l at ↦ stays p (by_place p (b.in_slot_or_nowhere v.number) at)
           | in_slot o at ↦ stays p at
           | made x ↦ is_there-true F p ((and_parts (nat_eq v.number v.number) (is_there F p) x).1)
         ])

@@ -1,4 +1,4 @@
--- The arguments of all edges are spilled, and the moves from their slots to those of the parameters are gathered.
+-- The arguments of all edges are spilled, and the moves from their slots to the parameters' slots are gathered.
 use Rattle.std.proofs.Common.{ℕ, zero, suc, ◌≡◌, ◌<◌, ◌⊎◌, inl, inr, Bool, true, false, cond, List, [], ◌∷◌, length, refl, sym, ap, ◌∙◌, subst, arith}
 use Rattle.std.specs.Prelude.{Some, Contains, slice_index_or}
 use Rattle.std.proofs.lemmas.Bool.{cases_eq}
@@ -49,7 +49,7 @@ in_rest : {X : Type 0} → (b : Bool) (x y : X) (xs : List X) → Contains xs y 
 in_rest true x y xs h = (suc h.0, omega (arith, h.1), h.2)
 in_rest false x y xs h = h
 
--- the moves of a class are those of the gathered ones
+-- a gathered move is among the moves of its class
 pub of_class-has : (c : RegClass) (gs : List ClassMove) (g : ClassMove) → Contains gs g → g.class ≡ c → Contains (of_class c gs) (g.from, g.to, tt)
 unfolding of_class
 of_class-has c [] g has e = absurd (let lt : has.0 < 0 = has.1 in omega (arith, lt))

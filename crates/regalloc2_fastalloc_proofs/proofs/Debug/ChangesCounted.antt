@@ -1,4 +1,4 @@
--- What an instruction doesn't count: it defines no watched vreg, and those that it reads had a location before.
+-- What an instruction doesn't count: it defines no watched vreg, and the watched vregs that it reads had a location before.
 use Rattle.std.proofs.Common.{ℕ, ◌≡◌, ◌≢◌, ◌+◌, ◌-◌, ◌^◌, ◌<◌, ◌≤◌, ◌⊎◌, ◌&&◌, ◌||◌, inl, inr, Bool, true, false, List, length, refl, sym, ap, ◌∙◌, subst, arith, cond}
 use Rattle.std.specs.Prelude.{min, slice_index_or}
 use Rattle.std.proofs.lemmas.Bool.{cases_Bool, cases_eq}
@@ -63,7 +63,7 @@ up_rises : (a b : ℕ) → IsUp a b → Rises a b
 up_rises a b (inl x) = inl (omega (arith, x))
 up_rises a b (inr x) = inr x
 
--- one more, up to the greatest value
+-- a count rises by one, up to the greatest value
 one_up : (n : ℕ) → IsUp n (min (n + 1) greatest)
 one_up n = elim (cases_le (n + 1) greatest) [
   | inl le ↦ inl (let e = min-eq_left le in omega (arith, e))
@@ -84,7 +84,7 @@ count_up : (watched : List Bool) (n x : ℕ) (left place : Place) → (is_no_pla
     IsUp n (count_after watched n x left place)
 count_up watched n x left place none watches = rw (none, watches) (one_up n)
 
--- the same vregs are watched, and the count stays or rises
+-- the watched vregs stay, and the count stays or rises
 pub record Counted (old new : StateValue) : Type 0 where
   pub watched : new.places.watched ≡ old.places.watched
   pub rises : Rises old.places.changes new.places.changes
@@ -118,7 +118,7 @@ counted_then a b c f g = record {
   rises = rises_then a.places.changes b.places.changes c.places.changes f.rises g.rises;
 }
 
--- so over any changes
+-- any sequence of changes keeps the watched vregs, and the count stays or rises
 pub changes_counted : {old new : StateValue} → Changes Anything old new → Counted old new
 changes_counted = changes_keep (record { same = λ t. same_counted t t refl; over = counted_then; each = one_counted })
 
@@ -198,7 +198,7 @@ module _ (i : ℕ) (ends_block : Bool) (ops : List OperandValue) where
     pass_counted : (n : ℕ) (list : List Place) (u : InstRegs) (m : StateValue) → Pass n list u m → Counted first m
     pass_counted n list u m pass = changes_counted (processes_operands_at_changes (λ p q. tt) (λ j lt at. free_operand (op_at ops j)) pass)
 
-    -- one of them that defines a watched vreg
+    -- an operand of the pass that defines a watched vreg is counted
     pub pass_def : (k : ℕ) → is_def (op_at ops k).kind ≡ true → is_fixed_nonallocatable (op_at ops k) ≡ false → is_late (op_at ops k).position ≡ late →
         Watches first (op_at ops k).vreg.number → (n : ℕ) (list : List Place) (u : InstRegs) (m : StateValue) → Pass n list u m → k < n → CountsUp first m
     pass_def k def allocated at watches n list u m none_placed lt = absurd (omega (arith, lt))
@@ -232,7 +232,7 @@ module _ (i : ℕ) (ends_block : Bool) (ops : List OperandValue) where
       ]
     ]
 
-    -- one of them that reads it
+    -- an operand of the pass that reads a watched vreg without a location is counted
     pub pass_use : (k : ℕ) → is_reading (op_at ops k) ≡ true → is_late (op_at ops k).position ≡ late → Watches first (op_at ops k).vreg.number →
         Absent (op_at ops k).vreg.number first → (n : ℕ) (list : List Place) (u : InstRegs) (m : StateValue) → Pass n list u m → k < n → CountsUp first m
     pass_use k reading at watches absent n list u m none_placed lt = absurd (omega (arith, lt))
@@ -288,7 +288,7 @@ module _ (f : FunctionValue) (b i : ℕ) (before_it places : List Place) (old ne
   passes_counted : Counted old a.allocates.allocates.after_late
   passes_counted = counted_then old a.allocates.allocates.after_clobbers a.allocates.allocates.after_late before_late late_counted
 
-  -- it counts each watched vreg that it defines
+  -- the instruction counts each watched vreg that it defines
   pub inst_def : (k : ℕ) → k < length (inst_at f i).operands → is_def (op_at (inst_at f i).operands k).kind ≡ true →
       is_fixed_nonallocatable (op_at (inst_at f i).operands k) ≡ false → Watches old (op_at (inst_at f i).operands k).vreg.number → CountsUp old new
   inst_def k lt def allocated watches = elim (cases_Bool (is_late (op_at ops k).position)) [
@@ -300,7 +300,7 @@ module _ (f : FunctionValue) (b i : ℕ) (before_it places : List Place) (old ne
         (still_watched old a.allocates.allocates.after_late (op_at ops k).vreg.number passes_counted watches) (length ops) a.allocates.here a.allocates.allocates.early a.allocates.allocates.after_early a.allocates.allocates.earlies lt) after_both
   ]
 
-  -- and each that it reads while it has no location
+  -- the instruction counts each watched vreg that it reads while the vreg has no location
   pub inst_use : (k : ℕ) → k < length (inst_at f i).operands → is_reading (op_at (inst_at f i).operands k) ≡ true →
       Watches old (op_at (inst_at f i).operands k).vreg.number → Absent (op_at (inst_at f i).operands k).vreg.number old → CountsUp old new
   inst_use k lt reading watches absent = elim (cases_Bool (is_late (op_at ops k).position)) [
@@ -318,7 +318,7 @@ module _ (f : FunctionValue) (b i : ℕ) (before_it places : List Place) (old ne
         ]
   ]
 
-  -- so one that leaves the count as it is adds nothing to live ranges
+  -- an instruction that leaves the count as it is adds nothing to live ranges
   pub unchanged_adds_nothing : IsLimited f → (env : MachineValue) → IsWellFormed env f → i < length f.insts → LocatedAreUsed f (i + 1) old →
       new.places.changes ≡ old.places.changes → old.places.changes < 2 ^ 64 - 1 → AddsNothing f (IsWanted old.places.watched) i
   unchanged_adds_nothing limited env ok inside used same few = record {
@@ -336,7 +336,7 @@ module _ (f : FunctionValue) (b i : ℕ) (before_it places : List Place) (old ne
       not_up (inl up) = omega (arith, up, same)
       not_up (inr most) = omega (arith, most, same, few)
 
--- the same vregs are watched throughout
+-- the watched vregs stay over all instructions of a block
 pub insts_watched : {f : FunctionValue} {b i : ℕ} {blank places : List Place} {old new : StateValue} → AllocsBlockInsts f b blank old i places new →
     new.places.watched ≡ old.places.watched
 insts_watched {f} {b} walk = (changes_counted (allocs_block_insts_changes (λ n ge lt. free_inst f b n) walk)).watched

@@ -29,7 +29,7 @@ use Rattle.regalloc2_fastalloc_proofs.proofs.Operands.RecordOverState.{stands_at
 use Rattle.regalloc2_fastalloc_proofs.proofs.Operands.RecordOfInst.{Orderly, Turned, LayingContext, laying_of}
 use Rattle.regalloc2_fastalloc_proofs.proofs.Operands.UsesAndPlainDefs.{laid_pass}
 use Rattle.regalloc2_fastalloc_proofs.proofs.Operands.AllOperands.{LaidAt, laid_one_more, laid_all}
-use Rattle.regalloc2_fastalloc_proofs.proofs.Moves.StepsAppendEdits.{Pushes, none_pushed, pushes_then}
+use Rattle.regalloc2_fastalloc_proofs.proofs.Moves.StepsAppendEdits.{AppendsEdits, none_pushed, pushes_then}
 use Rattle.regalloc2_fastalloc_proofs.proofs.Slots.StepsKeepSlots.{Grown, grown_then, changes_grow, AnyPlace}
 use Rattle.regalloc2_fastalloc_proofs.proofs.Changes.InstChanges.{free_operand, adds_move_if_changes, processes_operand_changes, frees_alloc_changes}
 use Rattle.regalloc2_fastalloc_proofs.specs.Located.{Absent}
@@ -38,7 +38,7 @@ use Rattle.regalloc2_fastalloc_proofs.proofs.Debug.DefStoresIntoSlot.{Off, alloc
 use Rattle.regalloc2_fastalloc_proofs.proofs.Debug.DefStoresIntoSlot.{off_none, moves_of}
 use Rattle.regalloc2_fastalloc_proofs.proofs.Operands.BlockTail.{tail_of}
 
--- A definition of an instruction that is no return, and its vreg's slot: the known vregs; the instructions and the places of their
+-- A definition of an instruction that doesn't end its block, and its vreg's slot: the known vregs; the instructions and the places of their
 -- operands; the instruction i; its operands, which are orderly, with the numbers that had a location and the clobbered places; the
 -- operand d; and the slot's number n.
 pub record DefSlot : Type 1 where
@@ -75,20 +75,20 @@ module _ (def_slot : DefSlot) where
   real e = cc
 
   -- what the listing must establish: nothing, or that the slot holds the value
-  abbrev Nothing : VirtualRegister → Place → Type 0
-  Nothing u p = ⊥
+  abbrev Nowhere : VirtualRegister → Place → Type 0
+  Nowhere u p = ⊥
 
   abbrev pub Into : VirtualRegister → Place → Type 0
   Into u p = (u ≡ v) × (p ≡ s)
 
-  abbrev pub asks_nothing : LayingContext
-  asks_nothing = laying_of (tail_of Known insts placesf i 0 Nothing) ops lived clob ends_block orderly
+  abbrev pub asks_nowhere : LayingContext
+  asks_nowhere = laying_of (tail_of Known insts placesf i 0 Nowhere) ops lived clob ends_block orderly
 
   abbrev pub asks_value : LayingContext
   asks_value = laying_of (tail_of Known insts placesf i 0 Into) ops lived clob ends_block orderly
 
   abbrev pub Bare : Bool → ℕ → List Place → InstRegs → StateValue → Type 0
-  Bare = LaidAt asks_nothing
+  Bare = LaidAt asks_nowhere
 
   abbrev pub Full : Bool → ℕ → List Place → InstRegs → StateValue → Type 0
   Full = LaidAt asks_value
@@ -108,7 +108,7 @@ module _ (def_slot : DefSlot) where
     ready = record {
       located = L.ready.located;
       owes = record { later = L.ready.owes.later; claims = claims };
-      nothing = λ e. absurd (let y : true ≡ false = sym e ∙ plain in cc);
+      nowhere_needed = λ e. absurd (let y : true ≡ false = sym e ∙ plain in cc);
       held = L.ready.held;
       scratch_reserve = L.ready.scratch_reserve;
       fit = L.ready.fit;
@@ -144,16 +144,16 @@ module _ (def_slot : DefSlot) where
 
     another_off : (w : VirtualRegister) (p : Place) (t u : InstRegs) (old new : StateValue) → (df : FreesAlloc (after i) w ends_block p t u old new) →
         w.number ≢ v.number → IsWhole old → Grown AnyPlace old final →
-        Pushes (Off s slotted) old.edits new.edits
+        AppendsEdits (Off s slotted) old.edits new.edits
     another_off w p t u old new df ne h g =
         frees_alloc_off s slotted (after i) w ends_block p t u old new df (λ e. others_slots old g w.number ne (h.own_slot w.number n e))
         (others_slots old g w.number ne)
 
     processes_operand_off : (k : ℕ) (here there : List Place) (t u : InstRegs) (old new : StateValue) → (Counts ops k → (op_at ops k).vreg.number ≢ v.number) →
         k < length ops → ProcessesOperand i ends_block ops k here there t u old new → IsWhole old → Grown AnyPlace new final →
-        Pushes (Off s slotted) old.edits new.edits
+        AppendsEdits (Off s slotted) old.edits new.edits
     processes_operand_off k here there t u old new ne lt (a_register r silent is at eu en) h g =
-        subst (λ (y : StateValue). Pushes (Off s slotted) old.edits y.edits) (sym en) none_pushed
+        subst (λ (y : StateValue). AppendsEdits (Off s slotted) old.edits y.edits) (sym en) none_pushed
     processes_operand_off k here there t u old new ne lt (a_use p reads y at) h g =
         pushes_then (Off s slotted) old.edits y.middle.edits new.edits (allocs_operand_off s slotted (after i) _ p t u old y.middle y.gets)
         (locates_use_off s slotted (after i) _ p y.middle new y.uses)
@@ -214,14 +214,14 @@ module _ (def_slot : DefSlot) where
     -- operands before it is allocated
     pub before_off : {late : Bool} {here : List Place} {t : InstRegs} {old : StateValue} {k : ℕ} {list : List Place} {u : InstRegs} {m : StateValue} →
         ProcessesOperandsAt i ends_block late ops here t old k list u m → k ≤ length ops → (d < k → is_late (op_at ops d).position ≡ late → ⊥) →
-        Bare late 0 here t old → Grown AnyPlace m final → Pushes (Off s slotted) old.edits m.edits
+        Bare late 0 here t old → Grown AnyPlace m final → AppendsEdits (Off s slotted) old.edits m.edits
     before_off none_placed = λ le out L g. none_pushed
     before_off {late} {here} {t} {old} (of_other j there w y prev other) =
         λ le out L g. before_off prev (omega (arith, le)) (λ lt e. out (omega (arith, lt)) e) L g
     before_off {late} {here} {t} {old} {list} {u} {m} (one_placed j there next w y z q prev inst_regs one) = λ le out L g.
         let grows : Grown AnyPlace z final = grown_then AnyPlace z m final
         (changes_grow AnyPlace (processes_operand_changes (λ p q. tt) (free_operand _) one)) g in
-        let at : Bare late j there w z = laid_all asks_nothing late here t old j there w z prev
+        let at : Bare late j there w z = laid_all asks_nowhere late here t old j there w z prev
         (omega (arith, le)) L in
         let ne : j ≢ d = λ e. out (omega (arith, e)) (ap (λ (a : ℕ). is_late (op_at ops a).position) (sym e) ∙ inst_regs) in
         pushes_then (Off s slotted) old.edits z.edits m.edits
@@ -239,7 +239,7 @@ module _ (def_slot : DefSlot) where
         laid_pass asks_value late j list u m
         (pass_into of_pass none L prev (omega (arith, le)) (omega (arith, lt, ne)) g at) other
     pass_into {late} {here} {t} {old} of_pass none L {list} {u} {m} (one_placed j there next w y z q prev inst_regs one) = λ le lt g at.
-        let bare : Bare late j there w z = laid_all asks_nothing late here t old j there w z prev
+        let bare : Bare late j there w z = laid_all asks_nowhere late here t old j there w z prev
         (omega (arith, le)) L in
         let grows : Grown AnyPlace z final = grown_then AnyPlace z m final
         (changes_grow AnyPlace (processes_operand_changes (λ p q. tt) (free_operand _) one)) g in
@@ -268,7 +268,7 @@ module _ (def_slot : DefSlot) where
             (changes_grow AnyPlace (processes_operand_changes (λ p q. tt) (free_operand _) one)) g in
             let quiet : NoMoveTo s (moves z) = off_none s slotted (after i) old.edits z.edits
             (before_off prev (omega (arith, less)) (λ lt h. absurd (omega (arith, lt, e))) L grows) none in
-            let next : Bare late (j + 1) list u m = laid_one_more asks_nothing late j there list w u z m less
+            let next : Bare late (j + 1) list u m = laid_one_more asks_nowhere late j there list w u z m less
             inst_regs one bare in
             let done : next.done d ≡ true = next.all d (within, inl def)
             (had_turn late (j + 1) (ap (λ (a : ℕ). is_late (op_at ops a).position) (sym e) ∙ inst_regs) (omega (arith, e))) in

@@ -25,7 +25,7 @@ use Rattle.regalloc2_fastalloc_proofs.specs.Safety.{IsWhole}
 use Rattle.regalloc2_fastalloc_proofs.proofs.Safety.StepsKeepState.{place_in, slot_in}
 use Rattle.regalloc2_fastalloc_proofs.proofs.Safety.BranchArgsKeepState.{changes_steady}
 use Rattle.regalloc2_fastalloc_proofs.proofs.Operands.DefRecord.{another_is}
-use Rattle.regalloc2_fastalloc_proofs.proofs.Moves.StepsAppendEdits.{Pushes, none_pushed, one_pushed, changes_push}
+use Rattle.regalloc2_fastalloc_proofs.proofs.Moves.StepsAppendEdits.{AppendsEdits, none_pushed, one_pushed, changes_push}
 use Rattle.regalloc2_fastalloc_proofs.proofs.Changes.InstChanges.{allocs_scratch_reg_changes, adds_move_if_changes, allocs_operand_changes}
 use Rattle.regalloc2_fastalloc_proofs.proofs.Changes.InstChanges.{locates_use_changes, frees_alloc_changes, evicts_fixed_changes, evicts_each_changes}
 
@@ -48,7 +48,7 @@ module _ (s : Place) (slotted : (r : Register) → s ≡ InRegister r → ⊥) w
   off_more m ms ne h = (λ e. ne (sym e), h)
 
   -- no move at a point goes to s
-  pub off_none : (q : ℕ) (a b : List (ℕ × MoveValue)) → Pushes Off a b → NoMoveTo s (at_point (listed a) q) → NoMoveTo s (at_point (listed b) q)
+  pub off_none : (q : ℕ) (a b : List (ℕ × MoveValue)) → AppendsEdits Off a b → NoMoveTo s (at_point (listed a) q) → NoMoveTo s (at_point (listed b) q)
   off_none q a b none_pushed h = h
   off_none q a b (one_pushed es e prev off) h =
       let rest : NoMoveTo s (at_point (listed es) q) = off_none q a es prev h in
@@ -63,31 +63,31 @@ module _ (s : Place) (slotted : (r : Register) → s ≡ InRegister r → ⊥) w
   module _ (point : ℕ) where
     -- allocating an operand's place adds no move to s
     pub allocs_operand_off : (o : OperandRequest) (p : Place) (t u : InstRegs) (old new : StateValue) → AllocsOperand point o p t u old new
-        → Pushes Off old.edits new.edits
+        → AppendsEdits Off old.edits new.edits
     allocs_operand_off o p t u old new g = changes_push Off (allocs_operand_changes (to_register point) tt g)
 
     -- locating a use adds no move to s
-    pub locates_use_off : (v : VirtualRegister) (p : Place) (old new : StateValue) → LocatesUse v p old new → Pushes Off old.edits new.edits
+    pub locates_use_off : (v : VirtualRegister) (p : Place) (old new : StateValue) → LocatesUse v p old new → AppendsEdits Off old.edits new.edits
     locates_use_off v p old new h = changes_push Off (locates_use_changes tt h)
 
     -- evicting the vregs of fixed registers adds no move to s
     pub evicts_fixed_off : (ops : List OperandValue) (t : InstRegs) (old : StateValue) (k : ℕ) (u : InstRegs) (m : StateValue) →
         EvictsFixed point ops t old k u m →
-        Pushes Off old.edits m.edits
+        AppendsEdits Off old.edits m.edits
     evicts_fixed_off ops t old k u m h = changes_push Off (evicts_fixed_changes (to_register point) h)
 
     -- evicting the vregs of a list of registers adds no move to s
     pub evicts_each_off : (rs : List Register) (t : InstRegs) (old : StateValue) (u : InstRegs) (new : StateValue) → EvictsEach point rs t old u new
-        → Pushes Off old.edits new.edits
+        → AppendsEdits Off old.edits new.edits
     evicts_each_off rs t old u new h = changes_push Off (evicts_each_changes (to_register point) h)
 
     adds_move_if_off : (class : RegClass) (made : Bool) (from to : Place) (t u : InstRegs) (old new : StateValue) → to ≢ s →
-        AddsMoveIf point class made from to t u old new → Pushes Off old.edits new.edits
+        AddsMoveIf point class made from to t u old new → AppendsEdits Off old.edits new.edits
     adds_move_if_off class made from to t u old new ne h = changes_push Off (adds_move_if_changes (to_register point) (λ q. ne) h)
 
     -- freeing the definition of another vreg adds no move to s
     pub frees_alloc_off : (v : VirtualRegister) (ends_block : Bool) (p : Place) (t u : InstRegs) (old new : StateValue) → FreesAlloc point v ends_block p t u old new →
-        place_in old v.number ≢ s → slot_in old v.number ≢ s → Pushes Off old.edits new.edits
+        place_in old v.number ≢ s → slot_in old v.number ≢ s → AppendsEdits Off old.edits new.edits
     frees_alloc_off v ends_block p t u old new d expected stored = changes_push Off (frees_alloc_changes (to_register point) (λ q. expected) (λ q. stored) tt d)
 
     -- the moves at the point

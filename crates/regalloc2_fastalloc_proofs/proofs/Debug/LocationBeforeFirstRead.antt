@@ -20,7 +20,7 @@ use Rattle.regalloc2_fastalloc_proofs.proofs.Operands.RecordOfInst.{Orderly}
 use Rattle.regalloc2_fastalloc_proofs.proofs.Operands.UsesAndPlainDefs.{reads_no_fixed, use_number}
 use Rattle.regalloc2_fastalloc_proofs.specs.Located.{Absent}
 use Rattle.regalloc2_fastalloc_proofs.proofs.Debug.UnnamedStaysUnlocated.{out_then, changes_absent, changes_out, processes_operands_at_out}
-use Rattle.regalloc2_fastalloc_proofs.proofs.Debug.LocatedStaysOrHasSlot.{Holds, changes_hold, processes_operand_hold}
+use Rattle.regalloc2_fastalloc_proofs.proofs.Debug.LocatedStaysOrHasSlot.{StaysOrHasSlot, changes_hold, processes_operand_hold}
 use Rattle.regalloc2_fastalloc_proofs.proofs.Changes.InstChanges.{allocs_operand_changes, moves_uses_changes, evicts_fixed_changes, evicts_each_changes}
 
 -- the operand that is allocated first of those that name a number: a late one before an early one, and by their order
@@ -73,7 +73,7 @@ module _ (i : ℕ) (ends_block : Bool) (ops : List OperandValue) (orderly : Orde
       let b : is_late (op_at ops m).position ≡ true = ap (λ (z : ℕ). is_late (op_at ops z).position) e ∙ of_late refl in cc)
   not_named false j less inst_regs of_late m reuse e = (let a = (orderly.late_reuse j m less reuse).1 in cc)
 
-  -- its location
+  -- the location of x is its operand's place, or x has a slot
   abbrev At : StateValue → List Place → Type 0
   At m list = (place_in m x ≡ slice_index_or list k NoPlace) ⊎ (slot_in m x ≢ NoPlace)
 
@@ -94,7 +94,7 @@ module _ (i : ℕ) (ends_block : Bool) (ops : List OperandValue) (orderly : Orde
           ∙ (changes_absent x (allocs_operand_changes (λ q r. tt) tt d.gets) absent).nowhere))
       used (located none settles slots edits machine order) = ap (alloc_of new.places) (sym number) ∙ settles.here
 
-  -- one more operand
+  -- one operand more keeps the location
   hold_one : (j : ℕ) (here there : List Place) (t u : InstRegs) (old new : StateValue) → j < length ops → ProcessesOperand i ends_block ops j here there t u old new →
       slice_index_or there k NoPlace ≡ slice_index_or here k NoPlace → slice_index_or there k NoPlace ≢ NoPlace → At old here → At new there
   hold_one j here there t u old new less one same real at = elim at [
@@ -102,7 +102,7 @@ module _ (i : ℕ) (ends_block : Bool) (ops : List OperandValue) (orderly : Orde
     | inr s ↦ inr (h.slots s)
   ]
     where
-      h : Holds x old new
+      h : StaysOrHasSlot x old new
       h = processes_operand_hold x i ends_block ops j here there t u old new (undefined j less) one
 
   -- once it is allocated
@@ -152,11 +152,11 @@ module _ (i : ℕ) (ends_block : Bool) (ops : List OperandValue) (orderly : Orde
       hold_one j l list w u s m less one same real (over_at of_late here t old at j l w s prev (omega (arith, le)) (λ q. real (same ∙ q)))
 
 -- the instruction
-pub reads_at : (i : ℕ) (inst : InstValue) (blank here : List Place) (old new : StateValue) → Orderly inst.operands → (x k : ℕ) → k < length inst.operands →
+pub read_location : (i : ℕ) (inst : InstValue) (blank here : List Place) (old new : StateValue) → Orderly inst.operands → (x k : ℕ) → k < length inst.operands →
     is_reading (op_at inst.operands k) ≡ true → (op_at inst.operands k).vreg.number ≡ x → ComesFirst inst.operands x k →
     AllocsInst i inst blank here old new → Absent x old → slice_index_or here k NoPlace ≢ NoPlace → (place_in new x ≡ slice_index_or here k NoPlace)
     ⊎ (slot_in new x ≢ NoPlace)
-reads_at i inst blank here old new orderly x k within reads is first a absent real =
+read_location i inst blank here old new orderly x k within reads is first a absent real =
     let ops : List OperandValue = inst.operands in
     let n : ℕ = length ops in
     let quiet = out_then x old a.prepares.middle a.after_clobbers (changes_out x (evicts_fixed_changes (λ q r. tt) a.prepares.fixed))

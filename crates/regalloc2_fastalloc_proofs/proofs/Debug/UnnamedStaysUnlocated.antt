@@ -88,7 +88,7 @@ module _ (x : ℕ) where
   other_slot : (old new : SpillSlotsValue) (v : VirtualRegister) (s : Place) → GetsSpillSlot old new v s → Other v → slot_name new x ≡ slot_name old x
   other_slot old new v s g ne = g.others x (λ e. ne (sym e))
 
-  -- and keeps its slot, if it doesn't give it one
+  -- x keeps its slot over a change that doesn't give it one
   one_slot : (old new : StateValue) → Change Names old new → Absent x old → slot_name new.slots x ≡ slot_name old.slots x
   one_slot old new (evicted r v s lt held gives settles edits machine) a = other_slot old.slots new.slots v s gives (a.unheld r v lt held)
   one_slot old new (slot_given v s may gives places edits machine) a = other_slot old.slots new.slots v s gives may
@@ -140,7 +140,7 @@ module _ (x : ℕ) where
   begins_block_out f b old new ne unstored h =
       changes_out (begins_block_changes (record { moves = λ p q. tt; params = ne; stored = λ e k v edge is. unstored e k v edge is }) h)
 
-  -- it stays absent over a block's start, whatever is stored
+  -- x stays absent over a block's start, whatever is stored
   pub begins_block_absent : (f : FunctionValue) (b : ℕ) (old new : StateValue) →
       ((k : ℕ) → k < length (block_at f b).params → (slice_index_or (block_at f b).params k no_vreg).number ≢ x) → BeginsBlock f b old new → Absent x old
       → Absent x new

@@ -102,7 +102,7 @@ evicts_preg_free b point r t u old new (empty none eu en) less f = free_same b t
 evicts_preg_free b point r t u old new (cleared v s m lt held gives settles edits machine order c) less f =
     adds_move_free b point v.class s (InRegister r) t u m new c less f
 
--- the same for an eviction that spares one vreg: its scratch register was available in b
+-- the scratch register of an eviction that spares one vreg was available in b
 pub evicts_other_vregs_free : (b : InstRegs) (point : ℕ) (r : Register) (v : VirtualRegister) (t u : InstRegs) (old new : StateValue) →
     EvictsOtherVRegs point r v t u old new → Less b t → WereFree b t → WereFree b u
 evicts_other_vregs_free b point r v t u old new (own w there same eu en) less f = free_same b t u eu f
@@ -181,7 +181,7 @@ takes_away ops b u old t k r o s m f free x c q (taken e) h =
 abbrev pub begun : (ℕ → Place) → (ℕ → Bool) → (ℕ → Bool) → Progress
 begun here claimed lived = record (at_begin here lived) { claimed = claimed }
 
--- the live vregs, while no operand is allocated: those that have a location
+-- the live vregs, while no operand is allocated: the vregs that have a location
 pub all_lived : (what : ℕ → What) (here : ℕ → Place) (claimed lived : ℕ → Bool) (t : StateValue) →
     Located what (begun here claimed lived) t → (x : ℕ) (p : Place) → stands_at t x ≡ Some p → lived x ≡ true
 all_lived what here claimed lived t st x p e = ⊎_elim
@@ -252,7 +252,7 @@ module _ (tail : BlockTail) where
       ((q : Register) → (op_at ops k).constraint ≡ FixedReg q → r ≡ q) →
       ((j : ℕ) (q : Register) → (op_at ops k).constraint ≡ Reuse j → (op_at ops j).constraint ≡ FixedReg q → r ≡ q) →
       FixedUpTo ops lived ends_block b old (k + 1) w t
-  claim_one ops lived ends_block b old k r u w m t o s takes counts x ready kept less free alone is_fixed is_named =
+  claim_one ops lived ends_block b old k r u w m t o s takes counts x ready kept less free only_vreg is_fixed is_named =
       let there : ℕ → Place = set_at x.here k (InRegister r) in
       let claimed2 : ℕ → Bool = and_one x.claimed k in
       let fresh : x.claimed k ≡ false = ⊎_elim (λ (c : x.claimed k ≡ true). let y = x.took k c in let lt : k < k = y.0 in absurd (omega arith))
@@ -265,7 +265,7 @@ module _ (tail : BlockTail) where
       let at : InRegister y.0 ≡ InRegister r = sym y.1 ∙ e in let same : y.0 ≡ r = cc in
       takes_share ops b old j k r o s (subst (AllocsAnyReg ops j) same y.2) takes in
       let st : Located (what_of ops) (begun there claimed2 lived) t =
-      claim_register (what_of ops) (begun x.here x.claimed lived) there claimed2 t k r puts clear alone
+      claim_register (what_of ops) (begun x.here x.claimed lived) there claimed2 t k r puts clear only_vreg
       (λ h. refl) ready.located in
       record {
         here = there;

@@ -24,7 +24,7 @@ use Rattle.regalloc2_fastalloc_proofs.specs.InstSteps.{StateValue, NeedsFixedReg
 use Rattle.regalloc2_fastalloc_proofs.specs.InstSteps.{AllocsInst, ends_block}
 use Rattle.regalloc2_fastalloc_proofs.specs.Safety.{IsWhole}
 use Rattle.regalloc2_fastalloc_proofs.proofs.Safety.StepsKeepState.{place_in}
-use Rattle.regalloc2_fastalloc_proofs.proofs.Operands.RecordOverState.{opt_from, stands_at, slots_at, Located, Owes}
+use Rattle.regalloc2_fastalloc_proofs.proofs.Operands.RecordOverState.{opt_from, stands_at, slots_at, Located, OwesPlaces}
 use Rattle.regalloc2_fastalloc_proofs.proofs.Evictions.EvictVReg.{Kept, kept_all}
 use Rattle.regalloc2_fastalloc_proofs.proofs.Moves.ScratchRegTaken.{of_machine, taken, Fit, Less, less_same, less_then, and_none}
 use Rattle.regalloc2_fastalloc_proofs.proofs.Evictions.EvictPReg.{kept_then}
@@ -65,7 +65,7 @@ pub clob_stands : (what : ℕ → What) (far : Progress) (clob2 : Place → Bool
     ((j : ℕ) → far.claimed j ≡ true → ((what j).is_def ≡ true) ⊎ ((what j).is_late ≡ true) → clob2 (far.here j) ≡ false) →
     ((w : ℕ) (p : Place) → stands_at t w ≡ Some p → clob2 p ≡ false) → ((k : ℕ) → clob2 (InSlot k) ≡ false) →
     Located what far t → Located what (record far { clobbered = clob2 }) t
-clob_stands what far clob2 t kept cleared calm st = record {
+clob_stands what far clob2 t kept cleared unclobbered st = record {
   whole = st.whole;
   placed = record {
     there = st.placed.there;
@@ -85,7 +85,7 @@ clob_stands what far clob2 t kept cleared calm st = record {
     makes = st.placed.makes;
   };
   below = st.below;
-  calm = calm;
+  unclobbered = unclobbered;
 }
 
 late_by : (d l : Bool) → (d ≡ true) ⊎ (l ≡ true) → (d || l) ≡ true
@@ -102,11 +102,11 @@ module _ (Known : VirtualRegister → Type 0) (insts : ℕ → InstValue) (place
     pub fit : Fit t
     pub apart : (c : RegClass) (b : Register) → slice_index_or t.dedicated_scratch (class_code c) None ≡ Some b → (x : ℕ) → place_in t x ≡ InRegister b → ⊥
 
-  -- the same, from every slot
+  -- `CarriedBut` from every slot
   abbrev pub Carried : ℕ → ℕ → StateValue → Type 0
   Carried = CarriedBut (λ x. false)
 
-  -- What is listed after a return carries each known vreg from nowhere.
+  -- What is listed after an instruction that ends its block carries each known vreg from nowhere.
   abbrev pub EndsHere : ℕ → ℕ → Bool → StateValue → Type 0
   EndsHere i n ends_block t = ends_block ≡ true → Claims Known (walked insts (at_point (listed t.edits)) placesf i n) (λ x p. ⊥) E
 
@@ -119,14 +119,14 @@ module _ (tail : BlockTail) where
       b.scratch ≡ None ∷ None ∷ None ∷ [] →
       FixedUpTo tail ops (lives_in t) ends_block b t 0 b t
   start ops ends_block b t c ends none =
-      let owes : Owes tail (lives_in t) (λ x. false) (λ p x. false) (stands_at t) (slots_at t) t.edits = begin_owes tail t c.later c.claims in
+      let owes : OwesPlaces tail (lives_in t) (λ x. false) (λ p x. false) (stands_at t) (slots_at t) t.edits = begin_owes tail t c.later c.claims in
       record {
         here = λ j. NoPlace;
         claimed = λ j. false;
         ready = record {
           located = begin_stands (what_of ops) (λ j. NoPlace) t c.whole;
           owes = owes;
-          nothing = λ e. subst (λ l. Claims Known l (λ x p. ⊥) E) (sym (after_part-clean insts (listed t.edits) placesf i n c.later)) (ends e);
+          nowhere_needed = λ e. subst (λ l. Claims Known l (λ x p. ⊥) E) (sym (after_part-clean insts (listed t.edits) placesf i n c.later)) (ends e);
           held = record { early_uses = λ j x u. absurd cc; early_defs = λ j x u. absurd cc; late_defs = λ j x u. absurd cc; late_uses = λ j x u. absurd cc };
           scratch_reserve = record {
             idle = λ d q is. elim is [
@@ -216,7 +216,7 @@ module _ (tail : BlockTail) where
               (λ w p e. quiet_there p w (opt_from (place_in a.after_clobbers w) p e) y.ready.located.whole y.emptied)
               (λ k. refl) y.ready.located;
           owes = y.ready.owes;
-          nothing = y.ready.nothing;
+          nowhere_needed = y.ready.nowhere_needed;
           held = y.ready.held;
           scratch_reserve = y.ready.scratch_reserve;
           fit = y.ready.fit;

@@ -108,7 +108,7 @@ module _ (s : SpillSlotsValue) (class : RegClass) (pair : ScratchPair) (next : A
       | inr nz ↦ (let e = lends.some (taken - 1) (omega (arith, nz)) in omega (arith, e))
     ]
 
-    -- and a temporary slot that is taken is below the new count
+    -- a temporary slot that is taken is below the new count
     pub taken_below : (p : Place) → IsScratchTaken pair taken p → (k : ℕ) × (p ≡ InSlot k) × (s.count ≤ k) × (k < new.count) × (j : ℕ)
         × (k ≡ later_slot s class j)
         × (later_end s class j ≤ new.count)

@@ -87,7 +87,7 @@ module _ (laying : LayingContext) where
     written = L.written;
   }
 
-  -- both passes
+  -- the pass over late operands and the pass over early ones
   pub laid_both : (blank half places : List Place) (quiet late early : InstRegs) (before middle after_it : StateValue) →
       ProcessesOperandsAt i ends_block true ops blank quiet before (length ops) half late middle →
       ProcessesOperandsAt i ends_block false ops half late middle (length ops) places early after_it → LaidAt true 0 blank quiet before →

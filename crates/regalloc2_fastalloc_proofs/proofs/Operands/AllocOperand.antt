@@ -31,7 +31,7 @@ use Rattle.regalloc2_fastalloc_proofs.proofs.Evictions.EvictVReg.{held_early, he
 use Rattle.regalloc2_fastalloc_proofs.proofs.Moves.ScratchRegTaken.{IsScratch, of_machine, taken, held_keeps, scratch_back, fit_same}
 use Rattle.regalloc2_fastalloc_proofs.proofs.Operands.ClaimAndUse.{claim_register, claim_slot}
 use Rattle.regalloc2_fastalloc_proofs.proofs.Operands.RecordOfInst.{Ready, ready_used}
-use Rattle.regalloc2_fastalloc_proofs.proofs.Evictions.EvictKeepsRecord.{Nothing, ready_evicts_other_vregs, evicts_other_vregs_flat}
+use Rattle.regalloc2_fastalloc_proofs.proofs.Evictions.EvictKeepsRecord.{NoneNeeded, ready_evicts_other_vregs, evicts_other_vregs_flat}
 use Rattle.regalloc2_fastalloc_proofs.proofs.Operands.ClaimKeepsRecord.{Grips, grips_register, grips_slot, ready_claim}
 use Rattle.regalloc2_fastalloc_proofs.proofs.Operands.BlockTail.{BlockTail}
 use Rattle.regalloc2_fastalloc_proofs.proofs.Changes.OneChange.{uses_rest}
@@ -40,7 +40,7 @@ use Rattle.regalloc2_fastalloc_proofs.proofs.Changes.OneChange.{uses_rest}
 abbrev pub set_at : (ℕ → Place) → ℕ → Place → ℕ → Place
 set_at here k p = λ j. cond (nat_eq j k) p (here j)
 
--- operand k is marked, in addition to those that were
+-- operand k is marked, in addition to the operands that were
 abbrev pub and_one : (ℕ → Bool) → ℕ → ℕ → Bool
 and_one claimed k = λ j. cond (nat_eq j k) true (claimed j)
 
@@ -133,7 +133,7 @@ module _ (tail : BlockTail) (ops : List OperandValue) (far : Progress) (ends_blo
       record {
         located = s.located;
         owes = s.owes;
-        nothing = s.nothing;
+        nowhere_needed = s.nowhere_needed;
         held = held_keeps (what_of ops) far.here far.claimed (held_early t) (held_late t) (held_early u) (held_late u) g.early.keeps g.late.keeps s.held;
         scratch_reserve = record {
           idle = λ c b is. s.scratch_reserve.idle c b (elim is [ of_machine e ↦ of_machine e | taken e ↦ taken (back c b e) ]);
@@ -158,7 +158,7 @@ module _ (tail : BlockTail) (ops : List OperandValue) (far : Progress) (ends_blo
     pub grows : (j : ℕ) → claimed2 j ≡ true → (j ≡ k) ⊎ (far.claimed j ≡ true)
     pub keeps : (j : ℕ) → far.claimed j ≡ true → claimed2 j ≡ true
     pub claims : claimed2 k ≡ true
-    pub alone : (r : Register) → p ≡ InRegister r → (x : ℕ) → place_in new x ≡ InRegister r → x ≡ (op_at ops k).vreg.number
+    pub only_vreg : (r : Register) → p ≡ InRegister r → (x : ℕ) → place_in new x ≡ InRegister r → x ≡ (op_at ops k).vreg.number
     pub own_slot : (m : ℕ) → p ≡ InSlot m → slot_in new (op_at ops k).vreg.number ≡ InSlot m
 
   module _ (turn : NextOperand tail ops far ends_block) where
@@ -194,7 +194,7 @@ module _ (tail : BlockTail) (ops : List OperandValue) (far : Progress) (ends_blo
           grows = λ j cj. inr cj;
           keeps = λ j cj. cj;
           claims = ck;
-          alone = λ q eq x ex. (let same : InRegister g ≡ InRegister q = sym e ∙ eq in c.1 x (ex ∙ sym same) ∙ nv);
+          only_vreg = λ q eq x ex. (let same : InRegister g ≡ InRegister q = sym e ∙ eq in c.1 x (ex ∙ sym same) ∙ nv);
           own_slot = λ q eq. (let x : InRegister r ≡ InSlot q = sym pr ∙ eq in absurd cc);
         }
 
@@ -206,11 +206,11 @@ module _ (tail : BlockTail) (ops : List OperandValue) (far : Progress) (ends_blo
         ((c : RegClass) (b : Register) → IsScratch c t new b → r ≢ b) →
         Grips t u (InRegister r) o.positions → ((x : ℕ) → place_in new x ≡ InRegister r → x ≡ num) →
         Ready tail ops far ends_block t new → Got k p u new
-    got_register r new f pr lt clear calm away grips alone rd =
+    got_register r new f pr lt clear unclobbered away grips only_vreg rd =
         let puts : Puts far.here (set_at far.here k p) far.claimed (and_one far.claimed k) k
         (InRegister r) = subst (λ q. Puts far.here (set_at far.here k p) far.claimed (and_one far.claimed k) k q) pr (puts_one far.here far.claimed k p f) in
         let st : Located (what_of ops) (record far { here = set_at far.here k p; claimed = and_one far.claimed k }) new =
-        claim_register (what_of ops) far (set_at far.here k p) (and_one far.claimed k) new k r puts clear alone calm rd.located in
+        claim_register (what_of ops) far (set_at far.here k p) (and_one far.claimed k) new k r puts clear only_vreg unclobbered rd.located in
         record {
           there = set_at far.here k p;
           claimed2 = and_one far.claimed k;
@@ -222,7 +222,7 @@ module _ (tail : BlockTail) (ops : List OperandValue) (far : Progress) (ends_blo
           grows = puts.grows;
           keeps = puts.keeps;
           claims = puts.claims;
-          alone = λ q eq x ex. (let same : InRegister r ≡ InRegister q = sym pr ∙ eq in alone x (ex ∙ sym same));
+          only_vreg = λ q eq x ex. (let same : InRegister r ≡ InRegister q = sym pr ∙ eq in only_vreg x (ex ∙ sym same));
           own_slot = λ q eq. (let x : InRegister r ≡ InSlot q = sym pr ∙ eq in absurd cc);
         }
 
@@ -246,13 +246,13 @@ module _ (tail : BlockTail) (ops : List OperandValue) (far : Progress) (ends_blo
           grows = puts.grows;
           keeps = puts.keeps;
           claims = puts.claims;
-          alone = λ g eq x ex. (let y : InSlot q ≡ InRegister g = sym pr ∙ eq in absurd cc);
+          only_vreg = λ g eq x ex. (let y : InSlot q ≡ InRegister g = sym pr ∙ eq in absurd cc);
           own_slot = λ g eq. at ∙ sym pr ∙ eq;
         }
 
     -- the vreg's own place is no clobber, for operands where that matters
-    calm_kept : (q : Place) → stands_at old num ≡ Some q → ((what_of ops k).is_def ≡ true) ⊎ ((what_of ops k).is_late ≡ true) → far.clobbered q ≡ false
-    calm_kept q at h = ⊎_elim
+    unclobbered_at : (q : Place) → stands_at old num ≡ Some q → ((what_of ops k).is_def ≡ true) ⊎ ((what_of ops k).is_late ≡ true) → far.clobbered q ≡ false
+    unclobbered_at q at h = ⊎_elim
         (λ (l : far.lived num ≡ true). s.located.placed.cleared num q l at)
         (λ (l : far.lived num ≡ false).
         let w = s.located.placed.newly num q l at in
@@ -281,7 +281,7 @@ module _ (tail : BlockTail) (ops : List OperandValue) (far : Progress) (ends_blo
         let x = evicts_other_vregs_own (after i) r o.vreg t m old new clears s.located.whole here_is in
         let grips : Grips t u (InRegister r) o.positions = subst (λ y. Grips y u (InRegister r) o.positions) x.0 (grips_register m u r o.positions holds) in
         subst (Got k p u) (sym x.1) (got_register r old f e (s.located.whole.stands_in num r num_is).0 (clear_kept (InRegister r) (ap opt num_is))
-        (calm_kept (InRegister r) (ap opt num_is))
+        (unclobbered_at (InRegister r) (ap opt num_is))
         (λ c b is same. (s.scratch_reserve.idle c b is).no_allocs num (num_is ∙ ap InRegister same)) grips
         (λ y ey. (whole_tidy old s.located.whole).apart y num r ey num_is) s)
 
@@ -344,7 +344,7 @@ module _ (tail : BlockTail) (ops : List OperandValue) (far : Progress) (ends_blo
               | made m ↦ made m
             ]) s.owes.claims);
       };
-      nothing = λ a. subst (Nothing tail) (sym ed) (s.nothing a);
+      nowhere_needed = λ a. subst (NoneNeeded tail) (sym ed) (s.nowhere_needed a);
       held = s.held;
       scratch_reserve = record {
         idle = λ c b is. (let y = s.scratch_reserve.idle c b (scratch_back c t old middle b machine is) in
@@ -398,7 +398,7 @@ module _ (tail : BlockTail) (ops : List OperandValue) (far : Progress) (ends_blo
       grows = x.grows;
       keeps = x.keeps;
       claims = x.claims;
-      alone = x.alone;
+      only_vreg = x.only_vreg;
       own_slot = x.own_slot;
     }
 

@@ -121,7 +121,7 @@ module _ (tail : BlockTail) (ops : List OperandValue) (far : Progress) (there : 
       record {
         located = st;
         owes = s.owes;
-        nothing = s.nothing;
+        nowhere_needed = s.nowhere_needed;
         held = held_more (what_of ops) far.here there far.claimed claimed2 (held_early t) (held_late t) (held_early u) (held_late u) k p puts
             (record { at_early = pos.early; at_late = pos.late; covers = covers; in_early = g.early; in_late = g.late }) s.held;
         scratch_reserve = record {

@@ -23,7 +23,7 @@ use Rattle.regalloc2_fastalloc_proofs.proofs.Moves.ScratchRegTaken.{scratch_back
 use Rattle.regalloc2_fastalloc_proofs.proofs.Operands.ClaimAndUse.{PlacesUse, use_stays}
 use Rattle.regalloc2_fastalloc_proofs.proofs.Inst.AcrossInst.{arrive_register, arrive_slot, use_arrives}
 use Rattle.regalloc2_fastalloc_proofs.proofs.Operands.RecordOfInst.{Ready}
-use Rattle.regalloc2_fastalloc_proofs.proofs.Evictions.EvictKeepsRecord.{Nothing}
+use Rattle.regalloc2_fastalloc_proofs.proofs.Evictions.EvictKeepsRecord.{NoneNeeded}
 use Rattle.regalloc2_fastalloc_proofs.proofs.Operands.DefRecord.{frees_alloc_step}
 use Rattle.regalloc2_fastalloc_proofs.proofs.Operands.AllocOperand.{Got, and_one, and_one_same, and_one_grows, and_one_keeps}
 use Rattle.regalloc2_fastalloc_proofs.proofs.Operands.BlockTail.{BlockTail}
@@ -45,7 +45,7 @@ keeps_true : (a c : Bool) → c ≡ true → cond a true c ≡ true
 keeps_true true c e = refl
 keeps_true false c e = e
 
--- operand k's definition adds its number to those defined, and its value to those written, in its place; nothing else is added
+-- operand k's definition adds its number to the defined numbers, and its value to the written values, in its place; nothing else is added
 pub makes_one : (ops : List OperandValue) (here : ℕ → Place) (out : ℕ → Bool) (X : Place → ℕ → Bool) (k : ℕ) →
     PlacesDefinition (what_of ops) here out (and_one out (op_at ops k).vreg.number) X (made_one X (here k) (op_at ops k).vreg.number) k
 makes_one ops here out X k = record {
@@ -88,7 +88,7 @@ module _ (tail : BlockTail) (ops : List OperandValue) (far : Progress) (ends_blo
       arrive_whole new NoPlace at ne nowhere z slots = absurd (ne refl)
       arrive_whole new (InRegister r) at ne nowhere z slots =
           arrive_register old new v nowhere slots g.ready.located.whole r (g.ready.small k r g.claims (g.at_k ∙ at))
-          (λ x e. let y : NoPlace ≡ InRegister r = sym nowhere ∙ ap (place_in old) (nv ∙ sym (g.alone r at x e)) ∙ e in cc) z
+          (λ x e. let y : NoPlace ≡ InRegister r = sym nowhere ∙ ap (place_in old) (nv ∙ sym (g.only_vreg r at x e)) ∙ e in cc) z
       arrive_whole new (InSlot m) at ne nowhere z slots = arrive_slot old new v nowhere slots g.ready.located.whole m (ap (slot_in old) nv ∙ g.own_slot m at) z
 
       use_new : (new : StateValue) → place_in old v.number ≡ NoPlace → SetsAlloc old.places new.places v p → new.slots ≡ old.slots → new.edits ≡ old.edits →
@@ -118,7 +118,7 @@ module _ (tail : BlockTail) (ops : List OperandValue) (far : Progress) (ends_blo
               claims = subst (λ es. Claims Known (after_part insts (listed es) placesf i n)
                   (Need far.lived far.out far.made_at (stands_at new) (slots_at new)) E) (sym edits) c2;
             };
-            nothing = λ a. subst (Nothing tail) (sym edits) (g.ready.nothing a);
+            nowhere_needed = λ a. subst (NoneNeeded tail) (sym edits) (g.ready.nowhere_needed a);
             held = g.ready.held;
             scratch_reserve = record {
               idle = λ c b is. (let y = g.ready.scratch_reserve.idle c b (scratch_back c u old new b machine is) in record {
@@ -139,7 +139,7 @@ module _ (tail : BlockTail) (ops : List OperandValue) (far : Progress) (ends_blo
             small = g.ready.small;
           }
 
-      -- once a use's vreg has its location, the record holds with its operand among those that are placed
+      -- once a use's vreg has its location, the record holds with its operand among the placed ones
       pub use_step : (new : StateValue) → LocatesUse v p old new
           → Ready tail ops (record far { here = g.there; claimed = g.claimed2; done = and_one far.done k }) ends_block u new
       use_step new (stays there en) = subst (Ready tail ops (record far { here = g.there; claimed = g.claimed2; done = and_one far.done k }) ends_block u) (sym en)
@@ -147,7 +147,7 @@ module _ (tail : BlockTail) (ops : List OperandValue) (far : Progress) (ends_blo
             located = use_stays (what_of ops) (record far { here = g.there; claimed = g.claimed2 }) (and_one far.done k) old k placed_use
                 (λ e. there (ap (place_in old) nv ∙ e)) g.ready.located;
             owes = g.ready.owes;
-            nothing = g.ready.nothing;
+            nowhere_needed = g.ready.nowhere_needed;
             held = g.ready.held;
             scratch_reserve = g.ready.scratch_reserve;
             fit = g.ready.fit;

@@ -221,7 +221,7 @@ module _ (laying : LayingContext) where
         ];
       }
 
-      -- one place is set in the list
+      -- the list of places is set at k alone
       pub laid_one : (p : Place) (v w : InstRegs) (mid m : StateValue) (out2 : ℕ → Bool) (X2 : Place → ℕ → Bool)
           (g : Got tail ops now ends_block k p v mid) →
           Ready tail ops (progress lived clob g.there g.claimed2 (and_one L.done k) out2 X2) ends_block w m →

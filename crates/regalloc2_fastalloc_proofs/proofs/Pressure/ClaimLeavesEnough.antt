@@ -22,14 +22,14 @@ use Rattle.regalloc2_fastalloc_proofs.specs.InstSteps.{cleared, EvictsOtherVRegs
 use Rattle.regalloc2_fastalloc_proofs.specs.InstSteps.SelectsPlace.{stays, fixed, slot, free}
 use Rattle.regalloc2_fastalloc_proofs.specs.Safety.{MayBeLocatedAt, IsEndOfMove, AreSafeRegs}
 use Rattle.regalloc2_fastalloc_proofs.specs.InstSteps.{no_register, AllocOperand, in_pick, in_clear, FreeAlloc, to_expected, to_slot}
-use Rattle.regalloc2_fastalloc_proofs.proofs.Safety.StepsKeepSafe.{IsApart, slot_end, stand_end, there_stands, adds_move_if_kept, rules_of}
+use Rattle.regalloc2_fastalloc_proofs.proofs.Safety.StepsKeepSafe.{AreKindsApart, own_slot_is_end, stand_end, there_stands, adds_move_if_kept, rules_of}
 use Rattle.regalloc2_fastalloc_proofs.proofs.Slots.SlotsGrow.{SlotsStay, same_stay, end_grows, changes_stay}
 use Rattle.regalloc2_fastalloc_proofs.proofs.Moves.ScratchRegTaken.{Fit}
 use Rattle.regalloc2_fastalloc_proofs.proofs.Safety.OperandKeepsSafe.{leaves_safe, another_there}
 use Rattle.regalloc2_fastalloc_proofs.specs.Pressure.EnoughRegs.{HasEnoughRegs, AllWrite, AllMay, AreSafe}
 use Rattle.regalloc2_fastalloc_proofs.proofs.Safety.StepsKeepMachine.{KeepsMachine, keeps_of, keeps_same, machine_stays}
 use Rattle.regalloc2_fastalloc_proofs.proofs.Changes.InstChanges.{selects_place_changes, evicts_other_vregs_changes, adds_move_if_changes}
-use Rattle.regalloc2_fastalloc_proofs.proofs.Pressure.StepsKeepMachine.{HasAll, all_kept}
+use Rattle.regalloc2_fastalloc_proofs.proofs.Pressure.TablesHaveAllRegs.{HasAll, all_kept}
 use Rattle.regalloc2_fastalloc_proofs.proofs.Pressure.OneRegTaken.{free_but_one, free_kept, holds_loses, ample_same, ample_kept, ample_less, ample_some}
 use Rattle.regalloc2_fastalloc_proofs.proofs.Pressure.StepsLeaveEnough.{AreHeld, ample_evict_other_vregs, ample_add_move_if, demand_of}
 use Rattle.regalloc2_fastalloc_proofs.proofs.Changes.OneChange.{uses_rest}
@@ -68,13 +68,13 @@ IsPaid needed o p t old = (r : Register) → p ≡ InRegister r → is_free old.
 pub record Naming : Type 1 where
   pub Named : RegClass → Type 0
   pub env : MachineValue
-  pub apart : IsApart env
+  pub apart : AreKindsApart env
   pub Known : VirtualRegister → Type 0
   pub named : (v : VirtualRegister) → Known v → Named v.class
   pub point : ℕ
 
 -- the record, built from its parts
-abbrev pub naming_of : (Named : RegClass → Type 0) (env : MachineValue) → IsApart env → (Known : VirtualRegister → Type 0) →
+abbrev pub naming_of : (Named : RegClass → Type 0) (env : MachineValue) → AreKindsApart env → (Known : VirtualRegister → Type 0) →
     ((v : VirtualRegister) → Known v → Named v.class) → ℕ → Naming
 naming_of Named env apart Known named point = record { Named = Named; env = env; apart = apart; Known = Known; named = named; point = point }
 
@@ -155,7 +155,7 @@ module _ (naming : Naming) where
                 let b = free_kept claimed.allocatable r m u c (holds_loses r o.positions m u holds) (λ k. f) in omega (arith, a, b, s, w))
           ]
 
-  -- and the operand finds a place
+  -- an operand finds a place if enough registers are left
   pub never_alloc_operand : (needed : RegClass → ℕ) (o : OperandRequest) (t : InstRegs) (old : StateValue) → AllocOperand point o t old no_register →
       Known o.vreg →
       (o.requirement ≡ AnyReg → 0 < needed o.vreg.class) → AreHeld Known old → AreSafeRegs env t → HasEnoughRegs Named needed t old → ⊥
@@ -221,7 +221,7 @@ module _ (naming : Naming) (same : (v w : VirtualRegister) → naming.Known v �
           let other : is_another s p ≡ true = (and_parts (is_another s p) _ ((and_parts (not ends_block) _ made).1)).0 in (
             end_grows env left.slots middle.slots v p more from,
             end_grows env old.slots middle.slots v s (λ n k is. more n k (stay n k is))
-                (slot_end env old.slots v s refl (another_there s p other) (h.slots v.number)),
+                (own_slot_is_end env old.slots v s refl (another_there s p other) (h.slots v.number)),
             another_differs s p other,
           )
 

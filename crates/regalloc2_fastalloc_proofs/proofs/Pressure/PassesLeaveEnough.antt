@@ -14,7 +14,7 @@ use Rattle.regalloc2_fastalloc_proofs.proofs.Safety.OperandPassesKeepSafe.{InLat
 use Rattle.regalloc2_fastalloc_proofs.specs.Pressure.EnoughRegs.{AllWrite, AllMay}
 use Rattle.regalloc2_fastalloc_proofs.proofs.Safety.StepsKeepMachine.{machine_stays}
 use Rattle.regalloc2_fastalloc_proofs.proofs.Changes.InstChanges.{free_operand, processes_operands_at_changes}
-use Rattle.regalloc2_fastalloc_proofs.proofs.Pressure.StepsKeepMachine.{HasAll, all_kept}
+use Rattle.regalloc2_fastalloc_proofs.proofs.Pressure.TablesHaveAllRegs.{HasAll, all_kept}
 use Rattle.regalloc2_fastalloc_proofs.proofs.Pressure.FreeRegsCoverWaiting.{Paying}
 use Rattle.regalloc2_fastalloc_proofs.proofs.Pressure.OperandsLeaveEnough.{processes_operand_pays, never_process_operand, NamedOperands}
 use Rattle.regalloc2_fastalloc_proofs.proofs.Safety.OperandPassesKeepSafe.{PassesContext, passes_of}
@@ -25,7 +25,7 @@ pub paying_more : (Named : RegClass → Type 0) (ops : List OperandValue) (D E :
 paying_more Named ops D E here u t forth p = record {
   ample = p.ample;
   awaited = p.awaited;
-  settled = p.settled;
+  placed_unfree = p.placed_unfree;
   named = λ j r less not_e at. let x = p.named j r less (λ d. not_e (forth j less d)) at in (x.0, x.1, forth x.0 x.1 x.2, x.3);
 }
 
@@ -34,11 +34,11 @@ pub defs_write : (i : ℕ) (ops : List OperandValue) → DefsAreWritten AllWrite
 defs_write i ops k n less def = tt
 
 module _ (operands : NamedOperands) where
-  open operands use {Named, env, apart, Known, named, ops, tame, fixed, i, ends_block}
+  open operands use {Named, env, apart, Known, named, ops, sound_ops, fixed, i, ends_block}
 
   -- the passes, wherever the walk may write and move
   abbrev passes : PassesContext
-  passes = passes_of (filling_of env Known AllWrite AllMay ops tame) apart fixed i ends_block tt (defs_write i ops)
+  passes = passes_of (filling_of env Known AllWrite AllMay ops sound_ops) apart fixed i ends_block tt (defs_write i ops)
 
   -- which operands are done in each pass
   abbrev pub Late : ℕ → ℕ → Type 0
@@ -56,7 +56,7 @@ module _ (operands : NamedOperands) where
           m places le
 
       not_late : (k : ℕ) → k < length ops → (n : ℕ) → (op_at ops k).constraint ≡ Reuse n → Late k n → ⊥
-      not_late k lt n reuses d = both_ways (is_late (op_at ops n).position) (tame.named k n lt reuses).1 d.1
+      not_late k lt n reuses d = both_ways (is_late (op_at ops n).position) (sound_ops.named k n lt reuses).1 d.1
 
       -- the pass over late operands
       pub late_operands_pay : (k : ℕ) (there : List Place) (u : InstRegs) (m : StateValue) → ProcessesOperandsAt i ends_block true ops blank t old k there u m →
@@ -89,7 +89,7 @@ module _ (operands : NamedOperands) where
           u m places le
 
       not_early : (k : ℕ) → k < length ops → is_late (op_at ops k).position ≡ false → (n : ℕ) → (op_at ops k).constraint ≡ Reuse n → Early k n → ⊥
-      not_early k lt early n reuses d = both_ways (is_late (op_at ops k).position) early (tame.late_reuse k n lt reuses).1
+      not_early k lt early n reuses d = both_ways (is_late (op_at ops k).position) early (sound_ops.late_reuse k n lt reuses).1
 
       -- the pass over early operands
       pub early_operands_pay : (k : ℕ) (there : List Place) (u : InstRegs) (m : StateValue) → ProcessesOperandsAt i ends_block false ops blank t old k there u m →

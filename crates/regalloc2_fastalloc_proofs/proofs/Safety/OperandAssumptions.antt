@@ -13,7 +13,7 @@ use Rattle.regalloc2_function.specs.WellFormed.{MayBeReused, ReusesAreSound}
 use Rattle.regalloc2_semantics.specs.Instruction.{Knows}
 use Rattle.regalloc2_semantics.specs.OperandsPlaced.{Once, Counts, what_of}
 use Rattle.regalloc2_semantics.proofs.Operands.{reads_use}
-use Rattle.regalloc2_fastalloc_proofs.proofs.Operands.AllocsSoFar.{IsTame}
+use Rattle.regalloc2_fastalloc_proofs.proofs.Operands.AllocsSoFar.{AreSoundOperands}
 
 -- a constraint that may be reused is `Reg` or `FixedReg`
 pub reusable : (env : MachineValue) (class : RegClass) (c : OperandConstraint) → MayBeReused env class c → (c ≡ Reg) ⊎ ((r : Register) × (c ≡ FixedReg r))
@@ -29,15 +29,15 @@ defines_or_reads o h = by_test (is_def o.kind) (is_fixed_nonallocatable o) h
     by_test true b e = inl refl
     by_test false b e = inr (ap not e)
 
--- operands of known vregs, each defined once, under legal constraints other than `Limit`, with valid reuses, are tame
-pub tame_of : (env : MachineValue) (Known : VirtualRegister → Type 0) (inst : InstValue) → Knows Known inst.operands →
+-- operands of known vregs, each defined once, under legal constraints other than `Limit`, with valid reuses, are sound
+pub sound_ops_of : (env : MachineValue) (Known : VirtualRegister → Type 0) (inst : InstValue) → Knows Known inst.operands →
     Once (Counts inst.operands) (what_of inst.operands)
     → ((k : ℕ) → k < length inst.operands → is_def (op_at inst.operands k).kind ≡ true → is_fixed_nonallocatable (op_at inst.operands k) ≡ false)
     → ReusesAreSound env inst
     → ((k : ℕ) → k < length inst.operands → IsConstraintOf (op_at inst.operands k).vreg.class (op_at inst.operands k).constraint)
     → ((k n : ℕ) → k < length inst.operands → (op_at inst.operands k).constraint ≡ Limit n → ⊥)
-    → IsTame Known inst.operands
-tame_of env Known inst knows once allocated reuses constraint unlimited =
+    → AreSoundOperands Known inst.operands
+sound_ops_of env Known inst knows once allocated reuses constraint unlimited =
     let ops : List OperandValue = inst.operands in
     record {
       same = knows.same;

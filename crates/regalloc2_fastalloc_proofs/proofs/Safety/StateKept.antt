@@ -29,7 +29,7 @@ use Rattle.regalloc2_fastalloc_state.proofs.SpillSlotUnits.{lacks_then}
 pub none_lends : (most : ℕ) (a : StateValue) → AddsTempSlotsAtMost most a a
 none_lends most a = record { allocatable = refl; fixed_stack = refl; dedicated_scratch = refl; sizes = refl; vregs = refl; num_temp_slots = omega arith }
 
--- nor if the machine stays
+-- no temporary slot is added if the machine stays
 pub same_lends : (most : ℕ) (a b : StateValue) → SameMachine a b → AddsTempSlotsAtMost most a b
 same_lends most a b h = record {
   allocatable = h.allocatable;

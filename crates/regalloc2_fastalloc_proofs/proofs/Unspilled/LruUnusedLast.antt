@@ -24,7 +24,7 @@ but_most r (x ∷ xs) = by (is_register r x) (but_most r xs)
     by true h = omega (arith, h)
     by false h = omega (arith, h)
 
--- and is shorter, if it had the register
+-- a list without a register is shorter if it had the register
 pub but_less : (r : Register) (xs : List Register) → Contains xs r → length (but r xs) + 1 ≤ length xs
 but_less r [] (k, less, at) = absurd (omega arith)
 but_less r (x ∷ xs) (zero, less, at) =

@@ -92,7 +92,7 @@ module _ (f : FunctionValue) (env : MachineValue) (well : IsWellFormed env f) (n
         | inr plain ↦ a.no_branch plain
       ]
 
-  -- its last instructions
+  -- the walk over the last instructions of the block spills nothing
   allocs_block_insts_leave : (b : ℕ) (blank : List Place) (old : StateValue) (i : ℕ) (places : List Place) (new : StateValue) → b < length f.blocks →
       (block_at f b).range.end ≡ length f.insts → FitInRegs names old.allocatable → IsSpillFreeFrom names f (length f.insts) old →
       AllocsBlockInsts f b blank old i places new → IsSpillFreeFrom names f i new

@@ -43,7 +43,7 @@ cases_class a b = inr (λ e. cc)
 pub some_same : (v w : VirtualRegister) → Some v ≡ Some w → v ≡ w
 some_same v w e = cc
 
--- as `IsSpillFreeIn`, while the vreg of the register r has no location yet
+-- `IsSpillFreeIn`, but the vreg of the register r has no location yet
 pub record Taken (names : List VirtualRegister) (gone : ℕ → Bool) (n : ℕ) (r : Register) (class : RegClass) (order : List Register) (t : StateValue)
     (inst_regs : InstRegs) : Type 0 where
   pub used : List Register
@@ -193,7 +193,7 @@ pub record Got (names : List VirtualRegister) (gone : ℕ → Bool) (o : Operand
   pub allocatable : has_register old.allocatable register ≡ true
   pub same : SameButOrder old new
   pub stood_there : (alloc_of old.places o.vreg.number ≡ p) ⊎ (alloc_of old.places o.vreg.number ≡ NoPlace)
-  pub alone : (m : ℕ) → alloc_of old.places m ≡ InRegister register → m ≡ o.vreg.number
+  pub only_vreg : (m : ℕ) → alloc_of old.places m ≡ InRegister register → m ≡ o.vreg.number
   pub lrus : (class : RegClass) → IsLruOf old.allocatable class (order_of new class)
   pub each : (class : RegClass) → Taken names gone o.vreg.number register class (order_of new class) old u
 
@@ -241,7 +241,7 @@ stays_there names gone o r p t u old new h is at allocatable small uses holds = 
   allocatable = allocatable;
   same = uses.rest;
   stood_there = inl at;
-  alone = λ m e. (whole_tidy old h.whole).apart m o.vreg.number r e (at ∙ is);
+  only_vreg = λ m e. (whole_tidy old h.whole).apart m o.vreg.number r e (at ∙ is);
   lrus = rings_kept r old new allocatable small uses h.lrus;
   each = each_taken names gone o.vreg.number r old new t u uses h.lrus (free_others t u r o.positions holds) h.each here;
 }
@@ -273,7 +273,7 @@ comes_there names gone o r p t u old new h is nowhere are_few named there unused
   allocatable = mine;
   same = uses.rest;
   stood_there = inr nowhere;
-  alone = λ m e. absurd (own_class.empty m r e unused);
+  only_vreg = λ m e. absurd (own_class.empty m r e unused);
   lrus = rings_kept r old new mine in_ring.1 uses h.lrus;
   each = each_taken names gone o.vreg.number r old new t u uses h.lrus (free_others t u r o.positions holds) h.each here;
 }

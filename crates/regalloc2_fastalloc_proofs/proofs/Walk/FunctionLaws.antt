@@ -45,7 +45,7 @@ abbrev pub code_of : (Known : VirtualRegister → Type 0) (f : FunctionValue) �
 code_of Known f proper kept follow ends placesf =
     record { Known = Known; f = f; proper = proper; kept = kept; follow = follow; ends = ends; placesf = placesf }
 
--- A block in the walk from the tables begin: p and s are the places and the tables after it, q and u those before its first instruction, and w the tables
+-- A block in the walk from the tables begin: p and s are the places and the tables after it, q and u the places and tables before its first instruction, and w the tables
 -- at its start.
 pub record BlockInWalk (f : FunctionValue) (blank : List Place) (begin : StateValue) : Type 0 where
   pub b : ℕ
