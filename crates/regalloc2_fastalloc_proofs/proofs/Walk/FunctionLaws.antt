@@ -28,7 +28,7 @@ abbrev pub laws_of : (f : FunctionValue) → DefinedOnce f → BlocksFollow f �
 laws_of f once follow ends uses counted proper kept =
     record { f = f; once = once; follow = follow; ends = ends; uses = uses; counted = counted; proper = proper; kept = kept }
 
--- A function and the places of its operands. Known: the known vregs. Its instructions are proper, branches keep what holds between instructions,
+-- A function and the places of its operands. Known: the vregs, one for each number. Its instructions are proper, branches keep what holds between instructions,
 -- and blocks follow one another and end in a branch or a return.
 pub record PlacedCode : Type 1 where
   pub Known : VirtualRegister → Type 0
