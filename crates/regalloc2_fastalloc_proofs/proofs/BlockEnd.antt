@@ -6,7 +6,7 @@
 -- (`keeps_own`). For a return: `return_owes` in `LastInst`.
 -- `no_move_at_end`: allocating the operands adds no edit. `NoMoveForOperand` is one operand (`allocs_operand_no_move`, `frees_alloc_no_move`),
 -- `NoMoveInPasses` one step of a pass (`processes_operand_no_move`), `NoMoveInLastInst` both passes (`no_move_pushed_at_end`);
--- `Safety/BlocksKeepSafe` uses it too, since no edit may be after a block. `BranchAlone` (`branched`) is a branch alone:
+-- `Safety/BlocksKeepSafe` uses it too, since no edit may be after a block. `BranchAlone` (`branch_moves_uses_only`) is a branch alone:
 -- its moves are before it, each to a register or to the place of a use. `BranchEndsBlock` imports it. `LastInst` is
 -- apart from these: what is needed after a block (`owed_there`).
 pub mod BranchAlone

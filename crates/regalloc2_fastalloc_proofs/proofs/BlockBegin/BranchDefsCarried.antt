@@ -224,8 +224,8 @@ module _ (stored : StoredAtBegin) where
         not_stored l (given n lt is d has) = not_given n (subst (λ c. n < length (block_at f c).params) edge.target lt)
             (subst (λ c. slice_index_or (block_at f c).params n no_vreg ≡ v) edge.target is) (l, d)
 
-    pub brought : ((d l : ℕ) → IsEdgeInto f b d l → (d ≡ e) × (l ≡ k)) → (p : Place) → F v.number ≡ Some p → Brought p
-    brought one p mine = elim (cases_Bool (defined_by (branch_operands f e) v.number)) [
+    pub defs_brought : ((d l : ℕ) → IsEdgeInto f b d l → (d ≡ e) × (l ≡ k)) → (p : Place) → F v.number ≡ Some p → Brought p
+    defs_brought one p mine = elim (cases_Bool (defined_by (branch_operands f e) v.number)) [
       | inl is ↦ (let d = number_defined (branch_operands f e) v.number is in brought_own p mine d.0 d.1)
       | inr no_def ↦ elim (find_param (block_at f b).params v) [
         | inr none ↦ brought_other p mine (undefined v no_def) (λ n lt is own_it. none n lt is) one
@@ -265,7 +265,7 @@ module _ (stored : StoredAtBegin) where
       ∙ walked_stores (inst_at f) placesf first n (store_moves s.stores) middle.edits))
       (carries_stores v s.stores L (StandsBefore f (λ w. F w.number) b v) (ComesIn f stand b v) E
       (in_order (is_memory middle.fixed_stack) refl s.stores s.in_order)
-      (λ p h. elim (brought e k edge s (λ d l into. one e k d l edge into) p h.1) [
+      (λ p h. elim (defs_brought e k edge s (λ d l into. one e k d l edge into) p h.1) [
         | inl x ↦ inl (x.0, x.1, x.2, (h.0, x.3))
         | inr x ↦ inr ((h.0, x.0), x.1)
       ]) c)

@@ -24,7 +24,7 @@ use Rattle.regalloc2_fastalloc_proofs.proofs.Operands.RecordOverState.{opt, stan
 use Rattle.regalloc2_fastalloc_proofs.proofs.Inst.AcrossInst.{lives_in}
 use Rattle.regalloc2_fastalloc_proofs.proofs.Inst.OneInstCarries.{IsBetweenInsts}
 use Rattle.regalloc2_fastalloc_proofs.proofs.Moves.StepsAppendEdits.{AppendsEdits, none_pushed, one_pushed}
-use Rattle.regalloc2_fastalloc_proofs.proofs.BlockBegin.ReloadAtBegin.{IsReload, Begun, begun, reloads_at_begin_carried}
+use Rattle.regalloc2_fastalloc_proofs.proofs.BlockBegin.ReloadAtBegin.{IsReload, Begun, block_start_places, reloads_at_begin_carried}
 
 -- whether an option is the given place
 abbrev pub is_there : Option Place → Place → Bool
@@ -76,7 +76,7 @@ module _ (insts : ℕ → InstValue) (placesf : ℕ → List Place) (i n : ℕ) 
         Carries v (from_first new) (λ p. F ≡ Some p) E
     unwritten c =
         let X : Place → ℕ → Bool = λ p x. nat_eq x v.number && is_there F p in
-        let b : Begun i params old new = begun i params old new begins between in
+        let b : Begun i params old new = block_start_places i params old new begins between in
         carries_weaken v (from_first new) (λ p. Need (lives_in new) (λ x. false) X (stands_at new) (slots_at new) v.number p) (λ p. F ≡ Some p) E E
         (λ p h. elim h [
           | located l at ↦ stays p (by_place p (b.in_slot_or_nowhere v.number) at)
@@ -111,7 +111,7 @@ module _ (insts : ℕ → InstValue) (placesf : ℕ → List Place) (i n : ℕ) 
             Carries v (from_first new) (λ p. (block ≡ false) × (F ≡ Some p)) E
         by_test true is c =
             carries_weaken v (from_first new) (λ p. ⊥) (λ p. (block ≡ false) × (F ≡ Some p)) E E (λ p h. absurd h) (λ p h. h)
-            (reloaded old.edits new.edits (begun i params old new begins between).leads.pushes
+            (reloaded old.edits new.edits (block_start_places i params old new begins between).leads.pushes
             (carries_weaken v (from_first old) (Relied block block (stands_at old v.number) (slots_at old v.number) F) (λ p. ⊥) E E
             (λ p h. (let x : true ≡ false = sym is ∙ h.0 in absurd cc)) (λ p h. h) c))
         by_test false is c =

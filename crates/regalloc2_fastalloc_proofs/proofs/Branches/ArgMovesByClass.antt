@@ -43,9 +43,9 @@ pub record Stepped (point : ℕ) (inst_regs : InstRegs) (class : RegClass) (give
   pub assigned : (m : Place × Place × Unit {0}) → Contains given m → came_from made m.1 ≡ m.0
 
 -- the ordered moves of one class bring each target the value of its source, and leave all but scratch and temporary places alone
-pub stepped : (point : ℕ) (inst_regs : InstRegs) (class : RegClass) (given : Moves) (old new : StateValue) → Pushes point inst_regs class given old new →
+pub class_moves_done : (point : ℕ) (inst_regs : InstRegs) (class : RegClass) (given : Moves) (old new : StateValue) → Pushes point inst_regs class given old new →
     Stepped point inst_regs class given old new
-stepped point inst_regs class given old new p =
+class_moves_done point inst_regs class given old new p =
     let o : OrdersMoves inst_regs class given p.made old p.middle = p.orders in
     let count : new.slots.count ≡ p.middle.slots.count = ap (λ (t : StateValue). t.slots.count) p.pushes in
     record {

@@ -44,12 +44,12 @@ use Rattle.regalloc2_fastalloc_proofs.proofs.Walk.BlockObligations.{defined_from
 use Rattle.regalloc2_fastalloc_proofs.proofs.BlockEnd.LastInst.{OwedOwn, owed_there}
 use Rattle.regalloc2_fastalloc_proofs.proofs.BlockBegin.ReloadAtBegin.{IsReload}
 use Rattle.regalloc2_fastalloc_proofs.proofs.Branches.ArgMovesPushed.{walked_made}
-use Rattle.regalloc2_fastalloc_proofs.proofs.Branches.ArgMovesByClass.{Stepped, stepped, all_moves, all_at, all_other, all_places, all_slots, all_grow}
+use Rattle.regalloc2_fastalloc_proofs.proofs.Branches.ArgMovesByClass.{Stepped, class_moves_done, all_moves, all_at, all_other, all_places, all_slots, all_grow}
 use Rattle.regalloc2_fastalloc_proofs.proofs.Branches.EdgeArgsGathered.{passes_at, argument_at, params_on}
-use Rattle.regalloc2_fastalloc_proofs.proofs.BlockEnd.BranchAlone.{IsHeldHere, IsUseMove, Branched, branched, unmoved, none_below}
+use Rattle.regalloc2_fastalloc_proofs.proofs.BlockEnd.BranchAlone.{IsHeldHere, IsUseMove, Branched, branch_moves_uses_only, no_move_added_to, none_below}
 use Rattle.regalloc2_fastalloc_proofs.proofs.BlockEnd.BranchEndsBlock.{LastBranch, ToCome, to_come-back, reads_own, own_moves}
 use Rattle.regalloc2_fastalloc_proofs.proofs.Branches.ArgMovesEffect.{ArgMoves, names_at, relied_kept, passed_moved}
-use Rattle.regalloc2_fastalloc_proofs.proofs.Branches.BranchInParts.{settled_carries, Parted, parted}
+use Rattle.regalloc2_fastalloc_proofs.proofs.Branches.BranchInParts.{settled_carries, Parted, branch_in_parts}
 use Rattle.regalloc2_fastalloc_proofs.proofs.Inst.ProperInsts.{ProperCode}
 use Rattle.regalloc2_fastalloc_proofs.proofs.Branches.ArgMovesByClass.{ClassSteps, steps_of}
 use Rattle.regalloc2_fastalloc_proofs.proofs.Changes.InstChanges.{allocs_inst_changes, any_operand}
@@ -144,7 +144,7 @@ module _ (branch : BlockBranch) where
   by_itself = carries_by_itself code last blank here old middle within are_listed between a
 
   br : Branched code last here a.ended old middle
-  br = branched code last blank here old middle within are_listed sound_ops ends between bare a
+  br = branch_moves_uses_only code last blank here old middle within are_listed sound_ops ends between bare a
 
   -- the branch ends its block
   abbrev at_end : LastBranch
@@ -170,16 +170,16 @@ module _ (branch : BlockBranch) where
   edges = length (block_at f b).succs
 
   part : Parted f b last edges a.ended inst_regs middle p.gathered p.given
-  part = parted f b last a.ended inst_regs middle p.gathered edges p.given p.gathers by_itself.between br.scratch_reserve
+  part = branch_in_parts f b last a.ended inst_regs middle p.gathered edges p.given p.gathers by_itself.between br.scratch_reserve
 
   ints : Stepped (before last) inst_regs Int (of_class Int p.given) p.gathered p.ints
-  ints = stepped (before last) inst_regs Int (of_class Int p.given) p.gathered p.ints p.int
+  ints = class_moves_done (before last) inst_regs Int (of_class Int p.given) p.gathered p.ints p.int
 
   floats : Stepped (before last) inst_regs Float (of_class Float p.given) p.ints p.floats
-  floats = stepped (before last) inst_regs Float (of_class Float p.given) p.ints p.floats p.float
+  floats = class_moves_done (before last) inst_regs Float (of_class Float p.given) p.ints p.floats p.float
 
   vectors : Stepped (before last) inst_regs Vector (of_class Vector p.given) p.floats new
-  vectors = stepped (before last) inst_regs Vector (of_class Vector p.given) p.floats new p.vector
+  vectors = class_moves_done (before last) inst_regs Vector (of_class Vector p.given) p.floats new p.vector
 
   -- the moves of the arguments
   abbrev steps : ClassSteps
@@ -270,7 +270,7 @@ module _ (branch : BlockBranch) where
       (pushes_weaken (IsReload (before last)) P middle.edits p.gathered.edits (λ d x. inr x)
       (changes_push (IsReload (before last)) (gathers_moves_changes (λ q r. (refl, (r, refl))) (any_passed (IsReload (before last)) f b) p.gathers))) in
       untouched_walked (InSlot n) (inst_at f) (at_point (listed p.gathered.edits)) placesf last 1
-      (λ q ge lt. unmoved P (InSlot n) q old.edits p.gathered.edits
+      (λ q ge lt. no_move_added_to P (InSlot n) q old.edits p.gathered.edits
       (λ d is to. elim is [
         | inl x ↦ elim x.1 [
           | inl r ↦ (let y : InRegister r.0 ≡ InSlot n = sym r.1 ∙ to in cc)

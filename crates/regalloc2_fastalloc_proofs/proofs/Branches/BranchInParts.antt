@@ -21,7 +21,7 @@ use Rattle.regalloc2_fastalloc_proofs.proofs.Inst.OneInstCarries.{IsBetweenInsts
 use Rattle.regalloc2_fastalloc_proofs.proofs.BlockBegin.ReloadAtBegin.{SpareHere}
 use Rattle.regalloc2_fastalloc_proofs.proofs.BlockBegin.CarriesFromSlot.{is_there, is_there-true, is_there-same, is_there-none}
 use Rattle.regalloc2_fastalloc_proofs.proofs.Branches.ArgsSpilled.{Stage}
-use Rattle.regalloc2_fastalloc_proofs.proofs.Branches.EdgeArgsGathered.{MovesByClass, gathered}
+use Rattle.regalloc2_fastalloc_proofs.proofs.Branches.EdgeArgsGathered.{MovesByClass, arguments_gathered}
 use Rattle.regalloc2_fastalloc_proofs.proofs.Operands.BlockTail.{tail_of}
 
 -- a slot that is made later is needed, if the block doesn't write its vreg
@@ -90,7 +90,7 @@ module _ (insts : ℕ → InstValue) (placesf : ℕ → List Place) (last : ℕ)
       GathersMoves f b (before last) t old k u new given → IsBetweenInsts last old → SpareHere t old → Carries v (from_last old) (On old) E →
       Carries v (from_last new) (On new) E
   settled_carries {f} {b} {t} {u} {old} {new} {k} {given} gathers between scratch_reserve c =
-      let d = gathered (tail_of (λ w. w ≡ v) insts placesf last 0 (λ w. E)) branch_item (is_kept block v.number F) (kept-clear block v.number F only) f b t old
+      let d = arguments_gathered (tail_of (λ w. w ≡ v) insts placesf last 0 (λ w. E)) branch_item (is_kept block v.number F) (kept-clear block v.number F only) f b t old
       (begin_stage t old between scratch_reserve c) k u new given gathers in
       end_stage u new d.stage
 
@@ -101,10 +101,10 @@ Parted f b last k t u old new given = MovesByClass (tail_of (λ v. ⊥) (inst_at
     f b k t u old new given
 
 -- once the arguments of k edges are gathered, each has a location, and the gathered moves go from their slots to the parameters' slots
-pub parted : (f : FunctionValue) (b last : ℕ) (t u : InstRegs) (old new : StateValue) (k : ℕ) (given : List ClassMove) →
+pub branch_in_parts : (f : FunctionValue) (b last : ℕ) (t u : InstRegs) (old new : StateValue) (k : ℕ) (given : List ClassMove) →
     GathersMoves f b (before last) t old k u new given → IsBetweenInsts last old → SpareHere t old → Parted f b last k t u old new given
-parted f b last t u old new k given gathers between scratch_reserve =
-    gathered (tail_of (λ v. ⊥) (inst_at f) (λ j. []) last 0 (λ v p. ⊥)) (exec_item (inst_at f last) []) (λ p x. false) (λ r x. refl) f b t old
+branch_in_parts f b last t u old new k given gathers between scratch_reserve =
+    arguments_gathered (tail_of (λ v. ⊥) (inst_at f) (λ j. []) last 0 (λ v p. ⊥)) (exec_item (inst_at f last) []) (λ p x. false) (λ r x. refl) f b t old
     (record {
       whole = between.whole;
       later = between.later;

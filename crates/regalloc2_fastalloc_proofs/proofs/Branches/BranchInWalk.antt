@@ -41,7 +41,7 @@ use Rattle.regalloc2_fastalloc_proofs.proofs.Branches.ArgMovesEffect.{names_at}
 use Rattle.regalloc2_fastalloc_proofs.proofs.Branches.Arrivals.{left_at, IsUsedBeyondBranch, Arrive, DefsPlaced, own_slot_of, left_there, left_apart}
 use Rattle.regalloc2_fastalloc_proofs.proofs.Branches.DefinitionsCarry.{made_walked}
 use Rattle.regalloc2_fastalloc_proofs.proofs.Branches.EdgesInto.{entered_by_one}
-use Rattle.regalloc2_fastalloc_proofs.proofs.BlockEnd.BranchAlone.{IsUseMove, branched}
+use Rattle.regalloc2_fastalloc_proofs.proofs.BlockEnd.BranchAlone.{IsUseMove, branch_moves_uses_only}
 use Rattle.regalloc2_fastalloc_proofs.proofs.BlockEnd.BranchEndsBlock.{ToCome}
 use Rattle.regalloc2_fastalloc_proofs.proofs.Branches.BranchCarries.{branch_carries}
 use Rattle.regalloc2_fastalloc_proofs.proofs.Branches.WellFormedBranch.{unread_parameters, argument_classes}
@@ -180,7 +180,7 @@ module _ (env : MachineValue) (f : FunctionValue) (limited : IsLimited f) (ok : 
       -- no move is listed after the branch
       quiet : at_point (listed new.edits) (after last) ≡ []
       quiet =
-          let br = branched (proper_of (Made f) f placesf (all_proper env f limited ok)) last e.allocates.allocates.blank
+          let br = branch_moves_uses_only (proper_of (Made f) f placesf (all_proper env f limited ok)) last e.allocates.allocates.blank
           e.allocates.allocates.here old e.allocates.middle within e.at (sound_ops_at env f limited ok taken last within) ends e.between e.bare
           e.allocates.allocates.allocates in
           let p = e.allocates.branch branch in

@@ -258,8 +258,8 @@ module _ (env : MachineValue) (f : FunctionValue) (ok : IsWellFormed env f) wher
     on_unused b d e k v edge own un (in_slot u c g) = absurd (u (d, e, k, edge, own, un))
 
     -- each vreg is at the location from which blocks carry it
-    pub arrives : Arrive f placesf F (stand_on placesf F)
-    arrives = record {
+    pub vregs_arrive : Arrive f placesf F (stand_on placesf F)
+    vregs_arrive = record {
       own = λ b e k j v edge d used. on_own b e k j v edge d used (arrival b v);
       given = λ b e k n j edge lt d. on_given b e k n j (slice_index_or (block_at f b).params n no_vreg) edge lt refl d
           (arrival b (slice_index_or (block_at f b).params n no_vreg));

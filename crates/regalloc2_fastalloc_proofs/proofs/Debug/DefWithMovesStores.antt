@@ -21,8 +21,8 @@ use Rattle.regalloc2_fastalloc_proofs.specs.InstSteps.{StateValue, AllocsInst, e
 use Rattle.regalloc2_fastalloc_proofs.proofs.Safety.StepsKeepState.{place_in, slot_in}
 use Rattle.regalloc2_fastalloc_proofs.proofs.Operands.RecordOverState.{stands_at, slots_at, opt_none}
 use Rattle.regalloc2_fastalloc_proofs.proofs.Inst.AcrossInst.{lives_in}
-use Rattle.regalloc2_fastalloc_proofs.proofs.Inst.BoundaryToFirstOperand.{CarriedBut, opened}
-use Rattle.regalloc2_fastalloc_proofs.proofs.Inst.LastOperandToBoundary.{closed}
+use Rattle.regalloc2_fastalloc_proofs.proofs.Inst.BoundaryToFirstOperand.{CarriedBut, ready_for_operands}
+use Rattle.regalloc2_fastalloc_proofs.proofs.Inst.LastOperandToBoundary.{listing_carries}
 use Rattle.regalloc2_fastalloc_proofs.proofs.Operands.DefinedNumbers.{defined_by, defined_by-at}
 use Rattle.regalloc2_fastalloc_proofs.proofs.Operands.AllOperands.{laid_all, laid_over}
 use Rattle.regalloc2_fastalloc_proofs.proofs.Moves.StepsAppendEdits.{pushes_then}
@@ -84,7 +84,7 @@ module _ (code : ProperCode) where
     by_itself = carries_by_itself code i blank here old new lt at b a
 
     begun : BareAt true 0 blank a.quiet a.after_clobbers
-    begun = opened (tail_of Known (inst_at f) placesf i 0 (λ w p. ⊥)) (inst_at f i) blank here old new (orderly i lt) (avoids i lt)
+    begun = ready_for_operands (tail_of Known (inst_at f) placesf i 0 (λ w p. ⊥)) (inst_at f i) blank here old new (orderly i lt) (avoids i lt)
         (λ e. absurd (let y : true ≡ false = sym e ∙ plain in cc))
         (record {
           whole = b.whole;
@@ -178,7 +178,7 @@ module _ (code : ProperCode) where
         let is : defined_by ops v.number ≡ true = defined_by-at ops d within def in
         let nowhere : stands_at new v.number ≡ None = by_itself.ends.gone v.number is in
         let c : CarriedBut Known (inst_at f) placesf E (defined_by ops) i 1 new =
-        closed (tail_of Known (inst_at f) placesf i 0 E) (lives_in old) (ends_block (inst_at f i)) here a.early a.ended a.after_early new (orderly i lt)
+        listing_carries (tail_of Known (inst_at f) placesf i 0 E) (lives_in old) (ends_block (inst_at f i)) here a.early a.ended a.after_early new (orderly i lt)
         (knows i lt) at all_placed a.moves in
         carries_weaken v (walked (inst_at f) (at_point (listed new.edits)) placesf i 1)
         (Need (lives_in new) (defined_by ops) (λ p x. false) (stands_at new) (slots_at new) v.number) (λ p. ⊥) (E v) (λ p. p ≡ InSlot n)

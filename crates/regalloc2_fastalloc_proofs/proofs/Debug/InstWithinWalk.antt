@@ -143,10 +143,10 @@ module _ (code : PlacedCode) (start : List Place) (begin : StateValue) (i : ℕ)
         }
 
   -- the walk reaches each instruction
-  pub meet : IsBetweenInsts (length f.insts) begin → i < length f.insts → {b : ℕ} {places : List Place} {t : StateValue} → AllocsBlocks f start begin b places t →
+  pub walk_reaches : IsBetweenInsts (length f.insts) begin → i < length f.insts → {b : ℕ} {places : List Place} {t : StateValue} → AllocsBlocks f start begin b places t →
       (e : ℕ) → IsEdge f b e → AreListed f placesf e places → e ≤ i → Met f placesf start begin i t
-  meet fresh lt all_left = λ e edge are le. (let same : e ≡ length f.insts = edge.1 refl in absurd (omega (arith, same, le, lt)))
-  meet fresh lt (one_block c p q s u w lc prev walk begins) = λ e edge are le.
+  walk_reaches fresh lt all_left = λ e edge are le. (let same : e ≡ length f.insts = edge.1 refl in absurd (omega (arith, same, le, lt)))
+  walk_reaches fresh lt (one_block c p q s u w lc prev walk begins) = λ e edge are le.
       let first : ℕ = (block_at f c).range.first in
       let end : ℕ = (block_at f c).range.end in
       let at_first : e ≡ first = edge.0 lc in
@@ -164,6 +164,6 @@ module _ (code : PlacedCode) (start : List Place) (begin : StateValue) (i : ℕ)
             (extend s u (grown_weaken (IsWithin first end) (IsBeforeInst f i) s u (λ z y. inl (omega (arith, y.1, past)))
             (walk_grown (kept_code_of Known f proper kept) follow c lc p s first q u walk))
             (walk_out c lc p s behind prev first q u walk past)
-            (meet fresh lt prev end (edge_next f follow c lc)
+            (walk_reaches fresh lt prev end (edge_next f follow c lc)
             (walk_listed code s c lc p s first q u walk here_listed) past))
       ]

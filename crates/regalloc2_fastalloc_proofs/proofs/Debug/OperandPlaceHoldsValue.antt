@@ -40,7 +40,7 @@ use Rattle.regalloc2_fastalloc_proofs.proofs.Debug.SlotHoldsDefinedValue.{branch
 use Rattle.regalloc2_fastalloc_proofs.proofs.Debug.InstOnPath.{Fronts, front, onward_front, carried_on, behind, moves_on}
 use Rattle.regalloc2_fastalloc_proofs.proofs.Debug.SlotHoldsToUses.{StepsArePlain, start_path, goes_live, goes_source}
 use Rattle.regalloc2_fastalloc_proofs.proofs.Debug.InstWithinWalk.{Met, IsStart, IsBeforeInst}
-use Rattle.regalloc2_fastalloc_proofs.proofs.Debug.PlaceKeepsValueOverMoves.{observed}
+use Rattle.regalloc2_fastalloc_proofs.proofs.Debug.PlaceKeepsValueOverMoves.{value_kept_over_moves}
 use Rattle.regalloc2_fastalloc_proofs.proofs.Debug.WellFormedPaths.{op_is, inst_in, inst_lt, within, plain_function}
 use Rattle.regalloc2_fastalloc_proofs.proofs.Debug.LocationWithoutSlot.{IsUnslotted, none_before, old_stays, new_stays}
 use Rattle.regalloc2_fastalloc_proofs.proofs.Walk.WholeWalk.{WholeWalk}
@@ -195,7 +195,7 @@ module _ (walk : WholeWalk) (m : IsOutputOfWalk walk.f walk.env (Made walk.f) (M
       last.edits (λ e h is. elim h [ inl before_it ↦ omega (arith, before_it, is) | inr at ↦ not_start j w low high at.1 ])
       (grown_pushes (IsBeforeInst f j) w.new last w.rest) in
       ap (λ es. after_moves (at_point es (before j)) c p) m.edits ∙ ap (λ ms. after_moves ms c p) same
-      ∙ observed (proper_of (Made f) f (allocs_of out) (all_proper env f limited ok)) j
+      ∙ value_kept_over_moves (proper_of (Made f) f (allocs_of out) (all_proper env f limited ok)) j
       w.allocates.allocates.blank w.allocates.allocates.here w.old w.new lt w.behind
       (allocated walk m j w flat) v p
       (record { known = known; real = un.real; alloc_of = new_at j w low high; unslotted = none_new j w }) (source_before f ws) c held

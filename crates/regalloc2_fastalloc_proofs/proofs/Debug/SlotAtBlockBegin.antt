@@ -30,7 +30,7 @@ use Rattle.regalloc2_fastalloc_state.specs.StateParts.{SlotsHaveOneOwner, slot_n
 use Rattle.regalloc2_fastalloc_proofs.specs.InstSteps.{StateValue}
 use Rattle.regalloc2_fastalloc_proofs.specs.Safety.{IsSafe, IsWhole}
 use Rattle.regalloc2_fastalloc_proofs.specs.StoreSteps.{StoresBranchDefs, none_stored, all_stored}
-use Rattle.regalloc2_fastalloc_proofs.proofs.BlockBegin.BranchDefsCarried.{brought}
+use Rattle.regalloc2_fastalloc_proofs.proofs.BlockBegin.BranchDefsCarried.{defs_brought}
 use Rattle.regalloc2_fastalloc_proofs.proofs.BlockBegin.StoresOfDefs.{stores_branch_defs_grown}
 use Rattle.regalloc2_fastalloc_proofs.proofs.Branches.Arrivals.{Arrive, DefsPlaced}
 use Rattle.regalloc2_fastalloc_proofs.proofs.Branches.EdgesInto.{one_edge_into}
@@ -198,7 +198,7 @@ module _ (walk : WholeWalk) (fits : MachineFits walk.f walk.env) (m : IsOutputOf
       comes_there c x holds none (all_stored e k edge s) =
           let M : List MoveValue = at_point (listed reloaded.edits) (before first) in
           let then : Cells = after_moves (store_moves s.stores) c in
-          let there : then (InSlot n) ≡ x = elim (brought (record {
+          let there : then (InSlot n) ≡ x = elim (defs_brought (record {
             f = f;
             once = ok.defined_once;
             placesf = allocs_of out;

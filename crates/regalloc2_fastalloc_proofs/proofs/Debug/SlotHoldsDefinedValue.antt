@@ -52,7 +52,7 @@ use Rattle.regalloc2_fastalloc_proofs.proofs.Debug.UnnamedStaysUnlocated.{whole_
 use Rattle.regalloc2_fastalloc_proofs.proofs.Debug.InstOnPath.{Fronts, entered_front, onward_front, carried_on, behind, front, moves_on}
 use Rattle.regalloc2_fastalloc_proofs.proofs.Debug.PathStepLeaves.{read_shows}
 use Rattle.regalloc2_fastalloc_proofs.proofs.Debug.SlotAfterWalk.{DefinedShows, moves_where, only_vreg_in_slot}
-use Rattle.regalloc2_fastalloc_proofs.proofs.Debug.InstWithinWalk.{IsStart, IsBeforeInst, IsUnnamedBefore, Met, meet}
+use Rattle.regalloc2_fastalloc_proofs.proofs.Debug.InstWithinWalk.{IsStart, IsBeforeInst, IsUnnamedBefore, Met, walk_reaches}
 use Rattle.regalloc2_fastalloc_proofs.proofs.Debug.WellFormedPaths.{op_is, inst_in, inst_lt, next_inside, within}
 use Rattle.regalloc2_fastalloc_proofs.proofs.Debug.DefWithMovesStores.{stores}
 use Rattle.regalloc2_fastalloc_proofs.proofs.Debug.MovesLeaveSlot.{moves_fine}
@@ -71,8 +71,8 @@ module _ (env : MachineValue) (f : FunctionValue) (limited : IsLimited f) (ok : 
   some_block = (let e : f.entry < length f.blocks = ok.successors.0 in omega (arith, e))
 
   -- nothing before its definition names a number
-  pub unnamed : (x i d : ℕ) → (inst_at f i).is_branch ≡ false → defined.DefinesAt f x i d → IsUnnamedBefore f x i
-  unnamed x i d plain at = record {
+  pub unnamed_before_definition : (x i d : ℕ) → (inst_at f i).is_branch ≡ false → defined.DefinesAt f x i d → IsUnnamedBefore f x i
+  unnamed_before_definition x i d plain at = record {
     insts = λ j less k c e.
         let lj : j < length f.insts = (let l = at.inst in omega (arith, less, l)) in
         elim c.1 [
@@ -125,7 +125,7 @@ module _ (walk : WholeWalk) (m : IsOutputOfWalk walk.f walk.env (Made walk.f) (M
 
   -- the walk reaches each instruction
   pub met_at : (i : ℕ) → i < length f.insts → Met f (allocs_of out) blank begin i last
-  met_at i lt = meet (code_of (Made f) f (all_proper env f limited ok) (branch env f limited ok) ok.follow ok.end (allocs_of out)) blank begin i
+  met_at i lt = walk_reaches (code_of (Made f) f (all_proper env f limited ok) (branch env f limited ok) ok.follow ok.end (allocs_of out)) blank begin i
       (begin_between f begin empty fit) lt
       walks 0 (first_edge f ok.follow (some_block env f limited ok)) are_listed (omega arith)
 
@@ -197,7 +197,7 @@ module _ (walk : WholeWalk) (m : IsOutputOfWalk walk.f walk.env (Made walk.f) (M
       (stores (proper_of (Made f) f (allocs_of out) (all_proper env f limited ok)) i w.allocates.allocates.blank w.allocates.allocates.here w.old w.new lt
       w.at w.behind
       (allocated i w plain) (rw (plain, onward) refl) d less def n
-      (sym (w.out v.number ((unnamed env f limited ok) v.number i d plain (record { inst = lt; operand = less; definition = def; number = refl })) absent).1 ∙
+      (sym (w.out v.number ((unnamed_before_definition env f limited ok) v.number i d plain (record { inst = lt; operand = less; definition = def; number = refl })) absent).1 ∙
       mine))
 
   module _ (written : IsWrittenFirst f) where

@@ -181,11 +181,11 @@ module _ (tail : BlockTail) where
       by_index (suc k) r lt e x at others first = others r (k, omega arith, e) x at
 
   -- the operands may be allocated
-  pub opened : (inst : InstValue) (blank places : List Place) (old new : StateValue) → Orderly inst.operands → AvoidClobbers inst.operands inst.clobbers →
+  pub ready_for_operands : (inst : InstValue) (blank places : List Place) (old new : StateValue) → Orderly inst.operands → AvoidClobbers inst.operands inst.clobbers →
       EndsHere Known insts placesf E (i + 1) n (ends_block inst) old → Carried Known insts placesf E (i + 1) n old →
       (a : AllocsInst i inst blank places old new) →
       Laid tail inst.operands (lives_in old) (is_clobbered inst.clobbers) (ends_block inst) true 0 blank a.quiet a.after_clobbers
-  opened inst blank places old new o v ends c a =
+  ready_for_operands inst blank places old new o v ends c a =
       let ops : List OperandValue = inst.operands in
       let none : a.prepares.held.scratch ≡ None ∷ None ∷ None ∷ [] = a.prepares.holds.scratch ∙ a.prepares.reserves.scratch ∙ a.fresh.scratch in
       let x : FixedUpTo tail ops (lives_in old) (ends_block inst) a.prepares.held old (length ops) a.prepares.cleared a.prepares.middle =

@@ -59,13 +59,13 @@ turned_not ops late k e t = elim t [
 ]
 
 -- an operand that is passed over in the pass over early operands was allocated before
-pub skipped : (ops : List OperandValue) (late : Bool) (k j : ℕ) → j ≡ k → (is_late (op_at ops k).position ≡ late → ⊥) → Turned ops late (k + 1) j →
+pub turned_before : (ops : List OperandValue) (late : Bool) (k j : ℕ) → j ≡ k → (is_late (op_at ops k).position ≡ late → ⊥) → Turned ops late (k + 1) j →
     Turned ops late k j
-skipped ops true k j e other t = elim t [
+turned_before ops true k j e other t = elim t [
   | inl a ↦ absurd (other (ap (λ x. is_late (op_at ops x).position) (sym e) ∙ a.0))
   | inr a ↦ (let x : true ≡ false = a.0 in absurd cc)
 ]
-skipped ops false k j e other t = ⊎_elim
+turned_before ops false k j e other t = ⊎_elim
     (λ (a : is_late (op_at ops k).position ≡ true). inr (refl, inl (ap (λ x. is_late (op_at ops x).position) e ∙ a)))
     (λ (a : is_late (op_at ops k).position ≡ false). absurd (other a))
     (cases_Bool (is_late (op_at ops k).position))
@@ -116,7 +116,7 @@ module _ (laying : LayingContext) where
       X = L.X;
       ready = L.ready;
       turned = λ j d. turned_next ops late k j (L.turned j d);
-      all = λ j c x. elim (turned_back ops late k j x) [ inl e ↦ L.all j c (skipped ops late k j e other x) | inr e ↦ L.all j c e ];
+      all = λ j c x. elim (turned_back ops late k j x) [ inl e ↦ L.all j c (turned_before ops late k j e other x) | inr e ↦ L.all j c e ];
       fixed = L.fixed;
       fixed_reuse = L.fixed_reuse;
       waiting = L.waiting;

@@ -66,9 +66,9 @@ module _ (env : MachineValue) (Known : VirtualRegister → Type 0) (ops : List O
     pub pays : (p : Place) → AnswersRequirement env w p → Pays ops here (there p) v w t old
 
   -- a place of an operand that doesn't wait changes nothing
-  pub unchanged : (here : List Place) (k : ℕ) (p : Place) → length here ≡ length ops → is_under_reg (op_at ops k).constraint ≡ false → (c : RegClass) →
+  pub waiting_unchanged : (here : List Place) (k : ℕ) (p : Place) → length here ≡ length ops → is_under_reg (op_at ops k).constraint ≡ false → (c : RegClass) →
       waiting ops (set here k p) c ≡ waiting ops here c
-  unchanged here k p long other c = waits_as_before ops here c k p long (λ lt. waits_not ops here c k other ∙ sym (waits_not ops (set here k p) c k other))
+  waiting_unchanged here k p long other c = waits_as_before ops here c k p long (λ lt. waits_not ops here c k other ∙ sym (waits_not ops (set here k p) c k other))
 
   module _ (turn : CountedOperand env Known ops) where
     open turn use {Named, fixed, D, k, here, t, old, lt, undone, h, p}
@@ -78,7 +78,7 @@ module _ (env : MachineValue) (Known : VirtualRegister → Type 0) (ops : List O
         (none : at_place here k ≡ NoPlace) where
       by_constraint : (c : OperandConstraint) → (op_at ops k).constraint ≡ c → (q : Place) → AnswersRequirement env (requirement_of c) q →
           Pays ops here (set here k q) (op_at ops k).vreg (requirement_of c) t old
-      by_constraint Any e q a = anywhere refl (unchanged here k q h.long (not_under (op_at ops k).constraint Any e refl))
+      by_constraint Any e q a = anywhere refl (waiting_unchanged here k q h.long (not_under (op_at ops k).constraint Any e refl))
       by_constraint Reg e q a =
           let r = plain_at env q a in
           let under : is_under_reg (op_at ops k).constraint ≡ true = ap is_under_reg e in
@@ -86,9 +86,9 @@ module _ (env : MachineValue) (Known : VirtualRegister → Type 0) (ops : List O
           (subst (λ x. waiting ops here (op_at ops k).vreg.class ≡ waiting ops (set here k x) (op_at ops k).vreg.class + 1) (sym r.1)
           (waits_no_more ops here (op_at ops k).vreg.class k r.0 lt h.long (waits_here ops here k under none)))
           (λ c ne. waits_as_before ops here c k q h.long (λ within. waits_elsewhere ops here c k ne ∙ sym (waits_elsewhere ops (set here k q) c k ne)))
-      by_constraint Stack e q a = memory refl (unchanged here k q h.long (not_under (op_at ops k).constraint Stack e refl))
+      by_constraint Stack e q a = memory refl (waiting_unchanged here k q h.long (not_under (op_at ops k).constraint Stack e refl))
       by_constraint (FixedReg r) e q a = at_one r refl (p.placed_unfree k r lt allocated (inr e))
-          (unchanged here k q h.long (not_under (op_at ops k).constraint (FixedReg r) e refl))
+          (waiting_unchanged here k q h.long (not_under (op_at ops k).constraint (FixedReg r) e refl))
       by_constraint (Reuse n) e q a = absurd (no_reuse n e)
       by_constraint (Limit n) e q a = absurd (sound_ops.unlimited k n lt e)
 
@@ -172,18 +172,18 @@ module _ (env : MachineValue) (Known : VirtualRegister → Type 0) (ops : List O
       by_named c e (inl reg) q a =
           let r = plain_at env q (subst (λ x. AnswersRequirement env (reuse_requirement_of x) q) reg a) in
           let under : is_under_reg (op_at ops n).constraint ≡ true = ap is_under_reg (e ∙ reg) in
-          let first = unchanged here k q h.long no_reg (op_at ops k).vreg.class in
+          let first = waiting_unchanged here k q h.long no_reg (op_at ops k).vreg.class in
           let second : waiting ops (set here k q) (op_at ops k).vreg.class ≡ waiting ops (set (set here k q) n q) (op_at ops k).vreg.class + 1 =
           subst (λ x. waiting ops (set here k q) (op_at ops k).vreg.class ≡ waiting ops (set (set here k q) n x) (op_at ops k).vreg.class + 1) (sym r.1)
           (waits_no_more ops (set here k q) (op_at ops k).vreg.class n r.0 (sound_ops.named k n lt reuses).0 (long_too q) (waits_named q under)) in
           waited (ap reuse_requirement_of reg) (omega (arith, first, second))
           (λ x ne. waits_as_before ops (set here k q) x n q (long_too q)
           (λ within. waits_elsewhere ops (set here k q) x n (λ s. ne (s ∙ ap class_code same_class))
-          ∙ sym (waits_elsewhere ops (set (set here k q) n q) x n (λ s. ne (s ∙ ap class_code same_class)))) ∙ unchanged here k q h.long no_reg x)
+          ∙ sym (waits_elsewhere ops (set (set here k q) n q) x n (λ s. ne (s ∙ ap class_code same_class)))) ∙ waiting_unchanged here k q h.long no_reg x)
       by_named c e (inr f) q a = at_one f.0 (ap reuse_requirement_of f.1)
           (p.placed_unfree n f.0 (sound_ops.named k n lt reuses).0 (reads_allocated (op_at ops n) (sound_ops.named k n lt reuses).2) (inr (e ∙ f.1)))
-          (λ x. unchanged (set here k q) n q (long_too q) (not_under (op_at ops n).constraint (FixedReg f.0) (e ∙ f.1) refl) x
-          ∙ unchanged here k q h.long no_reg x)
+          (λ x. waiting_unchanged (set here k q) n q (long_too q) (not_under (op_at ops n).constraint (FixedReg f.0) (e ∙ f.1) refl) x
+          ∙ waiting_unchanged here k q h.long no_reg x)
 
       asks_some : (c : OperandConstraint) → (op_at ops n).constraint ≡ c → (c ≡ Reg) ⊎ ((r : Register) × (c ≡ FixedReg r)) → reuse_requirement_of c ≡ AnyReg →
           0 < waiting ops here (op_at ops k).vreg.class

@@ -36,7 +36,7 @@ use Rattle.regalloc2_fastalloc_proofs.proofs.Pressure.TablesHaveAllRegs.{HasAll,
 use Rattle.regalloc2_fastalloc_proofs.proofs.Pressure.OneRegTaken.{ample_kept}
 use Rattle.regalloc2_fastalloc_proofs.proofs.Pressure.ClaimLeavesEnough.{ample_allocs_operand, never_alloc_operand, never_free_alloc, ample_frees_alloc, safe_held}
 use Rattle.regalloc2_fastalloc_proofs.proofs.Pressure.FreeRegsCoverWaiting.{Paying, Pays, pays_fewer, pays_awaited, pays_paid, unfree_kept, allocs_operand_settled}
-use Rattle.regalloc2_fastalloc_proofs.proofs.Pressure.OperandFindsReg.{CountedOperand, Ready, unchanged, use_ready, def_ready, reuse_ready}
+use Rattle.regalloc2_fastalloc_proofs.proofs.Pressure.OperandFindsReg.{CountedOperand, Ready, waiting_unchanged, use_ready, def_ready, reuse_ready}
 use Rattle.regalloc2_fastalloc_proofs.proofs.BlockEnd.NoMoveInLastInst.{some_position}
 use Rattle.regalloc2_fastalloc_proofs.proofs.Pressure.ClaimLeavesEnough.{naming_of}
 
@@ -286,7 +286,7 @@ module _ (operands : NamedOperands) where
           Paying Named ops E (set here k (InRegister r)) t old
       register_pays r silent is =
           let other : is_under_reg (op_at ops k).constraint ≡ false = ap is_under_reg is in
-          let same = unchanged env Known ops sound_ops here k (InRegister r) h.long other in
+          let same = waiting_unchanged env Known ops sound_ops here k (InRegister r) h.long other in
           record {
             ample = λ c n. (let a = p.ample c n in let e = same c in omega (arith, a, e));
             awaited = λ c. p.awaited c ∙ sym (same c);

@@ -23,7 +23,7 @@ use Rattle.regalloc2_fastalloc_proofs.specs.BranchSteps.{SpillsArgument, from_re
 use Rattle.regalloc2_fastalloc_proofs.specs.BranchSteps.{GathersMoves, no_edge, one_edge, ClassMove, is_class, of_class, MayBeScratch, IsScratchUsed}
 use Rattle.regalloc2_fastalloc_proofs.specs.BranchSteps.{IsOrdered, OrdersMoves, Pushes, ProcessesBranch}
 use Rattle.regalloc2_fastalloc_proofs.specs.Safety.{MayBeLocatedAtOrNone, HasMachine, IsMoveReg, IsEndOfArgMove, IsSafe, IsSafeEdit, AreSafeRegs}
-use Rattle.regalloc2_fastalloc_proofs.proofs.Safety.StepsKeepSafe.{StepKept, MayBeHeld, kept_none, same_units, shifted, evicts_preg_kept, StepRules}
+use Rattle.regalloc2_fastalloc_proofs.proofs.Safety.StepsKeepSafe.{StepKept, MayBeHeld, kept_none, same_units, safe_after_spill, evicts_preg_kept, StepRules}
 use Rattle.regalloc2_fastalloc_proofs.proofs.Slots.SlotsGrow.{SlotsStay, SlotsGrow, gives_stay, changes_stay, edits_grow, none_grows}
 use Rattle.regalloc2_fastalloc_proofs.proofs.BlockEnd.NoMoveForOperand.{slot_number}
 use Rattle.regalloc2_fastalloc_state.proofs.SlotsAsPlaces.{slot_grows}
@@ -127,7 +127,7 @@ module _ (rules : StepRules) where
       let n = slot_number new.slots.count s gives.there gives.below in
       record {
         kept = record {
-          safe = shifted rules old new a s gives settles machine (given_edits env Known Writes May old new a s gives edits h) h;
+          safe = safe_after_spill rules old new a s gives settles machine (given_edits env Known Writes May old new a s gives edits h) h;
           inst_regs = subst (AreSafeRegs env) (sym eu) ht;
         };
         number = n.0;

@@ -31,7 +31,7 @@ use Rattle.regalloc2_fastalloc_proofs.proofs.Branches.LocationsAfterBranch.{bran
 use Rattle.regalloc2_fastalloc_proofs.proofs.Walk.DefsBeforeUses.{used_made}
 use Rattle.regalloc2_fastalloc_proofs.proofs.Walk.BranchesPlaceDefs.{last_allocated, defs_placed}
 use Rattle.regalloc2_fastalloc_proofs.proofs.Branches.Arrivals.{Arrive, DefsPlaced}
-use Rattle.regalloc2_fastalloc_proofs.proofs.Branches.PlacesOnArrival.{stand_on, arrives, needed_or_unused}
+use Rattle.regalloc2_fastalloc_proofs.proofs.Branches.PlacesOnArrival.{stand_on, vregs_arrive, needed_or_unused}
 use Rattle.regalloc2_fastalloc_proofs.proofs.Branches.EdgesInto.{one_edge_into}
 use Rattle.regalloc2_fastalloc_proofs.proofs.Branches.BranchInWalk.{branches_carry}
 use Rattle.regalloc2_fastalloc_proofs.proofs.Safety.StoredDefs.{concerned_made, last_within}
@@ -103,7 +103,7 @@ module _ (walk : WholeWalk)
       → AreTaken f → ((i : ℕ) → i < length f.insts → BranchDefinesInPlace (inst_at f i))
       → (b : ℕ) → BlockCarriesOn f standing b (block_walked f out b)
   blocks_carry edits are_listed Writes May safe good sound taken places =
-      let arrive : Arrive f (allocs_of out) (slots_at last) standing = arrives env f ok (allocs_of out) (slots_at last) in
+      let arrive : Arrive f (allocs_of out) (slots_at last) standing = vregs_arrive env f ok (allocs_of out) (slots_at last) in
       let placed : (b : ℕ) → b < length f.blocks → (inst_at f (last_of (block_at f b))).is_branch ≡ true → DefsPlaced f (allocs_of out) (slots_at last) b
       = walk_places_defs are_listed good taken places in
       let carrying : CarryingContext = record {
