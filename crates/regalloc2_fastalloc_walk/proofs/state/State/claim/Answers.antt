@@ -1,5 +1,4 @@
 use Rattle.std.proofs.Common.{List, sym, ap, ◌∙◌}
-use Rattle.std.specs.Prelude.{Some}
 use Rattle.regalloc2_fastalloc_state.proofs.ValidateLemmas.OperandReads.{read_operand}
 use Rattle.regalloc2_names.specs.Operand.{OperandValue}
 use Rattle.regalloc2_fastalloc_walk.proofs.RegsReserved.{claim_is, reserves_nothing, reserves_it, same_claim}

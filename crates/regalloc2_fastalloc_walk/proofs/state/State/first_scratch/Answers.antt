@@ -1,5 +1,4 @@
-use Rattle.std.proofs.Common.{Some, inl, sym, ◌∙◌}
-use Rattle.std.specs.Prelude.{None}
+use Rattle.std.proofs.Common.{inl, sym, ◌∙◌}
 use Rattle.regalloc2_fastalloc_proofs.proofs.Moves.ParallelMovesOrdered.{found_or}
 use Rattle.regalloc2_fastalloc_walk.proofs.Clashes.{none_is_nothing}
 use Rattle.regalloc2_fastalloc_walk.proofs.state.State.first_scratch.Goals as goal

@@ -1,8 +1,8 @@
-use Rattle.std.proofs.Common.{Bool, ℕ, List, sym, ◌∙◌, subst, rules}
+use Rattle.std.proofs.Common.{List, sym, ◌∙◌, subst, rules}
 use Rattle.std.proofs.lemmas.Result.{err_from_is_err_and, MatchResult-weaker}
 use Rattle.regalloc2_fastalloc_state.specs.StateParts.{NoneIsFrom}
 use Rattle.regalloc2_fastalloc_proofs.specs.InstSteps.{StateValue, SameMachine}
-use Rattle.regalloc2_fastalloc_walk.specs.BranchStores.{LacksStoreReg, PushesStores}
+use Rattle.regalloc2_fastalloc_walk.specs.BranchStores.{LacksStoreReg}
 use Rattle.regalloc2_fastalloc_walk.specs.StateView.{tables_of}
 use Rattle.regalloc2_fastalloc_walk.specs.declared.store.StoreMove.{StoreMove}
 use Rattle.regalloc2_fastalloc_walk.proofs.Steps.{step_after}

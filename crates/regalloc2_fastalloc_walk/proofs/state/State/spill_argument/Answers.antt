@@ -1,5 +1,4 @@
 use Rattle.std.proofs.Common.{◌≡◌, refl, sym, ap, ◌∙◌, arith, rules}
-use Rattle.std.specs.Prelude.{Some}
 use Rattle.regalloc2_names.specs.Place.{InRegister, register_of_place}
 use Rattle.regalloc2_fastalloc_proofs.specs.BranchSteps.{from_register, in_slot}
 use Rattle.regalloc2_fastalloc_proofs.specs.InstSteps.{StateValue, SameMachine}
