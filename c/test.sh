@@ -87,7 +87,7 @@ transcript() {
 }
 
 mkdir "$made/bin"
-step "what the documents name is there, and their commands are run" python3 "$top/bench/check_docs.py"
+step "what the documents name is there, and their commands are run" python3 "$top/tools/check_docs.py"
 echo "If the libraries aren't proved yet, the first step proves them, which takes most of an hour on four cores."
 library=$top/crates/regalloc2_c/out/libregalloc2_c.a
 (cd "$top/crates/regalloc2_c" && step "the static library is built" rt lib) || exit 1
@@ -115,7 +115,7 @@ fi
 "$made/bin/compile" "$top/crates/compile/data/sum.txt" >"$made/compiled.s" &&
     compiled_c compiled "$here/compiled.c" -x assembler "$made/compiled.s"
 
-step "refuse.c compiles" "$cc" -O2 -shared -fPIC -o "$made/refuse.so" "$top/bench/refuse.c" -ldl
+step "refuse.c compiles" "$cc" -O2 -shared -fPIC -o "$made/refuse.so" "$top/tools/refuse.c" -ldl
 REFUSE=$made/refuse.so
 export REFUSE
 transcript >"$made/transcript"

@@ -8,6 +8,6 @@ mod task;
 
 pub use agree::{ROOM, agrees_at_random};
 pub use numbers::Random;
-pub use program::{UNUSABLE, answer};
+pub use program::{UNUSABLE, run_task};
 pub use random::random_program;
 pub use task::{Action, RunOptions, Task};

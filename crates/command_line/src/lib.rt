@@ -66,8 +66,7 @@ fn arg_of<'a>(alloc: Global, row: &Argument) -> Arg<'a> {
 }
 
 impl Commands {
-    /// The command of that name with its arguments, without subcommands. Fails only if memory runs
-    /// out.
+    /// The command `name` with its arguments, without subcommands. Fails only if memory runs out.
     pub fn command<'a>(
         &self,
         alloc: Global,

@@ -10,7 +10,7 @@
 mod command;
 
 use clap::Error;
-use codegen::program::{Task, UNUSABLE, answer};
+use codegen::program::{Task, UNUSABLE, run_task};
 use command::Request;
 use std::env::{self, Env};
 use std::fs::File;
@@ -60,7 +60,7 @@ fn write_answer(rt: &HostRuntime, request: &Request<'_>, status: u8, out: &[u8],
 /// The result is written when all of it is made, so the file that is read may be the one that is written.
 fn write_done(rt: &HostRuntime, request: &Request<'_>, bytes: &[u8]) -> u8 {
     let (mut out, mut err) = (Vec::new(rt.alloc()), Vec::new(rt.alloc()));
-    let status = answer(rt.alloc(), &request.task, bytes, &mut out, &mut err);
+    let status = run_task(rt.alloc(), &request.task, bytes, &mut out, &mut err);
     write_answer(rt, request, status, out.as_slice(), err.as_slice())
 }
 
@@ -102,6 +102,9 @@ fn run(rt: &HostRuntime, words: &[String]) -> u8 {
 fn main(rt: HostRuntime) -> ExitCode {
     ExitCode::from(match words(&rt) {
         Ok(words) => run(&rt, words.as_slice()),
-        Err(_) => UNUSABLE,
+        Err(error) => {
+            let _ = eprintln!(rt; "compile: the arguments can't be read: {error}");
+            UNUSABLE
+        }
     })
 }

@@ -91,8 +91,8 @@ fn write_moves<W: Write>(
 
 /// Writes the call, if those registers are free.
 ///
-/// A move of one class neither reads nor writes what a move of the other one writes: arguments go to the first slots, and come from
-/// others. So the classes follow one another.
+/// A move of one class neither reads nor writes what a move of the other class writes: arguments go to the first slots, and come from
+/// others. Therefore the classes follow one another.
 fn write_call<W: Write>(alloc: Global, out: &mut W, free: &[PReg]) -> io::Result<()> {
     for (class, instruction) in [(RegClass::Int, "mov"), (RegClass::Float, "movsd")] {
         let moves = moves_of(alloc, class)?;

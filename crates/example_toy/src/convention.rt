@@ -25,7 +25,7 @@ pub fn slot(number: u8) -> Allocation {
     Allocation::stack(SpillSlot::new(usize::from(number)))
 }
 
-/// The register of an integer argument, if so many came before it.
+/// The register of the integer argument after `before` others; `None` if it goes to a slot.
 fn int_param(before: u8) -> Option<PReg> {
     match before {
         0 => Some(int(7)),
@@ -38,7 +38,7 @@ fn int_param(before: u8) -> Option<PReg> {
     }
 }
 
-/// The register of a float argument, if so many came before it.
+/// The register of the float argument after `before` others; `None` if it goes to a slot.
 fn float_param(before: u8) -> Option<PReg> {
     if before < 8 {
         Some(xmm(usize::from(before)))
@@ -56,7 +56,7 @@ pub struct Convention {
 }
 
 impl Convention {
-    /// None yet.
+    /// No argument has its place yet.
     pub fn new() -> Convention {
         Convention {
             ints: 0,

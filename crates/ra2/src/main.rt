@@ -25,7 +25,7 @@ fn main(rt: HostRuntime) -> ExitCode {
         // a buffer of no bytes allocates nothing
         Err(_) => BufWriter::with_capacity(rt.alloc(), 0, rt.stdout()).unwrap(),
     };
-    let (status, _) = regalloc2_tool::ra2::answer(
+    let (status, _) = regalloc2_tool::ra2::run_program(
         rt.alloc(),
         rt.alloc(),
         words.as_slice(),

@@ -6,7 +6,7 @@
 //! written.
 #![tactic(auto)]
 
-use regalloc2_tool::ra2_text::{Task, UNUSABLE, answer};
+use regalloc2_tool::ra2_text::{Task, UNUSABLE, perform_task};
 use std::env::{self, Env};
 use std::fs::File;
 use std::io::{self, Read, Write};
@@ -36,12 +36,12 @@ fn perform(rt: &HostRuntime, task: Task<'_>, out: &mut Vec<u8>, err: &mut Vec<u8
         Err(error) => return refuse_file(err, task.path, error),
     };
     let Some(path) = task.other else {
-        return answer(alloc, task, bytes.as_slice(), None, out, err);
+        return perform_task(alloc, task, bytes.as_slice(), None, out, err);
     };
     match bytes_of(rt, path) {
         Ok(other) => {
             let other = Some((path, other.as_slice()));
-            answer(alloc, task, bytes.as_slice(), other, out, err)
+            perform_task(alloc, task, bytes.as_slice(), other, out, err)
         }
         Err(error) => refuse_file(err, path, error),
     }
@@ -78,8 +78,12 @@ fn perform_all(rt: &HostRuntime, task: Task<'_>) -> u8 {
 }
 
 fn main(rt: HostRuntime) -> ExitCode {
-    let Ok(words) = words(&rt) else {
-        return ExitCode::from(UNUSABLE);
+    let words = match words(&rt) {
+        Ok(words) => words,
+        Err(error) => {
+            let _ = eprintln!(rt; "ra2_text: the arguments can't be read: {error}");
+            return ExitCode::from(UNUSABLE);
+        }
     };
     match Task::of(rt.alloc(), words.as_slice()) {
         Ok(task) => ExitCode::from(perform_all(&rt, task)),

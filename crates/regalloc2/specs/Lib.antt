@@ -81,7 +81,7 @@ pub use Rattle.regalloc2_parts.specs.Resolved
 pub use Rattle.regalloc2_parts.specs.Ring
 pub use Rattle.regalloc2_parts.specs.Tracking
 pub use Rattle.regalloc2_parts.specs.Callmoves.CallMoves
-pub use Rattle.regalloc2_steps.specs.Frame
+pub use Rattle.regalloc2_parts.specs.Callmoves.Frame
 pub use Rattle.regalloc2_serialize.specs.Validity
 pub use Rattle.regalloc2_serialize.specs.Decoded
 pub use Rattle.regalloc2_serialize.specs.FromJson

@@ -93,8 +93,7 @@ fn judge<A: Allocator + Copy, F: Function, B: Allocator>(
 /// Allocates registers to a function as [`run`] does, and returns the output only where the checker
 /// accepts it.
 ///
-/// The preconditions are those of `run`, and so are the guarantees about the output. Besides, the
-/// output is faithful, whether or not a path reads or passes a vreg before writing it. If none does, the
+/// Preconditions and guarantees on the output are as in `run`. Besides, the output is faithful, whether or not a path reads or passes a vreg before writing it. If none does, the
 /// checker finds no error, so the only error that it adds is `Unjudged`. `Faults` holds the errors
 /// of an output with all that `run` guarantees of its outputs.
 pub fn run_checked<A: Allocator + Copy, F: Function, B: Allocator>(

@@ -151,7 +151,7 @@ pub fn allocate<A: Allocator + Copy, F: Function, B: Allocator>(
 /// Allocates registers to any function for any machine, as [`allocate`] does, and skips the
 /// checker.
 ///
-/// Tests and errors are those of [`allocate`], but never `Faults` or `Unjudged`. The output has all
+/// Tests and errors are as in [`allocate`], but never `Faults` or `Unjudged`. The output has all
 /// that [`run`] guarantees: it is faithful if no path from the entry reads or passes a vreg before
 /// writing it.
 pub fn allocate_without_checker<A: Allocator + Copy, F: Function, B: Allocator>(

@@ -5,12 +5,17 @@
 -- and `needed_unwritten` in `StepsWalked` say so of what the walk over a tree and the search find; `none_listed` and `lists_none` in `PropagatedToFixpoint` of
 -- the list that needs, passed on, end with. `never_needed` in `ScopedIsWritten`: what is clear at a step isn't needed there. `ChainCut`, `SitesKept` and
 -- `StepsWalked` have the walk over the tree, `SearchedBack` the search. `walked_whole` in `LiveAtBlockBegin` has the upward-exposed uses of one block, and
--- `WalkSteps` its loops; `EdgeLists` says what the lists of edges hold, `PairLists` and `PairSets` of regalloc2_analysis_steps those and the sets of needs.
+-- `WalkSteps` its loops; `EdgeLists`, `PairLists` and `PairSets`: the lists of edges, the list of needs and the
+-- sets of writes. `WritesNoted`: the table of the tree's walk. `NamesAndDefinitions`: one vreg or operand more.
 pub mod LiveAtBlockBegin
 pub mod PropagatedToFixpoint
 pub mod ReadsWrittenDecided
 pub mod WalkSteps
 pub mod EdgeLists
+pub mod NamesAndDefinitions
+pub mod PairLists
+pub mod PairSets
+pub mod WritesNoted
 pub mod ChainCut
 pub mod ScopedIsWritten
 pub mod SitesKept

@@ -16,7 +16,7 @@ marks_then P Q R old mid new long a b either = record {
   marks = λ n lt r. elim ((either n).0 r) [ inl p ↦ b.kept n (a.marks n lt p) | inr q ↦ b.marks n (omega (arith, lt, long)) q ];
 }
 
--- none is marked
+-- no number is marked, where no number is of the kind
 pub marks_nothing : (P : ℕ → Type 0) (old : List Bool) → ((n : ℕ) → P n → ⊥) → Marks P old old
 marks_nothing P old none = record {
   marked = λ n e. inl e;
@@ -24,7 +24,7 @@ marks_nothing P old none = record {
   marks = λ n lt p. absurd (none n p);
 }
 
--- another name of the same numbers
+-- marks of one kind are marks of another kind of the same numbers
 pub marks_same : (P Q : ℕ → Type 0) (old new : List Bool) → ((n : ℕ) → P n ↔ Q n) → Marks P old new → Marks Q old new
 marks_same P Q old new same m = record {
   marked = λ n e. elim (m.marked n e) [ inl was ↦ inl was | inr now ↦ inr (now.0, (same n).0 now.1) ];

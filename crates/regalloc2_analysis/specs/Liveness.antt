@@ -2,6 +2,8 @@
 -- Read first: `IsNeeded` in `LiveIn`, then `IsScoped` in `Scopes`, a tree of blocks; `Propagation` follows edges.
 -- Depends on definite assignment (`IsWrittenFirst`) of regalloc2_function and on `Blocks` of regalloc2_semantics.
 pub mod Edges
+pub mod BlockVRegPairs
+pub mod Sites
 pub mod LiveIn
 pub mod Propagation
 pub mod BlockWalk

@@ -1,24 +1,24 @@
 //! What the branches of a function define, and which blocks they lead to.
 //!
 //! The tables are made once, before a walk, which then looks up and never searches: by which branch a vreg is
-//! defined, on which edge a block is entered whose predecessor's branch defines, and which of those definitions are stored. Where
-//! no branch defines they are empty. Upstream has nothing of the kind: it stores what a branch defines after the branch.
+//! defined, on which edge a block is entered whose predecessor's branch defines, and which definitions are stored. The tables
+//! are empty if no branch defines. Upstream has nothing of the kind: it stores what a branch defines after the branch.
 
 mod edges;
 mod sites;
 mod uses;
 
-ghost use Rattle.std.specs.Prelude.{◌≡◌, ◌≤◌, ◌↔◌, ℕ, Some, length, IsTrue, IfOk, IfErr};
+ghost use Rattle.std.specs.Prelude.{◌≡◌, ◌≤◌, ◌<◌, ◌↔◌, ℕ, Some, length, IsTrue, IfOk, IfErr};
+ghost use Rattle.regalloc2_names.specs.Point.{before, inst_limit};
 ghost use Rattle.regalloc2_analysis.specs.BranchDefs.BranchDefs.{HasDefinitions, MayHaveTables};
 ghost use Rattle.regalloc2_analysis.specs.BranchDefs.BranchDefs.{fixed_definition as fixed_definition_of};
 ghost use Rattle.regalloc2_analysis.specs.BranchDefs.Tables.{AreBranchDefsOf, edge_of, site_of, stored_of};
 
 use edges::{edges_into, some_branch_defines};
-pub use regalloc2_analysis_steps::edges::EdgeInto;
 use regalloc2_function::Function;
 use regalloc2_function::table_length::table_length;
 use regalloc2_index::{Block, Inst};
-use regalloc2_names::{Operand, OperandConstraint, PReg, RegAllocError, VReg};
+use regalloc2_names::{Operand, OperandConstraint, PReg, PRegSet, ProgPoint, RegAllocError, VReg};
 use sites::{branch_sites, site_in};
 use std::alloc::Allocator;
 use uses::used_elsewhere;
@@ -30,6 +30,35 @@ pub struct DefSite {
     pub branch: Inst,
     /// The index among its operands.
     pub index: usize,
+}
+
+/// The edge into a block from a branch that defines.
+#[derive(Clone, Copy)]
+pub struct EdgeInto {
+    /// The block that the branch ends.
+    pub from: Block,
+    /// The branch.
+    pub branch: Inst,
+    /// The position of the block among the successors.
+    pub position: usize,
+    /// The registers to which definitions of the branch are fixed.
+    pub held: PRegSet,
+    /// Where the branch's operands begin in the list of stored operands.
+    pub first: usize,
+    /// Where the branch's operands end in the list.
+    pub end: usize,
+}
+
+impl EdgeInto {
+    /// The point at which the block that the edge leads to stores what the branch defines: its own
+    /// beginning, since nothing may follow the branch in its block.
+    #[inline(always)]
+    pub fn store_point(&self, first: Inst) -> ProgPoint
+        requires { first < inst_limit }
+        ensures { result ≡ before first }
+    {
+        ProgPoint::before(first)
+    }
 }
 
 /// What branches define.
@@ -95,7 +124,7 @@ impl<A: Allocator> BranchDefs<A> {
         site_in(&self.sites, vreg)
     }
 
-    /// Whether that branch defines a vreg.
+    /// Whether `branch` defines `vreg`.
     pub fn is_defined_by(&self, vreg: VReg, branch: Inst) -> bool
         ensures { IsTrue result ↔ ((k : ℕ) × (site_of self.now vreg.number ≡ Some (record { branch = branch; index = k }))) }
     {

@@ -5,3 +5,4 @@
 pub mod branch_defs;
 pub mod live_ranges;
 pub mod liveness;
+mod marks;

@@ -19,7 +19,7 @@ pub use labels::{kept_labels, kept_labels_by};
 pub use walk::live_ranges;
 pub use wanted::{is_wanted, marked_labels};
 
-/// An operand of the function: its instruction, and its index among the operands of that.
+/// An operand of the function: its instruction, and its index among the instruction's operands.
 #[derive(Clone, Copy)]
 pub struct InstOperand {
     /// The instruction.

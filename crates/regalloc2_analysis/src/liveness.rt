@@ -2,8 +2,11 @@
 
 mod chain;
 mod edges;
+mod needs;
 mod reads;
 mod search;
+mod sets;
+mod sites;
 mod tree_walk;
 mod trees;
 mod walk;

@@ -28,7 +28,7 @@ impl Shape {
         }
     }
 
-    /// The slot that a slot's value goes to, if there are so many moves.
+    /// The slot to which the value of slot `from` goes, among `many` moves.
     fn target(self, from: usize, many: usize) -> usize
         requires { from ≤ MOST }
         ensures { result ≤ from + 1 }
@@ -43,7 +43,7 @@ impl Shape {
     }
 }
 
-/// So many moves of a shape.
+/// `many` moves of a `shape`.
 fn moves_of(
     alloc: Global,
     shape: Shape,
@@ -60,7 +60,7 @@ fn moves_of(
     Ok(moves)
 }
 
-/// Whether moves were scheduled so many times, without a free register, so through a borrowed one and two slots.
+/// Whether `moves` were scheduled `times` times, without a free register, so through a borrowed one and two slots.
 fn is_repeated(alloc: Global, moves: &[(Allocation, Allocation)], many: usize, times: usize) -> bool
     requires { many ≤ MOST }
 {
@@ -78,7 +78,7 @@ fn is_repeated(alloc: Global, moves: &[(Allocation, Allocation)], many: usize, t
     true
 }
 
-/// Whether so many moves of a shape were scheduled so many times.
+/// Whether `many` moves of a `shape` were scheduled `times` times.
 pub fn is_scheduled(alloc: Global, shape: Shape, many: usize, times: usize) -> bool {
     if many > MOST {
         return false;

@@ -1,12 +1,12 @@
-//! `regalloc2_bench`: reads a stored function, allocates it, and then does a task with it so many times, for counting what
+//! `regalloc2_bench`: reads a stored function, allocates it, and then does a task with it several times, to count what
 //! one time costs.
 //!
 //! Arguments: the task, and how many times. `allocate` allocates without testing that the function
 //! is well-formed, `test` with those tests, `check` checks the output, `reads` tests whether reads
 //! come after writes, `tree` tests the same by the dominator tree and one search alone, which fails
 //! where they leave it open, and `tested` is `run_tested`. The function is read from the standard
-//! input. Or `callmoves-cycle` or `callmoves-swaps`, how many times, and of how many moves: those
-//! of a call are scheduled, in one cycle or in swaps. `docs/BENCH.md` says how to measure.
+//! input. Or `callmoves-cycle` or `callmoves-swaps`, how many times, and of how many moves: a call's
+//! moves are scheduled, in one cycle or in swaps. `docs/BENCH.md` says how to measure.
 #![tactic(auto)]
 
 mod calls;
@@ -31,7 +31,7 @@ fn words(rt: &(impl Env + AllocGlobal)) -> std::io::Result<Vec<String>> {
 enum Measure {
     /// A task with the function that is read.
     Function(Task, usize),
-    /// To schedule so many moves of a call.
+    /// To schedule a call's moves: their shape, how many times, and how many moves.
     Call(Shape, usize, usize),
 }
 
@@ -45,7 +45,7 @@ fn measure_of(words: &[String]) -> Option<Measure> {
     Some(Measure::Function(Task::of(word)?, times))
 }
 
-/// Whether a function was read from the input, and the task done with it so many times.
+/// Whether a function was read from `input`, and `task` done with it `times` times.
 fn is_measured<R: Read + Drop>(alloc: Global, input: R, task: Task, times: usize) -> bool {
     match read_function(alloc, input) {
         Some(f) => is_performed(alloc, task, times, &f, f.machine_env()),

@@ -41,6 +41,7 @@ mod NumberCells
 mod PlacesListed
 mod ErrorsOnPaths
 mod AddedSlots
+mod OnePlace
 mod NextVRegs
 mod SweptSlots
 mod OutputItems

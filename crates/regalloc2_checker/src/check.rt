@@ -23,7 +23,6 @@ use crate::listing::Listing;
 use crate::lookup::place_at;
 use crate::transfer::{go_to_early, go_to_late};
 use crate::vregs_in::{holds, vregs_in};
-use regalloc2_checker_steps::operands::is_judged_at;
 use regalloc2_function::{Edit, Function};
 use regalloc2_index::{Block, Inst};
 use regalloc2_names::{Allocation, Operand, OperandPos, PRegSet, ProgPoint};
@@ -129,7 +128,7 @@ fn check_position<A: Allocator + Copy>(
 {
     let operands = at.operands;
     for k in 0..operands.len() {
-        if !is_judged_at(operands, k, position) {
+        if !operands[k].is_at(position) {
             continue;
         }
         let fault = check_operand(alloc, values, slots, at, k)?;

@@ -13,7 +13,6 @@ ghost use Rattle.regalloc2_checker.specs.FramedIsProp.{framed-once};
 use crate::errors::{CheckerError, CheckerErrors};
 use crate::find_errors::find_errors;
 use crate::handle::handle_output;
-use regalloc2_checker_steps::verdict::{alone, refuse_unless, verdict};
 use regalloc2_function::{Function, MachineEnv, Output};
 use std::alloc::{Allocator, Global};
 
@@ -59,6 +58,16 @@ pub struct Checker<'a, F: Function, A: Allocator = Global, B: Allocator = Global
     ghost room_for_one: { 0 < vec_capacity room },
 }
 
+/// The list of `error` alone, in `room` that was taken for it before.
+fn alone<E: Drop, A: Allocator>(mut room: Vec<E, A>, error: E) -> Vec<E, A>
+    requires empty { vec_len room ≡ 0 }
+    requires space { 0 < vec_capacity room }
+    ensures { result.items ≡ error ∷ [] }
+{
+    room.push_reserved(error);
+    room
+}
+
 impl<'a, F: Function, A: Allocator + Copy, B: Allocator> Checker<'a, F, A, B> {
     ghost use Rattle.regalloc2_checker.specs.ErrorsFound.{errors_of};
     ghost use Rattle.regalloc2_checker.specs.Prepared.{subject_of, machine_in, output_in};
@@ -99,7 +108,9 @@ impl<'a, F: Function, A: Allocator + Copy, B: Allocator> Checker<'a, F, A, B> {
             ⊎ ((e ≡ CheckerError.Memory) × IsInOrder (F.function (subject_of self.old)) (output_of out.now)))) }
     {
         self.prepared = None;
-        refuse_unless(out.is_in_order(self.f), CheckerError::MalformedOutput)?;
+        if !out.is_in_order(self.f) {
+            return Err(CheckerError::MalformedOutput);
+        }
         match handle_output(self.alloc, out) {
             Ok(copy) => {
                 self.prepared = Some(copy);
@@ -146,9 +157,10 @@ impl<'a, F: Function, A: Allocator + Copy, B: Allocator> Checker<'a, F, A, B> {
             ⊎ ((IsFaithful (F.function (subject_of self.entry)) (machine_in self.entry) o → ⊥)
             × IsReport (F.function (subject_of self.entry)) (machine_in self.entry) o (errors_of es))) }
     {
-        match verdict(self.found()) {
-            Ok(()) => Ok(()),
-            Err(errors) => Err(CheckerErrors::of(errors)),
+        let errors = self.found();
+        if errors.is_empty() {
+            return Ok(());
         }
+        Err(CheckerErrors::of(errors))
     }
 }

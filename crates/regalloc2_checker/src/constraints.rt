@@ -10,7 +10,6 @@ ghost use Rattle.regalloc2_checker.specs.Report.{IsConstraintFault};
 
 use crate::errors::CheckerError;
 use crate::lookup::place_at;
-use regalloc2_checker_steps::operands::is_reused;
 use regalloc2_function::MachineEnv;
 use regalloc2_index::Inst;
 use regalloc2_names::{Allocation, Operand, OperandConstraint, PRegSet};
@@ -59,7 +58,7 @@ fn is_numbered_below(place: Allocation, bound: usize) -> bool
     }
 }
 
-/// The error of a reuse of the operand with an index, if the place doesn't meet it.
+/// The error of a reuse of operand `index`, of `count` operands, if the place `alloc` doesn't meet it.
 fn check_reuse<A: Allocator>(
     inst: Inst,
     op: Operand,
@@ -77,14 +76,15 @@ fn check_reuse<A: Allocator>(
     if index >= count {
         return Some(CheckerError::ConstraintViolated { inst, op, alloc });
     }
-    if is_reused(alloc, places, index) {
+    let expected_alloc = place_at(places, index);
+    if alloc.is_same(expected_alloc) {
         return None;
     }
     Some(CheckerError::AllocationIsNotReuse {
         inst,
         op,
         alloc,
-        expected_alloc: place_at(places, index),
+        expected_alloc,
     })
 }
 

@@ -14,7 +14,6 @@ ghost use Rattle.regalloc2_checker.specs.Propagation.{over};
 use crate::PassingTables;
 use crate::queue::Queue;
 use crate::transfer::take_arguments;
-use regalloc2_checker_steps::edges::edge_arguments;
 use regalloc2_function::Function;
 use regalloc2_index::Block;
 use std::alloc::{AllocError, Allocator};
@@ -45,7 +44,7 @@ pub fn transfer_edge<F: Function, A: Allocator + Copy>(
 {
     let target = f.block_succs(block)[position];
     let params = f.block_params(target);
-    let arguments = edge_arguments(f, block, position);
+    let arguments = f.branch_blockparams(block, f.block_insns(block).last(), position);
     let is_entered_once = f.block_preds(target).len() == 1;
     take_arguments(alloc, values, params, arguments, is_entered_once)?;
     Ok(())

@@ -18,6 +18,7 @@ pub mod lookup;
 mod named_slots;
 mod names;
 mod number_list;
+mod one_place;
 mod order;
 mod passing;
 mod place_list;

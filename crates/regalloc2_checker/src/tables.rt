@@ -17,13 +17,13 @@ ghost use Rattle.regalloc2_checker_sets.specs.Homes.{AreMoreHomes};
 ghost use Rattle.regalloc2_checker.specs.Holding.{is_in, AreKeptTables, HoldsNow, IsHome};
 ghost use Rattle.regalloc2_checker.specs.Holding.{LosesSome, IsMetBetween};
 
+use crate::one_place::{drop_at, meet_at};
 use regalloc2_checker_sets::Positions;
 use regalloc2_checker_sets::entries::Entries;
 use regalloc2_checker_sets::homes::{Home, Homes};
 use regalloc2_checker_sets::place_positions::PlacePositions;
 use regalloc2_checker_sets::sets::Sets;
 use regalloc2_checker_sets::unused_sets::drop_unused_sets;
-use regalloc2_checker_steps::sets::{drop_at, meet_at};
 use regalloc2_function::indexset::IndexSet;
 use regalloc2_names::Allocation;
 use std::alloc::{AllocError, Allocator};

@@ -12,7 +12,6 @@ ghost use Rattle.regalloc2_checker.specs.Renamed.{facts_renamed, HoldersAre, Are
 
 use crate::PassingTables;
 use crate::lookup::{place_at, position, vreg_position};
-use regalloc2_checker_steps::moves::{MoveEffect, move_effect};
 use regalloc2_function::Edit;
 use regalloc2_names::{Allocation, Operand, PRegSet, ProgPoint, VReg};
 use std::alloc::{AllocError, Allocator};
@@ -32,17 +31,14 @@ fn make_move<A: Allocator + Copy>(
     ensures kept { OnOk result (AreTablesKept values.old values.new) }
     ensures now { OnOk result (facts_now values.new ≡ placed to (facts_now values.old from) (facts_now values.old)) }
 {
-    match move_effect(position(values, from), position(values, to)) {
-        MoveEffect::Nothing => Ok(()),
-        MoveEffect::Clears(target) => {
-            values.clear(target);
-            Ok(())
-        }
-        MoveEffect::Copies(source, target) => {
-            values.copy(source, target)?;
-            Ok(())
-        }
+    let Some(target) = position(values, to) else {
+        return Ok(());
+    };
+    match position(values, from) {
+        Some(source) => values.copy(source, target)?,
+        None => values.clear(target),
     }
+    Ok(())
 }
 
 /// Makes the moves, one by one.

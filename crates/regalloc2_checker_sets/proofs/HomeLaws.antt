@@ -6,6 +6,7 @@ use Rattle.std.specs.Option.{is_some, option_map}
 use Rattle.std.specs.Int.{bit_at}
 use Rattle.std.proofs.lemmas.Bool.{cases_eq, lt-ltb as below, ne_eqb, true≢false}
 use Rattle.std.proofs.lemmas.Bool.Decides.{nat_tests}
+use Rattle.std.proofs.Math.Bool.{or-true}
 use Rattle.std.proofs.lemmas.List.{append-nil}
 use Rattle.std.proofs.lemmas.Nat.Bits.{bit_at-lt, bit_at-zero, bit_at_set_same, bit_at_set_other}
 use Rattle.regalloc2_function.specs.Numbers.{NumberSet, has_number, word_of, times_listed}
@@ -234,6 +235,21 @@ pub more-same : (m : MorePlaces) (others : NumberSet) → ((i : ℕ) → has_num
     has_more (record m { others = others }) i ≡ has_more m i
 unfolding has_more
 more-same m others e i = ap (λ b. is_one_of m.numbers i || b) (e i)
+
+-- with all that the set had, and others, there are more places
+pub more-others : (m : MorePlaces) (others : NumberSet) → ((i : ℕ) → has_number m.others i ≡ true → has_number others i ≡ true) → (i : ℕ) →
+    has_more m i ≡ true → has_more (record m { others = others }) i ≡ true
+unfolding has_more
+more-others m others h i is = by (is_one_of m.numbers i) (has_number m.others i) (has_number others i) (h i) is
+  where
+    by : (a b c : Bool) → (b ≡ true → c ≡ true) → (a || b) ≡ true → (a || c) ≡ true
+    by true b c f e = refl
+    by false b c f e = f e
+
+-- a place of the set is one of more places
+pub more-there : (m : MorePlaces) (i : ℕ) → has_number m.others i ≡ true → has_more m i ≡ true
+unfolding has_more
+more-there m i is = ap (λ b. is_one_of m.numbers i || b) is ∙ or-true (is_one_of m.numbers i)
 
 -- a number that stands for none is walked past
 pub walked-none : (ns rest whole : List ℕ) (n : ℕ) → ns ≡ n ∷ rest → n ≡ 0 → places_list ns ≡ whole → places_list rest ≡ whole

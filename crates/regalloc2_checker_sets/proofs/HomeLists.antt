@@ -67,6 +67,16 @@ places-set_same more k m less h e = entry-kept more (slice_set more k m) e (λ i
   | inr n ↦ ap (λ (p : MorePlaces). has_more p i) (get_or-set_other more k e.index m no_more n) ∙ is
 ])
 
+-- or more places, which have those that were there
+pub places-put : (more : List MorePlaces) (k : ℕ) (m : MorePlaces) → k < length more →
+    ((i : ℕ) → has_more (get_or more k no_more) i ≡ true → has_more m i ≡ true) → AreMorePlaces more (slice_set more k m)
+places-put more k m less h e = entry-kept more (slice_set more k m) e (λ i is. elim (cases_eq e.index k) [
+  | inl q ↦
+      ap (λ (p : MorePlaces). has_more p i) (ap (λ n. get_or (slice_set more k m) n no_more) q ∙ get_or-set_same more k m no_more less)
+      ∙ h i (ap (λ n. has_more (get_or more n no_more) i) (sym q) ∙ is)
+  | inr n ↦ ap (λ (p : MorePlaces). has_more p i) (get_or-set_other more k e.index m no_more n) ∙ is
+])
+
 -- a home whose index is past the last gets another
 pub entry-moved : (old new : List MorePlaces) (e : HomeEntry) (k : ℕ) → length old ≤ e.index → IsMoreHome (home_of old e) (home_of new (record e { index = k }))
 entry-moved old new e k past i is =
@@ -90,6 +100,14 @@ entry-set more k place m e less at h =
     entry-has (slice_set more k m) e place (
     ap (λ (p : MorePlaces). has_more p place) (ap (λ n. get_or (slice_set more k m) n no_more) at ∙ get_or-set_same more k m no_more less)
     ∙ h place ∙ ap (λ b. cond b true (has_more (get_or more k no_more) place)) (eq-eqb place place refl)
+    )
+
+-- so it is where it is one of those that were put at the home's index
+pub entry-put : (more : List MorePlaces) (k place : ℕ) (m : MorePlaces) (e : HomeEntry) → k < length more → e.index ≡ k → has_more m place ≡ true →
+    has_home (home_of (slice_set more k m) e) place ≡ true
+entry-put more k place m e less at h =
+    entry-has (slice_set more k m) e place (
+    ap (λ (p : MorePlaces). has_more p place) (ap (λ n. get_or (slice_set more k m) n no_more) at ∙ get_or-set_same more k m no_more less) ∙ h
     )
 
 -- a place that is added to the mask, or as one of the two

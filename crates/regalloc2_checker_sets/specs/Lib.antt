@@ -8,3 +8,4 @@ pub mod Held
 pub mod Homes
 pub mod PlaceEntries
 pub mod Renumbering
+pub mod PassedSets

@@ -268,7 +268,7 @@ impl<A: Allocator + Copy> Entries<A> {
     }
 
     /// Writes numbers, from a position on.
-    fn write_all(&mut self, first: usize, numbers: &[u32])
+    pub fn write_all(&mut self, first: usize, numbers: &[u32])
         requires small { first < 2 ^ 63 }
         requires within { first + length numbers.now ≤ length self.old.cells }
         ensures { AreWrittenTo numbers.now first (length numbers.now) self.old self.new }

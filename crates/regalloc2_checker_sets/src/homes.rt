@@ -129,6 +129,35 @@ fn add_other<A: Allocator + Copy>(
     Ok(())
 }
 
+/// Adds places to the set, which is made if there is none yet.
+fn add_others<A: Allocator + Copy>(
+    alloc: A,
+    others: &mut Option<Box<IndexSet<A>, A>>,
+    places: &IndexSet<A>,
+) -> Result<(), AllocError>
+    ensures kept { (i : ℕ) → has_number (set_in (option_map (λ b. b.value) others.old)) i ≡ true
+        → has_number (set_in (option_map (λ b. b.value) others.new)) i ≡ true }
+    ensures added { OnOk result ((i : ℕ) → has_number places.now i ≡ true → has_number (set_in (option_map (λ b. b.value) others.new)) i ≡ true) }
+{
+    if let Some(set) = others {
+        let _is_more = set.union_with(places)?;
+        return Ok(());
+    }
+    let mut set = IndexSet::new(alloc);
+    set.assign(places)?;
+    *others = Some(Box::new(alloc, set)?);
+    Ok(())
+}
+
+/// How many places a set has.
+fn count_of<A: Allocator + Copy>(places: &IndexSet<A>) -> usize {
+    let mut count: usize = 0;
+    for _place in places.iter() {
+        count = count.saturating_add(1);
+    }
+    count
+}
+
 /// Whether a number may be put where one is: over the same, or over a 0.
 fn is_room_for(had: u32, number: u32) -> bool
     ensures yes { result ≡ true → (had ≡ 0) ⊎ (had ≡ number) }
@@ -208,6 +237,18 @@ impl<A: Allocator + Copy> More<A> {
             return add_other(alloc, &mut self.others, place);
         };
         self.numbers[n] = number;
+        Ok(())
+    }
+
+    /// Adds the places of a set.
+    fn add_all(&mut self, alloc: A, places: &IndexSet<A>) -> Result<(), AllocError>
+        ensures kept { (i : ℕ) → has_more self.old i ≡ true → has_more self.new i ≡ true }
+        ensures added { OnOk result ((i : ℕ) → has_number places.now i ≡ true → has_more self.new i ≡ true) }
+    {
+        add_others(alloc, &mut self.others, places)?;
+        if let Some(set) = set_of(&self.others) {
+            self.count = count_of(set);
+        }
         Ok(())
     }
 }
@@ -299,6 +340,22 @@ fn add_more<A: Allocator + Copy>(
     let index = index_of(more, entry)?;
     let places = &mut more[index];
     places.add(alloc, place)
+}
+
+/// Adds the places of a set to a home's more places.
+fn add_all_more<A: Allocator + Copy>(
+    alloc: A,
+    more: &mut Vec<More<A>, A>,
+    entry: &mut Entry,
+    places: &IndexSet<A>,
+) -> Result<(), AllocError>
+    ensures others { AreMorePlaces more.old.items more.new.items }
+    ensures kept { IsMoreHome (home_of more.old.items entry.old) (home_of more.new.items entry.new) }
+    ensures added { OnOk result ((i : ℕ) → has_number places.now i ≡ true → has_home (home_of more.new.items entry.new) i ≡ true) }
+{
+    let index = index_of(more, entry)?;
+    let more_places = &mut more[index];
+    more_places.add_all(alloc, places)
 }
 
 /// More places at an index, if it is not past the last.
@@ -449,5 +506,14 @@ impl<A: Allocator + Copy> Homes<A> {
             return Ok(());
         }
         add_more(self.alloc, &mut self.more, entry, place)
+    }
+    /// Adds the places of a set, where a vreg may be.
+    pub fn add_all(&mut self, vreg: usize, places: &IndexSet<A>) -> Result<(), AllocError>
+        requires { vreg < length self.old }
+        ensures more { AreMoreHomes self.old self.new }
+        ensures noted { OnOk result ((i : ℕ) → has_number places.now i ≡ true → has_home (get_or self.new vreg no_homes) i ≡ true) }
+    {
+        let entry = &mut self.entries[vreg];
+        add_all_more(self.alloc, &mut self.more, entry, places)
     }
 }

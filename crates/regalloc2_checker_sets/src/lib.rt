@@ -5,6 +5,7 @@ pub mod entries;
 pub mod homes;
 mod kept_set;
 mod notes;
+pub mod passed_sets;
 pub mod place_positions;
 mod positions;
 pub mod sets;

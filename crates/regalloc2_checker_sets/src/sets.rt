@@ -1,8 +1,9 @@
 //! Sets of the bits of vregs, which are never changed once they are made.
 
 ghost use Rattle.std.specs.Prelude.{◌≡◌, ℕ, ◌<◌, ◌≤◌, ◌+◌, true, false, ◌&&◌, ◌||◌, nat_eq, if◌then◌else◌, length, get_or, IfOk, OnErr};
+ghost use Rattle.std.specs.Prelude.{min};
 ghost use Rattle.std.specs.Bool.{OnTrue, OnFalse};
-ghost use Rattle.regalloc2_checker_sets.specs.EntrySets.{has_bits, is_member, AreMore, IsSetOf, ListsBits, IsLess, IsChangeOf, IsMeetOf};
+ghost use Rattle.regalloc2_checker_sets.specs.EntrySets.{has_bits, is_member, AreMore, IsSetOf, ListsBits, IsLess, IsChangeOf, IsMeetOf, taken_from};
 ghost use Rattle.regalloc2_checker_sets.specs.Renumbering.{AreMovedDown, AreMarkedKept};
 
 use crate::kept_set::Kept;
@@ -677,6 +678,43 @@ impl<A: Allocator + Copy> Sets<A> {
             return Ok(number);
         }
         self.new_common(set, other)
+    }
+
+    /// A copy of a set in which each parameter is a member if its argument is one of the set. Of equal parameters the last
+    /// one counts.
+    fn passed_copy(
+        &self,
+        set: u32,
+        params: &[u32],
+        arguments: &[u32],
+    ) -> Result<IndexSet<A>, AllocError>
+        requires { set < length self.now }
+        ensures { IfOk result (λ s. (y : ℕ) → has_bits s y
+            ≡ is_member self.now set (taken_from params.now arguments.now (min (length params.now) (length arguments.now)) y)) }
+    {
+        let mut copy = self.copied(set)?;
+        for k in 0..params.len().min(arguments.len()) {
+            let is_in = self.has(set, arguments[k]);
+            copy.set(params[k] as usize, is_in)?;
+        }
+        Ok(copy)
+    }
+
+    /// The number of a set in which each parameter is a member if its argument is one of the set, and all else is as there.
+    pub fn passed(
+        &mut self,
+        set: u32,
+        params: &[u32],
+        arguments: &[u32],
+    ) -> Result<u32, AllocError>
+        requires { set < length self.old }
+        ensures more { AreMore self.old self.new }
+        ensures found { IfOk result (λ n. IsSetOf self.new n
+            (λ y. is_member self.old set (taken_from params.now arguments.now (min (length params.now) (length arguments.now)) y))) }
+    {
+        let _ = &self.kept;
+        let copy = self.passed_copy(set, params, arguments)?;
+        self.settle(copy)
     }
 
     /// How many words the kept sets take.

@@ -36,21 +36,21 @@ use Rattle.regalloc2_fastalloc_proofs.specs.BlockSteps.{AllocsBlocks}
 use Rattle.regalloc2_fastalloc_proofs.proofs.Moves.ScratchRegTaken.{Fit}
 use Rattle.regalloc2_fastalloc_proofs.proofs.Walk.InstsCarry.{AreListed, Blank}
 use Rattle.regalloc2_fastalloc_proofs.proofs.Safety.InstsKeepSafe.{WritesFrom, WalkKept}
-use Rattle.regalloc2_fastalloc_proofs.proofs.Safety.OutputOfWalk.{IsMade, made_in_order, place_is}
+use Rattle.regalloc2_fastalloc_proofs.proofs.Safety.OutputOfWalk.{IsOutputOfWalk, made_in_order, place_is}
 use Rattle.regalloc2_fastalloc_proofs.proofs.Safety.BlocksKeepSafe.{MayInBlocks}
 use Rattle.regalloc2_fastalloc_proofs.proofs.Safety.FunctionKeepsSafe.{SafeWithin, made_none_at_end, walk_blocks_good, walk_safe, FreshWalk}
-use Rattle.regalloc2_fastalloc_proofs.proofs.Walk.InstBoundaries.{allocs_blocks_outside, kept_of}
+use Rattle.regalloc2_fastalloc_proofs.proofs.Walk.InstBoundaries.{allocs_blocks_outside, kept_code_of}
 use Rattle.regalloc2_fastalloc_proofs.proofs.Branches.LocationsAfterBranch.{branch_kept}
 use Rattle.regalloc2_fastalloc_proofs.proofs.Walk.AllBlocksCarry.{begin_between}
 use Rattle.regalloc2_fastalloc_proofs.proofs.Safety.BranchArgsKeepState.{processes_branch_between}
 use Rattle.regalloc2_fastalloc_proofs.proofs.Slots.InstsLeaveSlots.{writes_sound_in}
 use Rattle.regalloc2_fastalloc_proofs.proofs.BlockEnd.NoMoveForOperand.{IsOutside}
 use Rattle.regalloc2_fastalloc_proofs.proofs.Branches.Arrivals.{Arrive, left_at}
-use Rattle.regalloc2_fastalloc_proofs.proofs.Branches.PlacesOnArrival.{arrives, live_needed, live_used, stand_on}
+use Rattle.regalloc2_fastalloc_proofs.proofs.Branches.PlacesOnArrival.{vregs_arrive, live_needed, live_used, stand_on}
 use Rattle.regalloc2_fastalloc_proofs.specs.Safety.{IsWhole}
 use Rattle.regalloc2_fastalloc_proofs.proofs.Safety.StepsKeepState.{slot_in}
 use Rattle.regalloc2_fastalloc_proofs.proofs.Operands.RecordOverState.{slots_at, opt_some}
-use Rattle.regalloc2_fastalloc_proofs.proofs.Operands.AllocsSoFar.{IsTame}
+use Rattle.regalloc2_fastalloc_proofs.proofs.Operands.AllocsSoFar.{AreSoundOperands}
 use Rattle.regalloc2_fastalloc_proofs.proofs.Slots.SlotsOwned.{owner_known}
 use Rattle.regalloc2_fastalloc_proofs.proofs.Walk.BlocksCarryFromFreshState.{at_walks_end, blocks_carry, used_slots, walk_places_defs}
 use Rattle.regalloc2_fastalloc_proofs.proofs.Inst.ProperInsts.{all_proper}
@@ -74,7 +74,7 @@ is_numbered count (InSlot n) h there = refl
 
 module _ (walk : WholeWalk) (taken : AreTaken walk.f) (in_place : (i : ℕ) → i < length walk.f.insts → BranchDefinesInPlace (inst_at walk.f i))
     (safe : SafeWithin walk.env walk.f walk.blank walk.begin walk.out.allocs)
-    (m : IsMade walk.f walk.env (Made walk.f) (MayInBlocks walk.f) walk.last walk.out) where
+    (m : IsOutputOfWalk walk.f walk.env (Made walk.f) (MayInBlocks walk.f) walk.last walk.out) where
   open walk use {env, f, limited, ok, blank, begin, last, out, empty, fit, walks}
 
   are_listed : AreListed f (allocs_of out) 0 out.allocs
@@ -110,11 +110,11 @@ module _ (walk : WholeWalk) (taken : AreTaken walk.f) (in_place : (i : ℕ) → 
   made_blocks_agree written = blocks_agree_in_places_by_points f out standing (well_formed_are_sound env f ok) written made_rising blocks_quiet
       (λ b reached. made_blocks_carry b)
 
-  -- and each vreg that is live where a path comes to a block is in its current location there
+  -- each vreg that is live where a path comes to a block is in its current location there
   pub made_live_stand : IsWrittenFirst f → LiveStandInPlaces f out standing
   made_live_stand written = live_stand_in_places env f out standing ok written made_rising blocks_quiet (λ b reached. made_blocks_carry b)
 
-  -- it has a slot
+  -- a vreg that is live where a path comes to a block has a slot
   pub made_live_slots : IsWrittenFirst f → (ws : List Way) → IsPath f ws → HasEntered f ws → (v : VirtualRegister) → IsLive f v (end_of f ws) →
       slot_in last v.number ≢ NoPlace
   made_live_slots written ws path entered v live = used_slots walk (processes_branch_between f) v
@@ -122,10 +122,10 @@ module _ (walk : WholeWalk) (taken : AreTaken walk.f) (in_place : (i : ℕ) → 
 
   -- all as `run` guarantees it
   pub made_in_slots : (owns : OwnsSlots (Made f) f last.slots out) → SlotsHaveOneOwner last.slots →
-      ((i : ℕ) → i < length f.insts → IsTame (Made f) (inst_at f i).operands) → IsWrittenFirst f → LiveInSlots f out owns.owned.owner
-  made_in_slots owns owned tame written = record {
+      ((i : ℕ) → i < length f.insts → AreSoundOperands (Made f) (inst_at f i).operands) → IsWrittenFirst f → LiveInSlots f out owns.owned.owner
+  made_in_slots owns owned sound_ops written = record {
     slot = λ v. number_of (slot_in last v.number);
-    operands = λ v n h. ap number_of (owner_known f env (Made f) (MayInBlocks f) last out m owned tame v n h).1;
+    operands = λ v n h. ap number_of (owner_known f env (Made f) (MayInBlocks f) last out m owned sound_ops v n h).1;
     owned = λ ws path entered v live.
         let used = live_is_used env f ok written ws path entered v live in
         owns.vregs v (number_of (slot_in last v.number)) (used_made f ok.defined_once ok.follow ok.uses_defined v used.block used.within used.used)
@@ -137,7 +137,7 @@ module _ (walk : WholeWalk) (taken : AreTaken walk.f) (in_place : (i : ℕ) → 
       whole = (at_walks_end walk (processes_branch_between f)).whole
 
       arrive : Arrive f (allocs_of out) (slots_at last) standing
-      arrive = arrives env f ok (allocs_of out) (slots_at last)
+      arrive = vregs_arrive env f ok (allocs_of out) (slots_at last)
 
       by_arrival : (ws : List Way) → IsPath f ws → HasEntered f ws → (v : VirtualRegister) → IsLive f v (end_of f ws) → (p : Place) →
           ArrivesAt f out (λ w. number_of (slot_in last w.number)) (end_of f ws).block v p → HoldsValueAt f out ws p v
@@ -155,12 +155,12 @@ module _ (walk : WholeWalk) (taken : AreTaken walk.f) (in_place : (i : ℕ) → 
           (made_live_stand written ws path entered v q live (at ∙ opt_some q there))
 
   -- the place by which a label's vreg is shown holds its value
-  pub made_label_shown : MachineFits f env → SlotsHaveOneOwner last.slots → ((i : ℕ) → i < length f.insts → IsTame (Made f) (inst_at f i).operands) →
+  pub made_label_shown : MachineFits f env → SlotsHaveOneOwner last.slots → ((i : ℕ) → i < length f.insts → AreSoundOperands (Made f) (inst_at f i).operands) →
       IsWrittenFirst f → (l : Label) (r : LiveRange) → IsKeptRange f l r →
       ShowsValue f out l.vreg (shown_place out (slot_name last.slots r.vreg.number) r.by)
-  made_label_shown fits owned tame written l r k =
-      (label_shown walk m fits written owned tame (made_blocks_agree written) standing (record {
-        arrive = arrives env f ok (allocs_of out) (slots_at last);
+  made_label_shown fits owned sound_ops written l r k =
+      (label_shown walk m fits written owned sound_ops (made_blocks_agree written) standing (record {
+        arrive = vregs_arrive env f ok (allocs_of out) (slots_at last);
         placed = walk_places_defs walk (processes_branch_between f) are_listed
             (λ j k lt less. m.kept.good j k (omega arith) lt less) taken in_place;
         live = made_live_stand written;
@@ -172,13 +172,13 @@ module _ (fresh : FreshWalk) (empty : Blank fresh.begin) (fit : Fit fresh.begin)
   open fresh use {env, f, fits, limited, ok, taken, blank, places, begin, last, n, m, sizes, by_last, nobody, slots, none, units, machine, walks}
 
   bare : (c : ℕ) (ps : List Place) (u : StateValue) → AllocsBlocks f blank begin c ps u → IsOutside u
-  bare = allocs_blocks_outside (kept_of (Made f) f (all_proper env f limited ok) (branch_kept f ok.counted (processes_branch_between f))) ok.follow blank begin
+  bare = allocs_blocks_outside (kept_code_of (Made f) f (all_proper env f limited ok) (branch_kept f ok.counted (processes_branch_between f))) ok.follow blank begin
       (begin_between f begin empty fit) (record { nowhere = empty.nowhere; nobody = empty.nobody })
 
-  -- at its end
+  -- the walk's last state is safe, and each operand has a good place
   pub walk_kept_through : WalkKept env (Made f) f (MayInBlocks f) places 0 0 places last
   walk_kept_through = walk_blocks_good fresh bare
 
-  -- and at each of its instructions
+  -- the states of the walk are safe at each instruction of a block
   pub walk_safe_through : SafeWithin env f blank begin places
   walk_safe_through = walk_safe fresh bare

@@ -9,7 +9,7 @@ use Rattle.regalloc2_names.specs.Place.{is_no_place}
 use Rattle.regalloc2_function.specs.FunctionValue.{FunctionValue, slot_size}
 use Rattle.regalloc2_function.specs.OutputValue.{OutputValue}
 use Rattle.regalloc2_fastalloc_state.specs.StateParts.{SpillSlotsValue, SlotsHaveOneOwner, AreUpTo, owners, units_of}
-use Rattle.regalloc2_steps.specs.Units.{most_units}
+use Rattle.regalloc2_fastalloc_state.specs.StateParts.{most_units}
 use Rattle.regalloc2_fastalloc_state.specs.OutOfResources.{SlotsExhaustedWith}
 use Rattle.regalloc2_semantics.proofs.Plain.{each_of_three}
 use Rattle.regalloc2_fastalloc.specs.Promise.{SlotsAreBounded}

@@ -8,7 +8,7 @@
 -- `stores` in `DefWithMovesStores`), `entered_shows` in `SlotAtBlockBegin` (at a block's start, from the places that hold values
 -- there), and `kept_in_slot` in `MovesLeaveSlot`.
 -- Without one: `register_shows` in `OperandPlaceHoldsValue`. Read `IsUnslotted` and `in_stays` in
--- `LocationWithoutSlot`, then `observed` in `PlaceKeepsValueOverMoves`.
+-- `LocationWithoutSlot`, then `value_kept_over_moves` in `PlaceKeepsValueOverMoves`.
 -- The others are steps of both: of the walk (`UnnamedStaysUnlocated`, `LocatedStaysOrHasSlot`,
 -- `LocationBeforeFirstRead`, `InstWithinWalk`, `BlockWithinWalk`, `DefStoresIntoSlot`, `DefLeavesValueInSlot`) and of
 -- paths (`InstOnPath`, `PathStepLeaves`, `WellFormedPaths`, `SlotHoldsValueOnPaths`).

@@ -8,13 +8,13 @@
 -- `FreeRegsCoverWaiting` and `OperandFindsReg` (one operand), `OperandsLeaveEnough` (`processes_operand_pays`), `PassesLeaveEnough`
 -- (`never_late`, `never_early`), `InstFindsRegs` (`never_alloc_inst`), with `FittingInstReserves`, `BranchFindsRegs` and
 -- `BlockStartFindsRegs` for the rest of a block. `never_` says that a step doesn't fail, `ample_` that it leaves
--- enough. `StepsKeepMachine` and `WalkKeepsSafe` prove what all of them assume.
+-- enough. `TablesHaveAllRegs` and `WalkKeepsSafe` prove what all of them assume.
 pub mod BlockStartFindsRegs
 pub mod EvictionsLeaveEnough
 pub mod InstFindsRegs
 pub mod OutOfRegs
 pub mod OneRegTaken
-pub mod StepsKeepMachine
+pub mod TablesHaveAllRegs
 pub mod OperandFindsReg
 pub mod BranchFindsRegs
 pub mod BranchRegsKnown

@@ -33,7 +33,7 @@ pub data ReloadsRegs (point : ℕ) (t : InstRegs) (old : StateValue) : InstRegs 
   one_emptied : (r : Register) (u w : InstRegs) (m n : StateValue) → ReloadsRegs point t old u m → IsNewest m.places r → EvictsPReg point r u w m n →
       ReloadsRegs point t old w n
 
--- one of them can't be emptied, after others were
+-- a register can't be emptied, after others were
 pub record RegsAreNotReloaded (point : ℕ) (t : InstRegs) (old : StateValue) : Type 0 where
   pub register : Register
   pub inst_regs : InstRegs

@@ -83,7 +83,7 @@ pub data AllocsBlockInsts (f : FunctionValue) (b : ℕ) (blank : List Place) (ol
       AllocsBlockInsts f b blank old (i + 1) before_it t
       → AllocsInstInBlock f b i before_it places t u → AllocsBlockInsts f b blank old i places u
 
--- an instruction runs out of registers, once those after it are allocated
+-- an instruction runs out of registers, once the instructions after it are allocated
 pub record InstsAreNotAllocated (f : FunctionValue) (b : ℕ) (blank : List Place) (old : StateValue) : Type 0 where
   pub index : ℕ
   pub places : List Place
@@ -102,7 +102,7 @@ pub record BeginsBlock (f : FunctionValue) (b : ℕ) (old new : StateValue) : Ty
   pub reloads : ReloadsAtBegin (before (block_at f b).range.first) (block_at f b).params old middle
   pub stores : StoresBranchDefs f b middle new
 
--- it runs out of registers at its reloads, or then at the stores
+-- the start of a block runs out of registers at its reloads, or then at the stores
 pub data BlockIsNotBegun (f : FunctionValue) (b : ℕ) (old : StateValue) : Type 0 where
   at_reloads : ReloadAtBegin (before (block_at f b).range.first) (block_at f b).params old no_register → BlockIsNotBegun f b old
   at_stores : (m : StateValue) → ReloadsAtBegin (before (block_at f b).range.first) (block_at f b).params old m → StoreBranchDefs f b m no_register →

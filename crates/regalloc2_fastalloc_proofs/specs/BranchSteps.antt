@@ -1,4 +1,4 @@
--- What a branch does to the tables: its arguments are spilled to their slots, and moved from there to those of the parameters.
+-- What a branch does to the tables: its arguments are spilled to their slots, and moved from there to the parameters' slots.
 use Rattle.std.specs.Prelude.{ℕ, ◌≡◌, ◌≢◌, ◌+◌, ◌<◌, ◌≤◌, ◌⊎◌, ◌++◌, ◌∷◌, [], List, Bool, true, false, if◌then◌else◌, length, Contains, None, Some}
 use Rattle.std.specs.Prelude.{slice_index_or}
 use Rattle.std.specs.List.{All}
@@ -18,10 +18,10 @@ use Rattle.regalloc2_fastalloc_state.specs.declared.inst_regs.InstRegs.{InstRegs
 use Rattle.regalloc2_parts.specs.declared.scratch_pool.ScratchPair.{ScratchPair}
 use Rattle.regalloc2_fastalloc_state.specs.StateParts.{SpillSlotsValue, alloc_of, SetsAlloc, GetsSpillSlot, SlotsHaveOneOwner, AddsTempSlots, later_end}
 use Rattle.regalloc2_fastalloc_state.specs.StateParts.{NoneIsFrom, later_slot}
-use Rattle.regalloc2_steps.specs.Units.{most_units}
+use Rattle.regalloc2_fastalloc_state.specs.StateParts.{most_units}
 use Rattle.regalloc2_fastalloc_state.specs.ScratchPool.{Moves, pushed, HasTooFewSlots}
 use Rattle.regalloc2_fastalloc_state.specs.InstRegs.{IsAvailableAt}
-use Rattle.regalloc2_steps.specs.Positions.{both_positions}
+use Rattle.regalloc2_fastalloc_state.specs.Positions.{both_positions}
 use Rattle.regalloc2_fastalloc_proofs.specs.InstSteps.{StateValue, Outcome, next, no_register, InTurn, SameMachine, EvictPReg, EvictsPReg, MayHold}
 
 -- the next two temporary slots of a class, where there is room for them
@@ -52,7 +52,7 @@ IsSlotBelow count p = (n : ℕ) × (p ≡ InSlot n) × (n < count)
 abbrev pub AreBetweenSlots : ℕ → Moves → Type 0
 AreBetweenSlots count ms = All (λ m. IsSlotBelow count m.0 × IsSlotBelow count m.1) ms
 
--- a scratch place: such a register, or a new slot
+-- a scratch place: a scratch register for the class, or a new slot
 abbrev pub IsScratchPlace : InstRegs → StateValue → RegClass → Place → Type 0
 IsScratchPlace inst_regs old class p = IsScratchRegFor inst_regs old class p ⊎ ((k : ℕ) × (p ≡ InSlot k) × (old.slots.count ≤ k))
 
@@ -115,7 +115,7 @@ pub data SpillsArgument (point : ℕ) (a : VirtualRegister) (s : Place) (t u : I
       new.edits ≡ old.edits → SameMachine old new → new.lrus ≡ old.lrus → u ≡ t
       → SpillsArgument point a s t u old new
 
--- the register where it is expected can't be emptied
+-- the register where the argument is expected can't be emptied
 pub record ArgumentIsNotSpilled (point : ℕ) (t : InstRegs) (old : StateValue) : Type 0 where
   pub register : Register
   pub middle : StateValue

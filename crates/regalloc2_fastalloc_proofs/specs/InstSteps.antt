@@ -20,10 +20,10 @@ use Rattle.regalloc2_fastalloc_state.specs.StateParts.{VRegAllocsValue, SpillSlo
 use Rattle.regalloc2_fastalloc_state.specs.StateParts.{needs_scratch_reserve}
 use Rattle.regalloc2_fastalloc_state.specs.Choice.{chosen}
 use Rattle.regalloc2_fastalloc_state.specs.InstRegs.{IsAvailableAt, RemovesAvailable, SameAvailable, awaited_of, free_count}
-use Rattle.regalloc2_steps.specs.Positions.{positions_of, both_positions}
+use Rattle.regalloc2_fastalloc_state.specs.Positions.{positions_of, both_positions}
 use Rattle.regalloc2_fastalloc_state.specs.InstRegs.{is_free, is_available_at, is_free_throughout}
 use Rattle.regalloc2_fastalloc_state.specs.declared.inst_regs.InstRegs.{InstRegs}
-use Rattle.regalloc2_steps.specs.declared.positions.Positions.{Positions}
+use Rattle.regalloc2_fastalloc_state.specs.declared.positions.Positions.{Positions}
 use Rattle.regalloc2_fastalloc_state.specs.declared.request.Requirement.{Requirement}
 use Rattle.regalloc2_fastalloc_state.specs.declared.request.Requirement.TheVariants.{AnyPlace, AnyReg, InMemory, InPReg}
 use Rattle.regalloc2_fastalloc_state.specs.declared.request.OperandRequest.{OperandRequest}
@@ -96,7 +96,7 @@ pub data EvictsVReg (point : ℕ) (r : Register) (old new : StateValue) : Type 0
       SetsAlloc old.places new.places v s
       → new.edits ≡ old.edits ++ a_move point s (InRegister r) ∷ [] → SameMachine old new → new.lrus ≡ old.lrus → EvictsVReg point r old new
 
--- which never fails: it takes no other register
+-- emptying an allocatable register never fails: it takes no other register
 abbrev pub EvictVReg : ℕ → Register → StateValue → Outcome (Unit {0}) → Type 0
 EvictVReg point r old (next x new) = EvictsVReg point r old new
 EvictVReg point r old no_register = ⊥
@@ -212,7 +212,7 @@ pub record UsesReg (r : Register) (old new : StateValue) : Type 0 where
   pub newest : order_of new r.class ≡ r ∷ filter (λ q. not (is_register r q)) (order_of old r.class)
   pub others : (class : RegClass) → class ≢ r.class → order_of new class ≡ order_of old class
 
--- so does the place of an operand that requires any register or any place, if it is an allocatable register
+-- the place of an operand that requires any register or any place becomes the most recently used of its class, if it is an allocatable register
 pub data UsesPlace (w : Requirement) (p : Place) (old new : StateValue) : Type 0 where
   used : (r : Register) → (w ≡ AnyPlace) ⊎ (w ≡ AnyReg) → p ≡ InRegister r → has_register old.allocatable r ≡ true → UsesReg r old new → UsesPlace w p old new
   not_used : ((r : Register) → (w ≡ AnyPlace) ⊎ (w ≡ AnyReg) → p ≡ InRegister r → has_register old.allocatable r ≡ false) → new ≡ old →
@@ -235,7 +235,7 @@ pub record AllocsOperand (point : ℕ) (o : OperandRequest) (p : Place) (t u : I
   pub picks : SelectsPlace t o p old middle
   pub takes : TakesPlace point o p t u middle new
   pub affordable : o.requirement ≡ AnyPlace → (r : Register) → p ≡ InRegister r → IsAffordable t old r
-  pub awaited_in : o.is_def ≡ true → o.requirement ≡ AnyPlace → (r : Register) → p ≡ InRegister r → (q : Register)
+  pub expected_in : o.is_def ≡ true → o.requirement ≡ AnyPlace → (r : Register) → p ≡ InRegister r → (q : Register)
       × (alloc_of old.places o.vreg.number ≡ InRegister q)
 
 -- no place is found for it, or the place can't be claimed
@@ -247,7 +247,7 @@ abbrev pub AllocOperand : ℕ → OperandRequest → InstRegs → StateValue →
 AllocOperand point o t old (next (p, u) new) = AllocsOperand point o p t u old new
 AllocOperand point o t old no_register = LacksPlace point o t old
 
--- a move, unless its target is none or its source
+-- a move, on the condition `is_made`
 pub data AddMoveIf (point : ℕ) (class : RegClass) (is_made : Bool) (from to : Place) (t : InstRegs) (old : StateValue) : Outcome InstRegs → Type 0 where
   sent : {o : Outcome InstRegs} → is_made ≡ true → AddMove point class from to t old o → AddMoveIf point class is_made from to t old o
   unsent : {u : InstRegs} {new : StateValue} → is_made ≡ false → u ≡ t → new ≡ old → AddMoveIf point class is_made from to t old (next u new)
@@ -259,8 +259,8 @@ AddsMoveIf point class is_made from to t u old new = AddMoveIf point class is_ma
 abbrev pub is_another : Place → Place → Bool
 is_another p q = not (is_place p NoPlace) && not (is_place p q)
 
--- the definition of a vreg in a place: the vreg leaves the tables, and is moved to where it is expected and to its slot; a return adds no move
-pub record FreesAlloc (point : ℕ) (v : VirtualRegister) (is_ret : Bool) (p : Place) (t u : InstRegs) (old new : StateValue) : Type 0 where
+-- the definition of a vreg in a place: the vreg leaves the tables, and is moved to where it is expected and to its slot; an instruction that ends its block adds no move
+pub record FreesAlloc (point : ℕ) (v : VirtualRegister) (ends_block : Bool) (p : Place) (t u : InstRegs) (old new : StateValue) : Type 0 where
   pub left : StateValue
   pub inst_regs : InstRegs
   pub middle : StateValue
@@ -269,25 +269,25 @@ pub record FreesAlloc (point : ℕ) (v : VirtualRegister) (is_ret : Bool) (p : P
   pub edits : left.edits ≡ old.edits
   pub machine : SameMachine old left
   pub lrus : left.lrus ≡ old.lrus
-  pub awaited : AddsMoveIf point v.class (not is_ret && is_another (alloc_of old.places v.number) p) p (alloc_of old.places v.number) t inst_regs left middle
+  pub expected : AddsMoveIf point v.class (not ends_block && is_another (alloc_of old.places v.number) p) p (alloc_of old.places v.number) t inst_regs left middle
   pub stored : (let s : Place = slot_name old.slots v.number in AddsMoveIf point v.class
-      (not is_ret && (is_another s p && not (is_place s (alloc_of old.places v.number)))) p s inst_regs u middle new)
+      (not ends_block && (is_another s p && not (is_place s (alloc_of old.places v.number)))) p s inst_regs u middle new)
 
 -- a move of the definition can't be made: to where its vreg is expected, or then to its slot
-pub data DefIsNotFreed (point : ℕ) (v : VirtualRegister) (is_ret : Bool) (p : Place) (t : InstRegs) (old : StateValue) : Type 0 where
-  to_awaited : (left : StateValue) → SetsAlloc old.places left.places v NoPlace → left.slots ≡ old.slots → left.edits ≡ old.edits → SameMachine old left
-      → AddMoveIf point v.class (not is_ret && is_another (alloc_of old.places v.number) p) p (alloc_of old.places v.number) t left no_register
-      → DefIsNotFreed point v is_ret p t old
+pub data DefIsNotFreed (point : ℕ) (v : VirtualRegister) (ends_block : Bool) (p : Place) (t : InstRegs) (old : StateValue) : Type 0 where
+  to_expected : (left : StateValue) → SetsAlloc old.places left.places v NoPlace → left.slots ≡ old.slots → left.edits ≡ old.edits → SameMachine old left
+      → AddMoveIf point v.class (not ends_block && is_another (alloc_of old.places v.number) p) p (alloc_of old.places v.number) t left no_register
+      → DefIsNotFreed point v ends_block p t old
   to_slot : (left middle : StateValue) (inst_regs : InstRegs) → SetsAlloc old.places left.places v NoPlace → left.slots ≡ old.slots →
       left.edits ≡ old.edits → SameMachine old left
-      → AddsMoveIf point v.class (not is_ret && is_another (alloc_of old.places v.number) p) p (alloc_of old.places v.number) t inst_regs left middle
-      → AddMoveIf point v.class (not is_ret && (is_another (slot_name old.slots v.number) p
+      → AddsMoveIf point v.class (not ends_block && is_another (alloc_of old.places v.number) p) p (alloc_of old.places v.number) t inst_regs left middle
+      → AddMoveIf point v.class (not ends_block && (is_another (slot_name old.slots v.number) p
       && not (is_place (slot_name old.slots v.number) (alloc_of old.places v.number)))) p (slot_name old.slots v.number) inst_regs middle no_register
-      → DefIsNotFreed point v is_ret p t old
+      → DefIsNotFreed point v ends_block p t old
 
 abbrev pub FreeAlloc : ℕ → VirtualRegister → Bool → Place → InstRegs → StateValue → Outcome InstRegs → Type 0
-FreeAlloc point v is_ret p t old (next u new) = FreesAlloc point v is_ret p t u old new
-FreeAlloc point v is_ret p t old no_register = DefIsNotFreed point v is_ret p t old
+FreeAlloc point v ends_block p t old (next u new) = FreesAlloc point v ends_block p t u old new
+FreeAlloc point v ends_block p t old no_register = DefIsNotFreed point v ends_block p t old
 
 -- the use of a vreg in a place, which becomes its current location if it had none
 pub data LocatesUse (v : VirtualRegister) (p : Place) (old new : StateValue) : Type 0 where
@@ -296,11 +296,11 @@ pub data LocatesUse (v : VirtualRegister) (p : Place) (old new : StateValue) : T
       new.lrus ≡ old.lrus → LocatesUse v p old new
 
 -- an operand is allocated
-pub record AllocsDefOp (point : ℕ) (o : OperandRequest) (is_ret : Bool) (p : Place) (t u : InstRegs) (old new : StateValue) : Type 0 where
+pub record AllocsDefOp (point : ℕ) (o : OperandRequest) (ends_block : Bool) (p : Place) (t u : InstRegs) (old new : StateValue) : Type 0 where
   pub inst_regs : InstRegs
   pub middle : StateValue
   pub gets : AllocsOperand point o p t inst_regs old middle
-  pub defines : FreesAlloc point o.vreg is_ret p inst_regs u middle new
+  pub defines : FreesAlloc point o.vreg ends_block p inst_regs u middle new
   pub awaited : u.awaited ≡ awaited_less o.requirement o.vreg.class t.awaited
 
 pub record AllocsUse (point : ℕ) (o : OperandRequest) (p : Place) (t u : InstRegs) (old new : StateValue) : Type 0 where
@@ -310,14 +310,14 @@ pub record AllocsUse (point : ℕ) (o : OperandRequest) (p : Place) (t u : InstR
   pub awaited : u.awaited ≡ awaited_less o.requirement o.vreg.class t.awaited
 
 -- a definition gets no place, or can't be moved from there
-pub data DefIsNotAllocated (point : ℕ) (o : OperandRequest) (is_ret : Bool) (t : InstRegs) (old : StateValue) : Type 0 where
-  in_get : AllocOperand point o t old no_register → DefIsNotAllocated point o is_ret t old
+pub data DefIsNotAllocated (point : ℕ) (o : OperandRequest) (ends_block : Bool) (t : InstRegs) (old : StateValue) : Type 0 where
+  in_get : AllocOperand point o t old no_register → DefIsNotAllocated point o ends_block t old
   in_define : (p : Place) (inst_regs : InstRegs) (middle : StateValue) → AllocsOperand point o p t inst_regs old middle →
-      FreeAlloc point o.vreg is_ret p inst_regs middle no_register → DefIsNotAllocated point o is_ret t old
+      FreeAlloc point o.vreg ends_block p inst_regs middle no_register → DefIsNotAllocated point o ends_block t old
 
 abbrev pub AllocDefOp : ℕ → OperandRequest → Bool → InstRegs → StateValue → Outcome (Place × InstRegs) → Type 0
-AllocDefOp point o is_ret t old (next (p, u) new) = AllocsDefOp point o is_ret p t u old new
-AllocDefOp point o is_ret t old no_register = DefIsNotAllocated point o is_ret t old
+AllocDefOp point o ends_block t old (next (p, u) new) = AllocsDefOp point o ends_block p t u old new
+AllocDefOp point o ends_block t old no_register = DefIsNotAllocated point o ends_block t old
 
 abbrev pub AllocUse : ℕ → OperandRequest → InstRegs → StateValue → Outcome (Place × InstRegs) → Type 0
 AllocUse point o t old (next (p, u) new) = AllocsUse point o p t u old new
@@ -359,50 +359,50 @@ abbrev pub reuse_request : OperandValue → OperandValue → OperandRequest
 reuse_request o named = record { vreg = o.vreg; requirement = reuse_requirement_of named.constraint; positions = both_positions; is_def = true }
 
 -- an operand is allocated; here holds the places of the instruction before, there after
-pub data ProcessesOperand (i : ℕ) (is_ret : Bool) (operands : List OperandValue) (k : ℕ) (here there : List Place) (t u : InstRegs)
+pub data ProcessesOperand (i : ℕ) (ends_block : Bool) (operands : List OperandValue) (k : ℕ) (here there : List Place) (t u : InstRegs)
     (old new : StateValue) : Type 0 where
   a_register : (r : Register) → is_fixed_nonallocatable (op_at operands k) ≡ true → (op_at operands k).constraint ≡ FixedReg r →
       there ≡ slice_set here k (InRegister r) → u ≡ t → new ≡ old
-      → ProcessesOperand i is_ret operands k here there t u old new
+      → ProcessesOperand i ends_block operands k here there t u old new
   a_use : (p : Place) → is_reading (op_at operands k) ≡ true → AllocsUse (after i) (use_request (op_at operands k) (slice_index_or here k NoPlace)) p t u old
       new → there ≡ slice_set here k p
-      → ProcessesOperand i is_ret operands k here there t u old new
+      → ProcessesOperand i ends_block operands k here there t u old new
   a_def : (p : Place) → is_def (op_at operands k).kind ≡ true → ((n : ℕ) → (op_at operands k).constraint ≡ Reuse n → ⊥) →
-      AllocsDefOp (after i) (def_request (op_at operands k)) is_ret p t u old new → there ≡ slice_set here k p
-      → ProcessesOperand i is_ret operands k here there t u old new
+      AllocsDefOp (after i) (def_request (op_at operands k)) ends_block p t u old new → there ≡ slice_set here k p
+      → ProcessesOperand i ends_block operands k here there t u old new
   a_reuse : (n : ℕ) (p : Place) → is_def (op_at operands k).kind ≡ true → (op_at operands k).constraint ≡ Reuse n →
-      AllocsDefOp (after i) (reuse_request (op_at operands k) (op_at operands n)) is_ret p t u old new
-      → there ≡ slice_set (slice_set here k p) n p → ProcessesOperand i is_ret operands k here there t u old new
+      AllocsDefOp (after i) (reuse_request (op_at operands k) (op_at operands n)) ends_block p t u old new
+      → there ≡ slice_set (slice_set here k p) n p → ProcessesOperand i ends_block operands k here there t u old new
 
 -- the operand k gets no place, or its moves can't be made
-pub data OperandIsNotProcessed (i : ℕ) (is_ret : Bool) (operands : List OperandValue) (k : ℕ) (here : List Place) (t : InstRegs) (old : StateValue) :
+pub data OperandIsNotProcessed (i : ℕ) (ends_block : Bool) (operands : List OperandValue) (k : ℕ) (here : List Place) (t : InstRegs) (old : StateValue) :
     Type 0 where
   at_use : is_reading (op_at operands k) ≡ true →
       AllocUse (after i) (use_request (op_at operands k) (slice_index_or here k NoPlace)) t old no_register →
-      OperandIsNotProcessed i is_ret operands k here t old
+      OperandIsNotProcessed i ends_block operands k here t old
   at_def : is_def (op_at operands k).kind ≡ true → ((n : ℕ) → (op_at operands k).constraint ≡ Reuse n → ⊥) →
-      AllocDefOp (after i) (def_request (op_at operands k)) is_ret t old no_register → OperandIsNotProcessed i is_ret operands k here t old
+      AllocDefOp (after i) (def_request (op_at operands k)) ends_block t old no_register → OperandIsNotProcessed i ends_block operands k here t old
   at_reuse : (n : ℕ) → is_def (op_at operands k).kind ≡ true → (op_at operands k).constraint ≡ Reuse n →
-      AllocDefOp (after i) (reuse_request (op_at operands k) (op_at operands n)) is_ret t old no_register →
-      OperandIsNotProcessed i is_ret operands k here t old
+      AllocDefOp (after i) (reuse_request (op_at operands k) (op_at operands n)) ends_block t old no_register →
+      OperandIsNotProcessed i ends_block operands k here t old
 
 abbrev pub ProcessOperand : ℕ → Bool → List OperandValue → ℕ → List Place → InstRegs → StateValue → Outcome (List Place × InstRegs) → Type 0
-ProcessOperand i is_ret operands k here t old (next (there, u) new) = ProcessesOperand i is_ret operands k here there t u old new
-ProcessOperand i is_ret operands k here t old no_register = OperandIsNotProcessed i is_ret operands k here t old
+ProcessOperand i ends_block operands k here t old (next (there, u) new) = ProcessesOperand i ends_block operands k here there t u old new
+ProcessOperand i ends_block operands k here t old no_register = OperandIsNotProcessed i ends_block operands k here t old
 
 -- the operands of one position among the first k are placed, one after another
-pub data ProcessesOperandsAt (i : ℕ) (is_ret late : Bool) (operands : List OperandValue) (here : List Place) (t : InstRegs) (old : StateValue) : ℕ →
+pub data ProcessesOperandsAt (i : ℕ) (ends_block late : Bool) (operands : List OperandValue) (here : List Place) (t : InstRegs) (old : StateValue) : ℕ →
     List Place → InstRegs → StateValue → Type 0 where
-  none_placed : ProcessesOperandsAt i is_ret late operands here t old 0 here t old
-  of_other : (k : ℕ) (there : List Place) (u : InstRegs) (m : StateValue) → ProcessesOperandsAt i is_ret late operands here t old k there u m →
-      (is_late (op_at operands k).position ≡ late → ⊥) → ProcessesOperandsAt i is_ret late operands here t old (k + 1) there u m
-  one_placed : (k : ℕ) (there next : List Place) (u w : InstRegs) (m n : StateValue) → ProcessesOperandsAt i is_ret late operands here t old k there u m →
+  none_placed : ProcessesOperandsAt i ends_block late operands here t old 0 here t old
+  of_other : (k : ℕ) (there : List Place) (u : InstRegs) (m : StateValue) → ProcessesOperandsAt i ends_block late operands here t old k there u m →
+      (is_late (op_at operands k).position ≡ late → ⊥) → ProcessesOperandsAt i ends_block late operands here t old (k + 1) there u m
+  one_placed : (k : ℕ) (there next : List Place) (u w : InstRegs) (m n : StateValue) → ProcessesOperandsAt i ends_block late operands here t old k there u m →
       is_late (op_at operands k).position ≡ late
-      → ProcessesOperand i is_ret operands k there next u w m n → ProcessesOperandsAt i is_ret late operands here t old (k + 1) next w n
+      → ProcessesOperand i ends_block operands k there next u w m n → ProcessesOperandsAt i ends_block late operands here t old (k + 1) next w n
 
 abbrev pub ProcessOperandsAt : ℕ → Bool → Bool → List OperandValue → List Place → InstRegs → StateValue → Outcome (List Place × InstRegs) → Type 0
-ProcessOperandsAt i is_ret late operands here t old = InTurn (length operands) (λ k g m. ProcessesOperandsAt i is_ret late operands here t old k g.0 g.1 m)
-    (λ k g m. (is_late (op_at operands k).position ≡ late) × ProcessOperand i is_ret operands k g.0 g.1 m no_register)
+ProcessOperandsAt i ends_block late operands here t old = InTurn (length operands) (λ k g m. ProcessesOperandsAt i ends_block late operands here t old k g.0 g.1 m)
+    (λ k g m. (is_late (op_at operands k).position ≡ late) × ProcessOperand i ends_block operands k g.0 g.1 m no_register)
 
 -- the uses among the first k operands are moved to their places from their vregs' current locations
 pub data MovesUses (point : ℕ) (operands : List OperandValue) (here : List Place) (t : InstRegs) (old : StateValue) : ℕ → InstRegs → StateValue → Type 0 where
@@ -502,7 +502,7 @@ pub data EvictsEach (point : ℕ) : List Register → InstRegs → StateValue �
   one_more : (r : Register) (rs : List Register) (t u w : InstRegs) (old m new : StateValue) → EvictsPReg point r t u old m → EvictsEach point rs u m w new →
       EvictsEach point (r ∷ rs) t old w new
 
--- one of them can't be emptied, after others were
+-- a register of the list can't be emptied, after others were
 pub record EachIsNotEvicted (point : ℕ) (t : InstRegs) (old : StateValue) : Type 0 where
   pub cleared : List Register
   pub inst_regs : InstRegs
@@ -553,7 +553,7 @@ PrepareRegs i operands clobbers t old no_register = RegsAreNotPrepared i operand
 
 -- An instruction is allocated: its registers are prepared; late operands are allocated, then early ones; then uses are moved. No move is listed after
 -- an instruction that ends its block.
-pub record AllocsInstOf (i : ℕ) (operands : List OperandValue) (clobbers : PRegSet) (ends : Bool) (blank places : List Place) (old new : StateValue) :
+pub record AllocsInstOf (i : ℕ) (operands : List OperandValue) (clobbers : PRegSet) (ends_block : Bool) (blank places : List Place) (old new : StateValue) :
     Type 0 where
   pub began : InstRegs
   pub quiet : InstRegs
@@ -568,8 +568,8 @@ pub record AllocsInstOf (i : ℕ) (operands : List OperandValue) (clobbers : PRe
   pub no_places : (k : ℕ) → slice_index_or blank k NoPlace ≡ NoPlace
   pub fresh : IsFresh began old
   pub prepares : PreparesRegs i operands clobbers began quiet old after_clobbers
-  pub lates : ProcessesOperandsAt i ends true operands blank quiet after_clobbers (length operands) half late after_late
-  pub earlies : ProcessesOperandsAt i ends false operands half late after_late (length operands) places early after_early
+  pub lates : ProcessesOperandsAt i ends_block true operands blank quiet after_clobbers (length operands) half late after_late
+  pub earlies : ProcessesOperandsAt i ends_block false operands half late after_late (length operands) places early after_early
   pub moves : MovesUses (before i) operands places early after_early (length operands) ended new
 
 -- an instruction is allocated, given by its operands, its clobbers and whether it ends its block
@@ -577,20 +577,20 @@ abbrev pub AllocsInst : ℕ → InstValue → List Place → List Place → Stat
 AllocsInst i inst blank places old new = AllocsInstOf i inst.operands inst.clobbers (ends_block inst) blank places old new
 
 -- an instruction runs out of registers at one of its stages
-pub data InstIsNotAllocated (i : ℕ) (operands : List OperandValue) (clobbers : PRegSet) (ends : Bool) (blank : List Place) (t : InstRegs)
+pub data InstIsNotAllocated (i : ℕ) (operands : List OperandValue) (clobbers : PRegSet) (ends_block : Bool) (blank : List Place) (t : InstRegs)
     (old : StateValue) : Type 0 where
-  in_prepare : PrepareRegs i operands clobbers t old no_register → InstIsNotAllocated i operands clobbers ends blank t old
+  in_prepare : PrepareRegs i operands clobbers t old no_register → InstIsNotAllocated i operands clobbers ends_block blank t old
   in_lates : (quiet : InstRegs) (m : StateValue) → PreparesRegs i operands clobbers t quiet old m →
-      ProcessOperandsAt i ends true operands blank quiet m no_register → InstIsNotAllocated i operands clobbers ends blank t old
+      ProcessOperandsAt i ends_block true operands blank quiet m no_register → InstIsNotAllocated i operands clobbers ends_block blank t old
   in_earlies : (quiet late : InstRegs) (m n : StateValue) (half : List Place) → PreparesRegs i operands clobbers t quiet old m →
-      ProcessesOperandsAt i ends true operands blank quiet m (length operands) half late n
-      → ProcessOperandsAt i ends false operands half late n no_register → InstIsNotAllocated i operands clobbers ends blank t old
+      ProcessesOperandsAt i ends_block true operands blank quiet m (length operands) half late n
+      → ProcessOperandsAt i ends_block false operands half late n no_register → InstIsNotAllocated i operands clobbers ends_block blank t old
   in_moves : (quiet late early : InstRegs) (m n o : StateValue) (half places : List Place) → PreparesRegs i operands clobbers t quiet old m →
-      ProcessesOperandsAt i ends true operands blank quiet m (length operands) half late n
-      → ProcessesOperandsAt i ends false operands half late n (length operands) places early o
-      → MoveUses (before i) operands places early o no_register → InstIsNotAllocated i operands clobbers ends blank t old
+      ProcessesOperandsAt i ends_block true operands blank quiet m (length operands) half late n
+      → ProcessesOperandsAt i ends_block false operands half late n (length operands) places early o
+      → MoveUses (before i) operands places early o no_register → InstIsNotAllocated i operands clobbers ends_block blank t old
 
 abbrev pub AllocInst : ℕ → List OperandValue → PRegSet → Bool → List Place → InstRegs → StateValue → Outcome (List Place × InstRegs) → Type 0
-AllocInst i operands clobbers ends blank t old (next (places, u) new) =
-    (a : AllocsInstOf i operands clobbers ends blank places old new) × (a.ended ≡ u)
-AllocInst i operands clobbers ends blank t old no_register = InstIsNotAllocated i operands clobbers ends blank t old
+AllocInst i operands clobbers ends_block blank t old (next (places, u) new) =
+    (a : AllocsInstOf i operands clobbers ends_block blank places old new) × (a.ended ≡ u)
+AllocInst i operands clobbers ends_block blank t old no_register = InstIsNotAllocated i operands clobbers ends_block blank t old

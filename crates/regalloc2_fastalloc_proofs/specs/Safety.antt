@@ -25,7 +25,7 @@ pub record IsWhole (t : StateValue) : Type 0 where
 abbrev pub IsOfMachine : MachineValue → Register → Type 0
 IsOfMachine env r = (is_allocatable env r.class r ≡ true) ⊎ IsFixedStackSlot env r
 
--- a place where a vreg may be: such a register of its class, or its own slot
+-- a place where a vreg may be: a register of its class that is the machine's, or its own slot
 abbrev pub MayBeLocatedAt : MachineValue → SpillSlotsValue → VirtualRegister → Place → Type 0
 MayBeLocatedAt env slots v NoPlace = ⊥
 MayBeLocatedAt env slots v (InRegister r) = IsOfMachine env r × (r.class ≡ v.class)
@@ -36,7 +36,7 @@ MayBeLocatedAtOrNone env slots v NoPlace = Unit {0}
 MayBeLocatedAtOrNone env slots v (InRegister r) = IsOfMachine env r × (r.class ≡ v.class)
 MayBeLocatedAtOrNone env slots v (InSlot n) = slot_name slots v.number ≡ InSlot n
 
--- an end of a move of a vreg's value: such a place, or the register reserved for moves of its class
+-- an end of a move of a vreg's value: a place where the vreg may be, or the register reserved for moves of its class
 abbrev pub IsEndOfMove : MachineValue → SpillSlotsValue → VirtualRegister → Place → Type 0
 IsEndOfMove env slots v NoPlace = ⊥
 IsEndOfMove env slots v (InRegister r) = (IsOfMachine env r × (r.class ≡ v.class)) ⊎ (scratch_of env v.class ≡ Some r)
@@ -55,7 +55,7 @@ pub record IsMoveOfValue (env : MachineValue) (Known : VirtualRegister → Type 
 abbrev pub IsMoveReg : MachineValue → RegClass → Register → Type 0
 IsMoveReg env class r = ((is_allocatable env r.class r ≡ true) × (r.class ≡ class)) ⊎ (scratch_of env class ≡ Some r)
 
--- an end of a move of a branch's arguments: such a register, or a slot, a vreg's or a temporary one
+-- an end of a move of a branch's arguments: a register for moves, or a slot, a vreg's or a temporary one
 abbrev pub IsEndOfArgMove : MachineValue → SpillSlotsValue → RegClass → Place → Type 0
 IsEndOfArgMove env slots class NoPlace = ⊥
 IsEndOfArgMove env slots class (InRegister r) = IsMoveReg env class r

@@ -33,7 +33,7 @@ pub record IsLaidOut (sizes : List ℕ) (by_last : Bool) (count : ℕ) (c : Owne
   pub aligned : start_of_slot sizes by_last c % units_in sizes c.owner ≡ 0
   pub within : end_of_slot sizes by_last c ≤ count
 
--- each slot is above those that were made before it
+-- each slot is above the slots that were made before it
 abbrev pub AreSlotsApart : List ℕ → Bool → List OwnedSlot → Type 0
 AreSlotsApart sizes by_last made = (i j : ℕ) (d : OwnedSlot) → i < j → j < length made →
     end_of_slot sizes by_last (slice_index_or made j d) ≤ start_of_slot sizes by_last (slice_index_or made i d)
@@ -46,7 +46,7 @@ HaveDistinctOwners made = (i j : ℕ) (d : OwnedSlot) → i < j → j < length m
 abbrev pub IsOwnSlot : SpillSlotsValue → OwnedSlot → Type 0
 IsOwnSlot s c = (v : VirtualRegister) → c.owner ≡ OfVReg v → slot_name s v.number ≡ InSlot c.name
 
--- all slots are laid out, and those of known vregs are among them
+-- all slots are laid out, the slots of known vregs among them
 pub record AreLaidOut (Known : VirtualRegister → Type 0) (s : SpillSlotsValue) (made : List OwnedSlot) : Type 0 where
   pub each : All (IsLaidOut s.sizes s.by_last s.count) made
   pub apart : AreSlotsApart s.sizes s.by_last made
@@ -76,6 +76,6 @@ IsEndOf made point class NoPlace = ⊥
 IsEndOf made point class (InRegister r) = r.class ≡ class
 IsEndOf made point class (InSlot n) = (c : OwnedSlot) × Contains made c × (c.name ≡ n) × (class_of_owner c.owner ≡ class) × ServesAt point c.owner
 
--- both ends of a move are of one class
+-- the two ends of a move are of one class
 abbrev pub IsOfOneClass : List OwnedSlot → ℕ × MoveValue → Type 0
 IsOfOneClass made e = (class : RegClass) × IsEndOf made e.0 class e.1.from × IsEndOf made e.0 class e.1.to

@@ -4,7 +4,7 @@ use Rattle.std.specs.Prelude.{if◌then◌else◌}
 use Rattle.std.proofs.lemmas.Bool.{cases_Bool, cases_eq}
 use Rattle.regalloc2_function.specs.Fitting.{count_below}
 
--- what passes one test passes another, so that one counts no more
+-- if each number that passes p passes q, p counts no more than q
 pub count_le : (p q : ℕ → Bool) (n : ℕ) → ((k : ℕ) → k < n → p k ≡ true → q k ≡ true) → count_below p n ≤ count_below q n
 unfolding count_below
 count_le p q zero h = omega arith
@@ -84,7 +84,7 @@ count_some p (suc n) h = elim (cases_Bool (p n)) [
       let s = count_some p n less in (s.0, (let l = s.1 in omega (arith, l)), s.2))
 ]
 
--- and one that passes counts
+-- if a number passes, the count is above zero
 pub some_count : (p : ℕ → Bool) (n k : ℕ) → k < n → p k ≡ true → 0 < count_below p n
 unfolding count_below
 some_count p zero k lt h = absurd (omega arith)
@@ -94,7 +94,7 @@ some_count p (suc n) k lt h = elim (cases_eq k n) [
       elim (cases_Bool (p n)) [ inl b ↦ rw b (omega (arith, rest)) | inr b ↦ rw b (omega (arith, rest)) ])
 ]
 
--- the same tests count the same
+-- tests that agree below n count the same
 pub count_same : (p q : ℕ → Bool) (n : ℕ) → ((k : ℕ) → k < n → p k ≡ q k) → count_below p n ≡ count_below q n
 unfolding count_below
 count_same p q zero h = refl

@@ -13,7 +13,7 @@ use Rattle.regalloc2_fastalloc_state.specs.StateParts.{kept_move}
 pub none_pushed : (point : ℕ) (es : List (ℕ × MoveValue)) (ms : Moves) (n : ℕ) → n ≡ length ms → es ≡ es ++ pushed point (drop n ms)
 none_pushed point es ms n e = sym (ap (λ (xs : Moves). es ++ pushed point xs) (drop_all n ms (omega (arith, e))) ∙ append-nil es)
 
--- and then one more
+-- the moves from k on are pushed if the moves from k + 1 on were, and then the move k
 pub one_pushed : (point : ℕ) (old es new : List (ℕ × MoveValue)) (ms : Moves) (n k : ℕ) (m : Place × Place × Unit {0}) → n ≡ k + 1 → k < length ms →
     get_or ms k m ≡ m → es ≡ old ++ pushed point (drop n ms)
     → new ≡ es ++ (point, record { from = m.0; to = m.1 }) ∷ [] → new ≡ old ++ pushed point (drop k ms)
@@ -26,7 +26,7 @@ one_pushed point old es new ms n k m next lt reads had more =
     more ∙ ap (λ (xs : List (ℕ × MoveValue)). xs ++ last) before ∙ append_assoc old (pushed point rest) last
     ∙ ap (λ (xs : Moves). old ++ pushed point xs) (sym here)
 
--- and one more is listed, after those before the chunk and those of the chunk that were pushed after it
+-- one more move of a chunk is listed, after the moves before the chunk and the moves that were pushed after it
 pub one_listed : (before done more : List (ℕ × MoveValue)) (ms : List (ℕ × Place × Place)) (n k : ℕ) (m : ℕ × Place × Place) → n ≡ k + 1 → k < length ms →
     get_or ms k m ≡ m → done ≡ before ++ reverse (map kept_move (drop n ms)) → more ≡ done ++ kept_move m ∷ [] →
     more ≡ before ++ reverse (map kept_move (drop k ms))
@@ -73,7 +73,7 @@ one_counted {C} {X} items chunks i chunk top moves long more lt is had has count
     ap length flat ∙ length-append (flat_map items (take i chunks)) (items chunk) in
     omega (arith, had, has, counts, size)
 
--- and then those of all chunks
+-- once all chunks are passed, the moves of all are counted
 pub all_counted : {C X : Type 0} (items : C → List X) (chunks : List C) (i top moves : ℕ) → length chunks ≤ i →
     moves ≡ min (length (flat_map items (take i chunks))) top → moves ≡ min (length (flat_map items chunks)) top
 all_counted {C} items chunks i top moves past had = had ∙ ap (λ (l : List C). min (length (flat_map items l)) top) (take_all i chunks past)
@@ -88,7 +88,7 @@ first_listed items full current now start listed all none same one so =
     ∙ sym (reverse-append (map kept_move (flat_map items full)) (map kept_move current))
     ∙ ap reverse (sym (map-append kept_move (flat_map items full) current) ∙ so)
 
--- then the last of the full ones
+-- the last of the full chunks is listed
 pub chunk_listed : {C : Type 0} (items : C → List (ℕ × Place × Place)) (full left : List C) (chunk : C) (now : List (ℕ × Place × Place))
     (listed more all : List (ℕ × MoveValue)) → full ≡ left ++ chunk ∷ [] → now ≡ items chunk → more ≡ listed ++ reverse (map kept_move now) →
     listed ++ reverse (map kept_move (flat_map items full)) ≡ all → more ++ reverse (map kept_move (flat_map items left)) ≡ all
@@ -104,7 +104,7 @@ chunk_listed items full left chunk now listed more all last same one so =
     ∙ append_assoc listed (reverse (map kept_move (items chunk))) (reverse (map kept_move (flat_map items left)))
     ∙ ap (λ (l : List (ℕ × MoveValue)). listed ++ l) (sym turned) ∙ so
 
--- and where no chunk is left, all moves are listed
+-- if no chunk is left, all moves are listed
 pub all_listed : {C : Type 0} (items : C → List (ℕ × Place × Place)) (full : List C) (listed all : List (ℕ × MoveValue)) → length full ≡ 0 →
     listed ++ reverse (map kept_move (flat_map items full)) ≡ all → listed ≡ all
 all_listed items [] listed all none so = sym (append-nil listed) ∙ so

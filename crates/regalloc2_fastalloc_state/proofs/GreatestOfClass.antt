@@ -9,7 +9,7 @@ use Rattle.regalloc2_names.specs.RegisterBits.{bits_of_register}
 use Rattle.regalloc2_names.specs.RegisterSet.{has_register}
 use Rattle.regalloc2_fastalloc_state.specs.StateParts.{NoneIsFrom}
 
--- it is one of those
+-- the register found is an allocatable one of the class
 pub greatest_in : (set allocatable : PRegSet) (class : RegClass) (result : Option Register) → ((i : ℕ) → slice_index set.bits i < 18446744073709551616)
     → ((r : Register) → (has_register set r ≡ true) ↔ ((r.class ≡ class) × (has_register allocatable r ≡ true)))
     → IfSome result (λ r. has_register set r ≡ true) → IfSome result (λ r. (r.class ≡ class) × (r.number < 64) × (has_register allocatable r ≡ true))

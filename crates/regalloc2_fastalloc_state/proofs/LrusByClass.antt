@@ -87,7 +87,7 @@ ring_replaced lrus i ring c lt e = subst (λ (k : ℕ). slice_index_or (set lrus
 code_other : (a b : RegClass) → a ≢ b → class_code a ≢ class_code b
 code_other a b ne e = ne (class_codes a b e)
 
--- replacing the LRU of one class leaves those of the other classes
+-- replacing the LRU list of one class leaves the lists of the other classes
 pub other_ring : (lrus : List (List Register)) (i : ℕ) (ring : List Register) (c d : RegClass) → i ≡ class_code c → d ≢ c →
     slice_index_or (set lrus i ring) (class_code d) [] ≡ slice_index_or lrus (class_code d) []
 other_ring lrus i ring c d e ne = get_or-set_other lrus i (class_code d) ring [] (λ same. code_other d c ne (same ∙ e))

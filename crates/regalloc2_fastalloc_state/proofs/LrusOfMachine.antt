@@ -46,7 +46,7 @@ same_registers p q e f = by_parts p.number q.number p.class q.class e f
     by_parts : (m n : ℕ) (c d : RegClass) → m ≡ n → c ≡ d → ◌≡◌ {A = Register} (record { number = m; class = c }) (record { number = n; class = d })
     by_parts m n c d e f = rw (e, f) refl
 
--- the registers of a class in a set with numbers below n + 1 are those below n, and register n, if the set has it
+-- the registers of a class in a set with numbers below n + 1 are the registers below n, and register n, if the set has it
 pub those_more : (set : PRegSet) (class : RegClass) (n : ℕ) (regs : List Register) (r : Register) → r.number ≡ n → r.class ≡ class → has_register set r ≡ true
     → AreThoseBelow set class n regs → AreThoseBelow set class (n + 1) (regs ++ r ∷ [])
 those_more set class n regs r number of_class has h = record {
@@ -69,7 +69,7 @@ those_more set class n regs r number of_class has h = record {
         (λ (e : is_register q r ≡ false). e)
         (cases_Bool (is_register q r))
 
--- the registers of a class in a set with numbers below n + 1 are those below n, if the set lacks register n
+-- the registers of a class in a set with numbers below n + 1 are the registers below n, if the set lacks register n
 pub those_same : (set : PRegSet) (class : RegClass) (n : ℕ) (regs : List Register) (r : Register) → r.number ≡ n → r.class ≡ class → has_register set r ≡ false
     → AreThoseBelow set class n regs → AreThoseBelow set class (n + 1) regs
 those_same set class n regs r number of_class hasnt h = record {
@@ -83,7 +83,7 @@ those_same set class n regs r number of_class hasnt h = record {
       (cases_eq q.number n);
 }
 
--- an LRU list of a class's registers, among those of other classes
+-- an LRU list of a class's registers, among the lists of other classes
 pub ring_is : (allocatable set : PRegSet) (class : RegClass) (regs ring : List Register) → AreThoseBelow set class 64 regs → IsNewRing regs ring
     → ((r : Register) → has_register set r ≡ true → has_register allocatable r ≡ true)
     → ((r : Register) → r.class ≡ class → has_register allocatable r ≡ true → has_register set r ≡ true) → IsLruOf allocatable class ring
@@ -164,7 +164,7 @@ rings_from all int float vector ints floats vectors lrus u ti tf tv three ni nf 
     (λ r c h. by_class all int float vector (has_register vector r ≡ true) r u h (λ x. absurd (let e = sym c ∙ u.int_class r x in cc))
     (λ x. absurd (let e = sym c ∙ u.float_class r x in cc)) (λ x. x)))
 
--- so it is with lists made of the sets
+-- lists made of the sets of a machine are its LRU lists
 pub rings_of : (all int float vector : PRegSet) (lrus : List (List Register)) → IsUnion all int float vector → AreLrusOf int float vector lrus →
     AreLrus all lrus
 rings_of all int float vector lrus u made =

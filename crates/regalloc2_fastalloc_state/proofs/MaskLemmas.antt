@@ -45,7 +45,7 @@ none_from (o ∷ ops) n = rw (bit_at-zero n) (none_from ops (n + 1))
 pub zero_selects_none : (mask : ℕ) (ops : List OperandValue) → mask ≡ 0 → selected mask ops ≡ []
 zero_selects_none mask ops e = rw e (none_from ops 0)
 
--- a word whose lowest bit is t selects the operand there, and then those of the word without that bit
+-- a word whose lowest bit is t selects the operand there, and then the operands of the word without the bit
 lowest_from : (ops : List OperandValue) (n j t v w : ℕ) → t ≡ n + j → j < length ops → bit_at v t ≡ 1 → bit_at w t ≡ 0
     → ((i : ℕ) → i < t → bit_at v i ≡ 0) → ((i : ℕ) → i ≢ t → bit_at w i ≡ bit_at v i)
     → filter (λ x. nat_eq (bit_at v x.0) 1) (enumerate_from n ops) ≡ (t, op_at ops j) ∷ filter (λ x. nat_eq (bit_at w x.0) 1) (enumerate_from n ops)
@@ -106,7 +106,7 @@ lowest_inside m ops some fits small = elim (cases_lt (trailing_zeros w64 m) (len
       absurd (omega (arith, one, bit_at_above m (length ops) (trailing_zeros w64 m) small more))
 ]
 
--- a word selects the operand of its lowest bit, and then those of its other bits
+-- a word selects the operand of its lowest bit, and then the operands of its other bits
 pub lowest_first : (m : ℕ) (ops : List OperandValue) → m ≢ 0 → m < 2 ^ 64 → m < 2 ^ length ops →
     selected m ops ≡ (trailing_zeros w64 m, op_at ops (trailing_zeros w64 m)) ∷ selected (bit_and m (m - 1)) ops
 lowest_first m ops some fits small =
@@ -171,7 +171,7 @@ early_mask ops m few fits mask = rw (one_shl (length ops) 64 (omega arith)) (rec
     below : bit_and (18446744073709551615 - m) (2 ^ length ops - 1) < 2 ^ length ops
     below = omega (arith, and_le_r (18446744073709551615 - m) (2 ^ length ops - 1), pow_pos (length ops))
 
--- an operand's position and kind, by the words of its own crate and by those of the selections
+-- an operand's position and kind, in the words of regalloc2_names and of the selections
 pub late_by_position : (p : OperandPos) → is_late p ≡ stands_late p
 late_by_position Early = refl
 late_by_position Late = refl

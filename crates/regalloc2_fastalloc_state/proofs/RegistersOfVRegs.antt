@@ -13,7 +13,7 @@ use Rattle.regalloc2_fastalloc_state.specs.FilledRegs.{AreRegistersOf}
 use Rattle.regalloc2_fastalloc_state.specs.StateParts.{VRegAllocsValue, IsInverse, vreg_of_preg}
 use Rattle.regalloc2_fastalloc_state.proofs.SetOfList.{or_false}
 
--- with the register of one vreg more
+-- a set with the register of one vreg more
 pub one_found : (allocs : List Place) (vregs : List VirtualRegister) (x : VirtualRegister) (r : Register) (set new : PRegSet) →
     slice_index_or allocs x.number NoPlace ≡ InRegister r → ((q : Register) → has_register new q ≡ (is_register r q || has_register set q)) →
     AreRegistersOf allocs vregs set → AreRegistersOf allocs (vregs ++ x ∷ []) new
@@ -45,7 +45,7 @@ is_met walked rest from all x e left =
     subst (λ (l : List VirtualRegister). Contains l x) (ap (λ (l : List VirtualRegister). walked ++ l) (sym e) ∙ left)
     (Contains-append_right walked (x ∷ rest) x (0, omega arith, refl))
 
--- and with a vreg more that is in no register
+-- the set stays if one vreg more is in no register
 pub none_more : (allocs : List Place) (vregs : List VirtualRegister) (x : VirtualRegister) (set : PRegSet) →
     ((r : Register) → slice_index_or allocs x.number NoPlace ≡ InRegister r → ⊥) →
     AreRegistersOf allocs vregs set → AreRegistersOf allocs (vregs ++ x ∷ []) set

@@ -68,7 +68,7 @@ empty_word s c k ne only = no_members k (slice_index s.bits (class_code k))
       | inr e ↦ e
     ])
 
--- and one's word has as many as there are numbers
+-- the word of a class has as many members as there are numbers in the set
 full_word : (s : PRegSet) (k : RegClass) → length (word_members k 0 64 (slice_index s.bits (class_code k))) ≡ count_below
     (λ n. has_register s (register_number k n)) 64
 unfolding has_register

@@ -17,7 +17,7 @@ use Rattle.regalloc2_parts.specs.declared.moves.MoveFault.{MoveFault}
 use Rattle.regalloc2_parts.specs.declared.moves.MoveFault.TheVariants.{NoSlot, Memory as MemoryFault}
 use Rattle.regalloc2_parts.specs.ScratchPool.{error_of}
 use Rattle.regalloc2_fastalloc_state.specs.StateParts.{SpillSlotsValue, SlotsHaveOneOwner, GetsSpillSlot, AreUpTo, IsSlotOrNone, later_end, owners, slot_name}
-use Rattle.regalloc2_steps.specs.Units.{most_units}
+use Rattle.regalloc2_fastalloc_state.specs.StateParts.{most_units}
 use Rattle.regalloc2_fastalloc_state.specs.OutOfResources.{IsResourceError, LacksSlots, SlotsExhausted}
 use Rattle.regalloc2_semantics.proofs.Forms.{nothing_there}
 use Rattle.regalloc2_semantics.proofs.Plain.{end_near}
@@ -201,7 +201,7 @@ two_lent_fit : (owned num_temp_slots count size most start end : ℕ) → count 
     size ≤ most → end ≡ start + 2 * size → end ≤ (owned + (num_temp_slots + 2)) * (2 * most)
 two_lent_fit owned num_temp_slots count size most start end room near small is = omega (arith, room, near, small, is)
 
--- one or two
+-- a number from one to two is one or two
 by_taken : (P : ℕ → Type 0) → P 1 → P 2 → (taken : ℕ) → 1 ≤ taken → taken ≤ 2 → P taken
 by_taken P one two taken some few = elim (cases_eq taken 1) [
   | inl e ↦ subst P (sym e) one
@@ -209,7 +209,7 @@ by_taken P one two taken some few = elim (cases_eq taken 1) [
 ]
 
 module _ (s : SpillSlotsValue) (code : ℕ) (owned : SlotsHaveOneOwner s) (three : code < 3) where
-  -- where so many temporary slots end
+  -- where `taken` temporary slots end
   lent_room : (taken : ℕ) → 1 ≤ taken → taken ≤ 2 → (most : ℕ) → AreUpTo most s.sizes → (end : ℕ) →
       end ≡ next_multiple_of s.count (slice_index s.sizes code) + taken * slice_index s.sizes code → end ≤ (owners s + (s.num_temp_slots + taken)) * (2 * most)
   lent_room taken some few most upto =

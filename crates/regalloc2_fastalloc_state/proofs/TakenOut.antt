@@ -31,7 +31,7 @@ module _ {X : Type 0} (p : X → Bool) where
   one_shorter true y zs n h = omega (arith, h)
   one_shorter false y zs n h = omega (arith, h)
 
-  -- and it is shorter where a member was taken out
+  -- the list is shorter where a member was taken out
   pub shorter : (xs : List X) (x : X) → Contains xs x → p x ≡ false → length (filter p xs) < length xs
   shorter [] x (k, less, at) h = absurd (omega (arith, less))
   shorter (y ∷ ys) x (zero, less, at) h = rw (at, h) (omega (arith, length_kept ys))
@@ -58,7 +58,7 @@ all_other n vs k d less e =
     let t : not (nat_eq w.number n) ≡ true = filter_passes (λ v. not (nat_eq v.number n)) vs k d less in
     let s : nat_eq w.number n ≡ true = eq-eqb w.number n e in absurd cc
 
--- one of another number stays
+-- a vreg of another number stays
 pub passes_other : (n : ℕ) (w : VirtualRegister) → w.number ≢ n → not (nat_eq w.number n) ≡ true
 passes_other n w d = not_from_false (nat_eq w.number n) (ne_eqb w.number n d)
 

@@ -122,7 +122,7 @@ inverse_kept t u v p known long small alone i s = record {
 
 -- The tables as code writes them where the location of a vreg is set: the old register is emptied, the new one filled, the list updated, and the
 -- location set.
-pub record Marks : Type 0 where
+pub record OneLocationSet : Type 0 where
   pub vreg_allocs : List Place
   pub held : List (Option VirtualRegister)
   pub emptied : List (Option VirtualRegister)
@@ -145,14 +145,14 @@ pub record Marks : Type 0 where
   pub counts : now_changes ≡ count_after watched changes number left place
 
 -- before and after
-abbrev pub unmarked : Marks → VRegAllocsValue
+abbrev pub unmarked : OneLocationSet → VRegAllocsValue
 unmarked m = record { vreg_allocs = m.vreg_allocs; vreg_in_preg = m.held; in_registers = m.listed; watched = m.watched; changes = m.changes }
 
-abbrev pub marked : Marks → VRegAllocsValue
+abbrev pub marked : OneLocationSet → VRegAllocsValue
 marked m = record { vreg_allocs = set m.vreg_allocs m.number m.place; vreg_in_preg = m.filled; in_registers = m.now_listed; watched = m.watched; changes = m.now_changes }
 
 -- one register is emptied, and another filled
-pub sets_alloc_by_marks : (m : Marks) → SetsAlloc (unmarked m) (marked m) m.vreg m.place
+pub sets_alloc_by_marks : (m : OneLocationSet) → SetsAlloc (unmarked m) (marked m) m.vreg m.place
 sets_alloc_by_marks m =
     let T : List Place = m.vreg_allocs in
     let n : ℕ = m.number in
@@ -171,8 +171,8 @@ sets_alloc_by_marks m =
           ∙ ap (λ (k : ℕ). count_after m.watched m.changes k (slice_index_or T k NoPlace) p) e;
     }
 
--- so the tables stay inverse
-pub inverse_marked : (m : Marks) → ((r : Register) → m.place ≡ InRegister r → r.number < 64)
+-- the tables stay inverse where one register is emptied and another filled
+pub inverse_marked : (m : OneLocationSet) → ((r : Register) → m.place ≡ InRegister r → r.number < 64)
     → ((r : Register) → m.place ≡ InRegister r → (vreg_of_preg (unmarked m) r ≡ None) ⊎ (vreg_of_preg (unmarked m) r ≡ Some m.vreg))
     → IsInverse (unmarked m) → IsInverse (marked m)
 inverse_marked m small alone i = inverse_kept (unmarked m) (marked m) m.vreg m.place (rw (← m.numbered) m.known)

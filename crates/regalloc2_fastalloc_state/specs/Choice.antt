@@ -1,4 +1,4 @@
--- Which register is chosen, of those that are available.
+-- Which of the available registers is chosen.
 use Rattle.std.specs.Prelude.{Bool, List, Option, find, reverse}
 use Rattle.regalloc2_names.specs.Register.{Register}
 

@@ -1,4 +1,4 @@
--- Which registers are those of a list of vregs.
+-- The registers in which the vregs of a list are located.
 use Rattle.std.specs.Prelude.{◌≡◌, true, List, Contains, slice_index_or}
 use Rattle.regalloc2_names.specs.Place.{Place, NoPlace, InRegister}
 use Rattle.regalloc2_names.specs.Register.{Register, VirtualRegister}

@@ -6,14 +6,14 @@ use Rattle.regalloc2_names.specs.Register.{Register, class_code, is_register}
 use Rattle.regalloc2_names.specs.RegisterSet.{has_register}
 use Rattle.regalloc2_function.specs.Fitting.{count_below, register_number}
 use Rattle.regalloc2_fastalloc_state.specs.declared.inst_regs.InstRegs.{InstRegs}
-use Rattle.regalloc2_steps.specs.declared.positions.Positions.{Positions}
+use Rattle.regalloc2_fastalloc_state.specs.declared.positions.Positions.{Positions}
 
 -- a register is free at the positions
 pub record IsAvailableAt (inst_regs : InstRegs) (p : Positions) (r : Register) : Type 0 where
   pub early : p.early ≡ true → has_register inst_regs.early r ≡ true
   pub late : p.late ≡ true → has_register inst_regs.late r ≡ true
 
--- the same as a test; at neither position, it tests the late one
+-- `IsAvailableAt` as a test; for no position at all it tests the late one
 abbrev pub is_available_at : InstRegs → Positions → Register → Bool
 is_available_at inst_regs p r =
     if p.early then has_register inst_regs.early r && (not p.late || has_register inst_regs.late r) else has_register inst_regs.late r
@@ -26,11 +26,11 @@ awaited_of inst_regs class = slice_index inst_regs.awaited (class_code class)
 abbrev pub is_free_throughout : InstRegs → Register → Bool
 is_free_throughout inst_regs r = has_register inst_regs.early r && has_register inst_regs.late r
 
--- and is one of a set
+-- a register of the set is free at both positions
 abbrev pub is_free : PRegSet → InstRegs → Register → Bool
 is_free set inst_regs r = has_register set r && is_free_throughout inst_regs r
 
--- how many of a class there are
+-- how many registers of a class in the set are free at both positions
 abbrev pub free_count : PRegSet → InstRegs → RegClass → ℕ
 free_count set inst_regs class = count_below (λ n. is_free set inst_regs (register_number class n)) 64
 

@@ -3,8 +3,7 @@ use Rattle.std.specs.Prelude.{ℕ, ◌+◌, ◌*◌, ◌<◌, length}
 use Rattle.regalloc2_names.specs.declared.RegAllocError.{RegAllocError}
 use Rattle.regalloc2_names.specs.declared.RegAllocError.TheVariants.{CritEdge, SSA, BB, Branch, EntryLivein, DisallowedBranchArg, TooManyLiveRegs}
 use Rattle.regalloc2_names.specs.declared.RegAllocError.TheVariants.{TooManyOperands, Unsupported, TooManySpillSlots, Memory}
-use Rattle.regalloc2_fastalloc_state.specs.StateParts.{SpillSlotsValue, AreUpTo}
-use Rattle.regalloc2_steps.specs.Units.{most_units}
+use Rattle.regalloc2_fastalloc_state.specs.StateParts.{SpillSlotsValue, AreUpTo, most_units}
 
 -- what may have run out: registers or spill slots, where these did, or memory
 abbrev pub Lacks : Type 0 → Type 0 → RegAllocError → Type 0
@@ -28,11 +27,11 @@ IsResourceError Full e = Lacks (Unit {0}) Full e
 abbrev pub LacksSlots : Type 0 → RegAllocError → Type 0
 LacksSlots Full e = Lacks ⊥ Full e
 
--- slots are full only where one for each vreg and so many more, aligned, may take more units than there are
+-- slots are full only where one for each vreg and `more` besides, aligned, may take more units than there are
 abbrev pub SlotsExhaustedWith : SpillSlotsValue → ℕ → Type 0
 SlotsExhaustedWith s more = (most : ℕ) → AreUpTo most s.sizes → most_units < (length s.vreg_spillslots + more) * (2 * most)
 
--- with the temporary ones
+-- `SlotsExhaustedWith` the temporary slots that there are
 abbrev pub SlotsExhausted : SpillSlotsValue → Type 0
 SlotsExhausted s = SlotsExhaustedWith s s.num_temp_slots
 

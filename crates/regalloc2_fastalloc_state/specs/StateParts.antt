@@ -7,7 +7,6 @@ use Rattle.std.specs.List.{count_by}
 use Rattle.regalloc2_names.specs.declared.RegClass.{RegClass}
 use Rattle.regalloc2_names.specs.Register.{class_code}
 use Rattle.regalloc2_parts.specs.Ring.{AreDistinctOf}
-use Rattle.regalloc2_steps.specs.Units.{most_units}
 use Rattle.regalloc2_function.specs.Fitting.{count_below, register_number}
 use Rattle.regalloc2_function.specs.Machine.{empty_set}
 use Rattle.regalloc2_function.specs.OutputValue.{MoveValue}
@@ -44,7 +43,7 @@ pub record IsInverse (t : VRegAllocsValue) : Type 0 where
   pub listed : (r : Register) (v : VirtualRegister) → r.number < 64 → vreg_of_preg t r ≡ Some v → Contains t.in_registers v
   pub only : (v : VirtualRegister) → Contains t.in_registers v → (r : Register) × (r.number < 64) × (vreg_of_preg t r ≡ Some v)
 
--- the last filled register, of those in which vregs are
+-- the last filled one of the registers that hold vregs
 pub record IsNewest (t : VRegAllocsValue) (r : Register) : Type 0 where
   pub vreg : VirtualRegister
   pub rest : List VirtualRegister
@@ -64,7 +63,7 @@ pub record HasIf (b : Bool) (vregs : List VirtualRegister) (n : ℕ) : Type 0 wh
   pub has : b ≡ true → Any (λ v. v.number ≡ n) vregs
   pub absent : b ≡ false → All (λ v. v.number ≢ n) vregs
 
--- no vreg has a location, of so many vregs, and no change is counted of those that are watched
+-- of n vregs none has a location, and no change of a watched vreg is counted
 abbrev pub no_allocs : ℕ → List Bool → VRegAllocsValue
 no_allocs n watched = record { vreg_allocs = replicate n NoPlace; vreg_in_preg = replicate 256 None; in_registers = []; watched = watched; changes = 0 }
 
@@ -90,6 +89,10 @@ pub record SetsVRegInPReg (old new : List (Option VirtualRegister)) (p : Place) 
   pub each : (r : Register) → r.number < 64 → slice_index_or new (bits_of_register r)
       None ≡ (if is_place p (InRegister r) then v else slice_index_or old (bits_of_register r) None)
 
+-- the greatest number of units that all slots may take
+abbrev pub most_units : ℕ
+most_units = 16777216
+
 -- the slots of the vregs, by number; how many units all slots take; how many temporary slots there are, which belong to no vreg; the units
 -- of a slot of each class; whether a slot is named by its last unit
 pub record SpillSlotsValue : Type 0 where
@@ -107,11 +110,11 @@ slot_name s n = slice_index_or s.vreg_spillslots n NoPlace
 abbrev pub units_of : SpillSlotsValue → RegClass → ℕ
 units_of s class = slice_index s.sizes (class_code class)
 
--- A new slot starts at the first multiple of its size at or past those that are taken; it ends there:
+-- where a new slot ends: it starts at the first multiple of its size at or past the units that are taken
 abbrev pub slot_end : SpillSlotsValue → RegClass → ℕ
 slot_end s class = next_multiple_of s.count (units_of s class) + units_of s class
 
--- and it is named by its first or its last unit
+-- the unit that names a new slot: its first or its last one
 abbrev pub new_slot : SpillSlotsValue → RegClass → ℕ
 new_slot s class = if s.by_last then slot_end s class - 1 else next_multiple_of s.count (units_of s class)
 
@@ -125,7 +128,7 @@ IsSlotOrNone count (InSlot n) = n < count
 abbrev pub owners : SpillSlotsValue → ℕ
 owners s = count_by (λ p. not (is_no_place p)) s.vreg_spillslots
 
--- a slot takes so many units at most
+-- a slot of no class takes more than `most` units
 abbrev pub AreUpTo : ℕ → List ℕ → Type 0
 AreUpTo most sizes = (c : ℕ) → c < 3 → slice_index sizes c ≤ most
 
@@ -152,14 +155,15 @@ pub record GetsSpillSlot (old new : SpillSlotsValue) (v : VirtualRegister) (p : 
   pub had : slot_name old v.number ≢ NoPlace → (p ≡ slot_name old v.number) × (new.count ≡ old.count)
   pub made : slot_name old v.number ≡ NoPlace → (p ≡ InSlot (new_slot old v.class)) × (new.count ≡ slot_end old v.class)
 
--- where a slot of a class ends that comes after so many new ones of the class, and its name
+-- where a slot of a class ends that comes after k new ones of the class
 abbrev pub later_end : SpillSlotsValue → RegClass → ℕ → ℕ
 later_end s class k = next_multiple_of s.count (units_of s class) + k * units_of s class + units_of s class
 
+-- the unit that names it
 abbrev pub later_slot : SpillSlotsValue → RegClass → ℕ → ℕ
 later_slot s class k = if s.by_last then later_end s class k - 1 else next_multiple_of s.count (units_of s class) + k * units_of s class
 
--- so many temporary slots of a class are added, which belong to no vreg
+-- `taken` temporary slots of a class are added, which belong to no vreg
 pub record AddsTempSlots (old new : SpillSlotsValue) (class : RegClass) (taken : ℕ) : Type 0 where
   pub vreg_spillslots : new.vreg_spillslots ≡ old.vreg_spillslots
   pub sizes : new.sizes ≡ old.sizes
@@ -168,7 +172,7 @@ pub record AddsTempSlots (old new : SpillSlotsValue) (class : RegClass) (taken :
   pub none : taken ≡ 0 → new.count ≡ old.count
   pub some : (k : ℕ) → taken ≡ k + 1 → new.count ≡ later_end old class k
 
--- no slots, for so many vregs
+-- a table for n vregs, none of which has a slot
 abbrev pub no_slots : ℕ → List ℕ → Bool → SpillSlotsValue
 no_slots n sizes by_last = record { vreg_spillslots = replicate n NoPlace; count = 0; num_temp_slots = 0; sizes = sizes; by_last = by_last }
 
@@ -176,7 +180,7 @@ no_slots n sizes by_last = record { vreg_spillslots = replicate n NoPlace; count
 abbrev pub kept_move : ℕ × Place × Place → ℕ × MoveValue
 kept_move m = (m.0, record { from = m.1; to = m.2 })
 
--- each point is at most those of the moves that were pushed before
+-- the points of moves never rise in the order in which the moves were pushed
 abbrev pub PointsDescend : List (ℕ × MoveValue) → Type 0
 PointsDescend es = (i j : ℕ) (d : ℕ × MoveValue) → i ≤ j → j < length es → (slice_index_or es j d).0 ≤ (slice_index_or es i d).0
 
@@ -184,8 +188,8 @@ PointsDescend es = (i j : ℕ) (d : ℕ × MoveValue) → i ≤ j → j < length
 abbrev pub AllAtOrAfter : ℕ → List (ℕ × MoveValue) → Type 0
 AllAtOrAfter point es = All (λ e. point ≤ e.0) es
 
--- The allocatable registers, and for each class the order of their use, the most recently used first; those that are fixed stack slots; the register
--- of each class that is kept for stack-to-stack moves.
+-- The allocatable registers, and for each class the order of their use, the most recently used first; the fixed stack slots; the register of each class
+-- that is kept for stack-to-stack moves.
 pub record AllocatableRegsValue : Type 0 where
   pub allocatable : PRegSet
   pub lrus : List (List Register)

@@ -24,7 +24,7 @@ use std::marker::Model;
 pub struct AllocatableRegs<A: Allocator> {
     allocatable: PRegSet,
     lrus: Lrus<A>,
-    /// Those that are fixed stack slots.
+    /// The registers that are fixed stack slots.
     fixed_stack: PRegSet,
     /// The register of each class that is kept for stack-to-stack moves.
     dedicated_scratch: [Option<PReg>; 3],
@@ -86,7 +86,7 @@ pub fn allocatable_of<A: Allocator>(env: &MachineEnv<A>, class: RegClass) -> PRe
     env.preferred_regs_by_class[index] | env.non_preferred_regs_by_class[index]
 }
 
-/// The set of some registers.
+/// Returns the set of the registers `regs`.
 fn set_of(regs: &[PReg]) -> PRegSet
     ensures { (r : Register) → (has_register result r ≡ true) ↔ Contains regs.now r }
 {
@@ -209,8 +209,8 @@ impl<A: Allocator> AllocatableRegs<A> {
         self.lrus.items[class.code()].last(available)
     }
 
-    /// Returns the register that would be chosen if all of the class were available. It is what
-    /// `choose_register` returns for each set that has this register, without a search.
+    /// Returns the register that `choose_register` chooses if all registers of the class are available,
+    /// and from each set that has that register. Searches nothing.
     #[inline(always)]
     pub fn first_choice(&self, class: RegClass) -> Option<PReg>
         ensures chosen { result ≡ chosen (λ r. true) (lru_of self.now class) }
@@ -221,7 +221,7 @@ impl<A: Allocator> AllocatableRegs<A> {
         self.lrus.items[class.code()].oldest()
     }
 
-    /// Makes the register the most recently used of its class; the others keep their order.
+    /// Makes `preg` the most recently used register of its class. The order of the rest stays.
     #[inline(always)]
     pub fn poke(&mut self, preg: PReg)
         requires member { has_register self.old.allocatable preg ≡ true }

@@ -53,7 +53,7 @@ fn as_edit(kept: KeptMove) -> (ProgPoint, Edit)
     (point, Edit::Move { from, to })
 }
 
-/// Adds the current chunk to the full ones, and begins a new one with room for as many moves.
+/// Adds the chunk `current` to the full chunks, and begins a new chunk with room for as many moves.
 #[inline(never)]
 fn begin_chunk<A: Allocator + Copy>(
     full: &mut Vec<Vec<KeptMove, A>, A>,
@@ -72,8 +72,7 @@ fn begin_chunk<A: Allocator + Copy>(
     Ok(())
 }
 
-/// Lists the moves of a chunk after those already listed, the last one first. There must be room
-/// for them.
+/// Appends the moves of `chunk` to `listed`, the last one first. `listed` has room for them.
 fn list_chunk<B: Allocator>(listed: &mut Vec<(ProgPoint, Edit), B>, chunk: &[KeptMove])
     requires room { vec_len listed.old + length chunk.now ≤ vec_capacity listed.old }
     ensures listed { map edit_of listed.new.items ≡ map edit_of listed.old.items ++ reverse (map kept_move chunk.now) }
@@ -85,7 +84,7 @@ fn list_chunk<B: Allocator>(listed: &mut Vec<(ProgPoint, Edit), B>, chunk: &[Kep
     }
 }
 
-/// How many moves some chunks have in all, or the greatest number.
+/// Returns how many moves `chunks` have in all, or `usize::MAX` if there are more.
 fn moves_in<A: Allocator>(chunks: &[Vec<KeptMove, A>]) -> usize
     ensures { result ≡ min (length (flat_map (λ chunk. chunk.items) chunks.now)) (2 ^ 64 - 1) }
 {
@@ -97,8 +96,8 @@ fn moves_in<A: Allocator>(chunks: &[Vec<KeptMove, A>]) -> usize
 }
 
 impl<A: Allocator + Copy> Edits<A> {
-    /// Returns an empty list. `moves` is about how many are expected: a chunk has room for that
-    /// many, within its bounds.
+    /// Returns an empty list. About `moves` moves are expected: a chunk has room for `moves`, clamped
+    /// to `MIN_MOVES_IN_CHUNK..=MAX_MOVES_IN_CHUNK`.
     pub fn with_capacity(alloc: A, moves: usize) -> Result<Self, RegAllocError>
         ensures empty { IfOk result (λ e. e ≡ []) }
         ensures err { IfErr result (λ e. e ≡ RegAllocError.Memory) }
@@ -111,7 +110,8 @@ impl<A: Allocator + Copy> Edits<A> {
         })
     }
 
-    /// Adds a move, listed before all others, at a point that comes after none of theirs.
+    /// Adds a move at `point`, which comes after the point of no move in the list. The move is listed
+    /// before all of them.
     pub fn push(
         &mut self,
         point: ProgPoint,
@@ -130,8 +130,8 @@ impl<A: Allocator + Copy> Edits<A> {
         Ok(())
     }
 
-    /// Adds moves at a point that comes after none of the points there, the last one first: so they
-    /// are listed in their order.
+    /// Adds `moves` at `point`, which comes after the point of no move in the list. The last one is
+    /// added first, because moves are listed in the reverse order.
     pub fn push_all(
         &mut self,
         point: ProgPoint,
@@ -151,9 +151,9 @@ impl<A: Allocator + Copy> Edits<A> {
         Ok(())
     }
 
-    /// Returns the moves in the order in which they are listed, by rising points. Room for a
-    /// quarter of them is allocated at first, and for the others once the chunks of that quarter
-    /// have been listed and freed: so at no time are all of them there twice.
+    /// Returns the moves in the order in which they are listed, by rising points. Allocates room for
+    /// a quarter of the moves at first, and for the rest once the chunks of the first quarter have
+    /// been listed and freed. Therefore the moves never take memory twice.
     pub fn listed<B: Allocator>(self, alloc: B) -> Result<Vec<(ProgPoint, Edit), B>, RegAllocError>
         ensures listed { IfOk result (λ v. map edit_of v.items ≡ reverse self) }
         ensures falling { PointsDescend self }

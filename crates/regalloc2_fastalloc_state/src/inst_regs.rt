@@ -1,22 +1,21 @@
 //! The registers of one instruction: which are free at its two positions, and how many are still
 //! required.
 
-ghost use Rattle.std.specs.Prelude.{IsTrue, ◌≡◌, ◌+◌, ◌-◌, ◌<◌, ◌&&◌, ◌||◌, ◌∷◌, [], true, None, Some, not, slice_index_or, slice_set, if◌then◌else◌};
+ghost use Rattle.std.specs.Prelude.{IsTrue, ◌≡◌, ◌+◌, ◌-◌, ◌<◌, ◌^◌, ◌&&◌, ◌||◌, ◌∷◌, [], true, None, Some, not, slice_index_or, slice_set, if◌then◌else◌};
 ghost use Rattle.regalloc2_names.specs.Register.{Register, class_code, is_register};
 ghost use Rattle.regalloc2_names.specs.RegisterSet.{has_register};
 ghost use Rattle.regalloc2_fastalloc_state.specs.InstRegs.{RemovesAvailable, IsAvailableAt, SameAvailable, awaited_of};
 ghost use Rattle.regalloc2_fastalloc_state.specs.InstRegs.{is_available_at, is_free_throughout};
 
+use crate::positions::Positions;
 use regalloc2_names::{PReg, PRegSet, RegClass};
-use regalloc2_steps::clobbers::late_left;
-pub use regalloc2_steps::positions::Positions;
 
 /// The registers of one instruction, while its operands are allocated.
 #[derive(Clone, Copy)]
 pub struct InstRegs {
-    /// Those that are free while early operands are there.
+    /// The registers that are free while early operands are there.
     early: PRegSet,
-    /// Those that are free while late operands are there.
+    /// The registers that are free while late operands are there.
     late: PRegSet,
     /// The register of each class that stack-to-stack moves go through, once one is chosen.
     scratch: [Option<PReg>; 3],
@@ -24,7 +23,7 @@ pub struct InstRegs {
     awaited: [usize; 3],
 }
 
-/// Removes the register from the set, if it is taken.
+/// Removes `preg` from `set` if `is_taken`.
 #[inline(always)]
 fn take_out(set: &mut PRegSet, preg: PReg, is_taken: bool)
     ensures { (q : Register) → has_register set.new q ≡ not (is_taken && is_register preg q) && has_register set.old q }
@@ -35,7 +34,7 @@ fn take_out(set: &mut PRegSet, preg: PReg, is_taken: bool)
 }
 
 impl InstRegs {
-    /// All of these are free, and nothing is taken yet.
+    /// Returns a value in which all registers of `every` are free and nothing is taken yet.
     pub fn new(every: PRegSet) -> InstRegs
         ensures early { result.early ≡ every }
         ensures late { result.late ≡ every }
@@ -50,7 +49,7 @@ impl InstRegs {
         }
     }
 
-    /// The registers that are free at the positions.
+    /// Returns the registers that are free at `positions`.
     pub fn available_pregs(&self, positions: Positions) -> PRegSet
         ensures free { (r : Register) → has_register result r ≡ true → IsAvailableAt self.now positions r }
         ensures throughout { (r : Register) → is_free_throughout self.now r ≡ true → has_register result r ≡ true }
@@ -66,8 +65,8 @@ impl InstRegs {
         }
     }
 
-    /// Whether the register is free at the positions: whether `available_pregs` has it, without
-    /// building that set.
+    /// Whether `preg` is free at `positions`: whether `available_pregs` has it, without building the
+    /// set.
     #[inline(always)]
     pub fn is_available(&self, preg: PReg, positions: Positions) -> bool
         ensures same { result ≡ is_available_at self.now positions preg }
@@ -81,7 +80,7 @@ impl InstRegs {
         }
     }
 
-    /// Makes the register unavailable at the positions.
+    /// Makes `preg` unavailable at `positions`.
     #[inline(always)]
     pub fn remove_available(&mut self, preg: PReg, positions: Positions)
         ensures removed { RemovesAvailable self.old self.new preg positions }
@@ -91,20 +90,21 @@ impl InstRegs {
         take_out(&mut self.late, preg, positions.late);
     }
 
-    /// Makes the registers of the set unavailable at the end of the instruction.
+    /// Makes the registers `taken` unavailable at the late position: a clobber is overwritten while late
+    /// operands are there.
     pub fn remove_late(&mut self, taken: PRegSet)
         ensures late { (r : Register) → has_register self.new.late r ≡ not (has_register taken r) && has_register self.old.late r }
         ensures early { self.new.early ≡ self.old.early }
         ensures scratch { self.new.scratch ≡ self.old.scratch }
         ensures awaited { self.new.awaited ≡ self.old.awaited }
     {
-        self.late = late_left(self.late, taken);
+        self.late = self.late.difference(taken);
     }
 
-    /// Counts one more operand of the class, if it requires any register.
+    /// Counts one more operand of `class` if it requires any register.
     #[inline(always)]
     pub fn add_any_reg_op(&mut self, class: RegClass, is_one: bool)
-        requires { awaited_of self.old class < 18446744073709551615 }
+        requires { awaited_of self.old class < 2 ^ 64 - 1 }
         ensures sets { SameAvailable self.old self.new }
         ensures awaited { self.new.awaited ≡ slice_set self.old.awaited (class_code class) (awaited_of self.old class + (if is_one then 1 else 0)) }
     {

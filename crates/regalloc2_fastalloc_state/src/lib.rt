@@ -8,6 +8,7 @@ pub mod allocatable;
 pub mod edits;
 pub mod inst_regs;
 pub mod masks;
+pub mod positions;
 pub mod request;
 pub mod spillslots;
 pub mod validate;

@@ -1,4 +1,4 @@
-//! Which of an instruction's operands are late, early, or uses, as bits of a word each.
+//! The late operands, the early operands and the uses of an instruction, each group as the bits of a word.
 //!
 //! The walk visits each of these groups in turn. Tests of each operand in each loop would be branches
 //! that a processor predicts badly. One pass that sets bits has none.
@@ -13,7 +13,7 @@ ghost use Rattle.regalloc2_fastalloc_state.specs.Masks.{AreMasks, selected};
 use regalloc2_names::Operand;
 use std::marker::Model;
 
-/// Which of an instruction's operands, 63 at most, are late, and which are uses: bit k for the operand k.
+/// The late operands and the uses of an instruction with at most 63 operands: bit k for the operand k.
 #[derive(Clone, Copy)]
 pub struct Masks {
     late: u64,
@@ -21,7 +21,7 @@ pub struct Masks {
 }
 
 impl Masks {
-    /// Those of no operand.
+    /// Returns the masks of no operand.
     #[inline(always)]
     pub fn none() -> Masks
         ensures { AreMasks [] result }
@@ -29,7 +29,7 @@ impl Masks {
         Masks { late: 0, uses: 0 }
     }
 
-    /// Those of the operands with one more before them.
+    /// Returns the masks of `operand` followed by the operands of `self`.
     #[inline(always)]
     pub fn before(self, operand: Operand) -> Masks
         ensures { (operands : List OperandValue) → length operands < 63 → AreMasks operands self → AreMasks (operand ∷ operands) result }
@@ -80,7 +80,7 @@ impl Masks {
     }
 }
 
-/// Operands with their indexes, in order; specified as the list of those that are left.
+/// Operands with their indexes, in order. Its value is the list of the operands that are left.
 #[derive(Clone, Drop)]
 pub struct Selected<'o> {
     operands: &'o [Operand],

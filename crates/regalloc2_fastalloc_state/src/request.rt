@@ -1,6 +1,6 @@
 //! What an operand requires, as it is allocated.
 
-use super::inst_regs::Positions;
+use crate::positions::Positions;
 use regalloc2_names::{PReg, VReg};
 
 /// What an operand requires of its place, once a reuse was replaced by the operand that it names.
@@ -12,7 +12,7 @@ pub enum Requirement {
     AnyReg,
     /// A stack place.
     InMemory,
-    /// That register, or fixed stack slot.
+    /// The register or fixed stack slot itself.
     InPReg(PReg),
 }
 

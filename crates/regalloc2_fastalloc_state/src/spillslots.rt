@@ -4,15 +4,13 @@ ghost use Rattle.std.specs.Prelude.{◌≡◌, ℕ, ◌+◌, ◌-◌, ◌<◌, �
 ghost use Rattle.regalloc2_names.specs.Place.{InSlot};
 ghost use Rattle.regalloc2_fastalloc_state.specs.OutOfResources.{IsResourceErrorIn};
 ghost use Rattle.regalloc2_fastalloc_state.specs.StateParts.{SlotsHaveOneOwner, GetsSpillSlot, AddsTempSlots, later_end, later_slot, no_slots, slot_end};
-ghost use Rattle.regalloc2_fastalloc_state.specs.StateParts.{slot_name};
-ghost use Rattle.regalloc2_steps.specs.Units.{most_units};
+ghost use Rattle.regalloc2_fastalloc_state.specs.StateParts.{most_units, slot_name};
 
 use regalloc2_names::{Allocation, RegAllocError, RegClass, SpillSlot, VReg};
-use regalloc2_steps::units::Units;
 use std::alloc::Allocator;
 use std::marker::Model;
 
-/// The spill slots: that of each vreg, and how many units they take.
+/// The spill slot of each vreg, and how many units all slots take.
 #[derive(Drop)]
 pub struct SpillSlots<A: Allocator> {
     /// By vreg number.
@@ -45,7 +43,7 @@ impl<A: Allocator> Model for SpillSlots<A> {
 }
 
 impl<A: Allocator> SpillSlots<A> {
-    /// No slots, for so many vregs.
+    /// Returns an empty table for `vregs` vregs.
     pub fn new(
         alloc: A,
         vregs: usize,
@@ -74,7 +72,7 @@ impl<A: Allocator> SpillSlots<A> {
         self.count
     }
 
-    /// The vreg's slot, if it has one, else none.
+    /// Returns the slot of `vreg`, or none.
     pub fn find_spillslot(&self, vreg: VReg) -> Allocation
         requires { vreg.number < length self.now.vreg_spillslots }
         ensures slot { result ≡ slot_name self.now vreg.number }
@@ -83,8 +81,8 @@ impl<A: Allocator> SpillSlots<A> {
         self.vreg_spillslots[vreg.vreg()]
     }
 
-    /// The vreg's slot, which is made if it has none. Returns the error `TooManySpillSlots` where it would end past the
-    /// greatest number of units.
+    /// Returns the slot of `vreg`, which is made if it has none. The error is `TooManySpillSlots` if the new slot would
+    /// end past 2^24 units.
     pub fn get_spillslot(&mut self, vreg: VReg) -> Result<Allocation, RegAllocError>
         requires { vreg.number < length self.old.vreg_spillslots }
         ensures ok { IfOk result (λ p. GetsSpillSlot self.old self.new vreg p) }
@@ -101,17 +99,18 @@ impl<A: Allocator> SpillSlots<A> {
             return Ok(had);
         }
         let size = self.sizes[vreg.class().code()];
-        let units = Units::after(self.count, size);
-        if units.end > SpillSlot::MAX + 1 {
+        let start = self.count.next_multiple_of(size);
+        let end = start + size;
+        if end > SpillSlot::MAX + 1 {
             return Err(RegAllocError::TooManySpillSlots);
         }
-        let slot = Allocation::stack(SpillSlot::new(named_unit(units.start, size, self.by_last)));
+        let slot = Allocation::stack(SpillSlot::new(named_unit(start, size, self.by_last)));
         self.vreg_spillslots[number] = slot;
-        self.count = units.end;
+        self.count = end;
         Ok(slot)
     }
 
-    /// The slot of a class that would come after so many new ones of the class, if there is room.
+    /// Returns the slot of `class` that would come after `before` new slots of the class, if there is room.
     pub fn next_temp_slot(&self, class: RegClass, before: usize) -> Option<Allocation>
         requires few { before ≤ 1 }
         ensures slot { IfSome result (λ p. p ≡ InSlot (later_slot self.now class before)) }
@@ -127,7 +126,7 @@ impl<A: Allocator> SpillSlots<A> {
         Some(Allocation::stack(SpillSlot::new(named_unit(start, size, self.by_last))))
     }
 
-    /// So many temporary slots of a class are added, which belong to no vreg.
+    /// Adds `taken` temporary slots of `class`, which belong to no vreg.
     pub fn add_temp_slots(&mut self, class: RegClass, taken: usize)
         requires few { taken ≤ 2 }
         requires room { (k : ℕ) → taken ≡ k + 1 → later_end self.old class k ≤ most_units }
@@ -143,7 +142,7 @@ impl<A: Allocator> SpillSlots<A> {
     }
 }
 
-/// The unit that names the slot of so many units from `start` on.
+/// Returns the unit that names the slot of `size` units from `start` on.
 fn named_unit(start: usize, size: usize, by_last: bool) -> usize
     requires size { 0 < size }
     requires few { start + size ≤ most_units }

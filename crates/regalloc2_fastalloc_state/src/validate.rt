@@ -18,8 +18,8 @@ use constraints::validate_fixed;
 /// Tests that a function is well-formed: by [`test_shape`], then [`test_soundness`], then
 /// [`validate_fixed`].
 ///
-/// These are the tests of `CFGInfo::new` and `validate_ssa`, without the tables that the former
-/// makes, which no test reads. The first test that fails decides the error. Returns `Memory` if
+/// `CFGInfo::new` and `validate_ssa` make the same tests; the tables that `CFGInfo::new` fills in are
+/// left out, because no test reads them. The first test that fails decides the error. Returns `Memory` if
 /// memory runs out.
 pub fn validate_function<A: Allocator + Copy, F: Function, B: Allocator>(
     alloc: A,

@@ -1,6 +1,6 @@
 //! The locations of vregs.
 
-ghost use Rattle.std.specs.Prelude.{◌≡◌, ◌≢◌, ◌↔◌, ◌<◌, ◌≤◌, ◌⊎◌, ◌-◌, ◌^◌, [], true, IsTrue, All, length, IfOk, IfErr, IfSome, IfNone, Option, Some};
+ghost use Rattle.std.specs.Prelude.{◌≡◌, ◌≢◌, ◌↔◌, ◌<◌, ◌≤◌, ◌⊎◌, ◌+◌, ◌-◌, ◌^◌, [], true, IsTrue, All, length, IfOk, IfErr, IfSome, IfNone, Option, Some};
 ghost use Rattle.regalloc2_names.specs.Place.{InRegister, is_in_register};
 ghost use Rattle.regalloc2_names.specs.Register.{Register, VirtualRegister};
 ghost use Rattle.regalloc2_names.specs.RegisterSet.{has_register};
@@ -21,7 +21,7 @@ pub struct VRegAllocs<'a, A: Allocator> {
     vreg_allocs: Vec<Allocation, A>,
     /// By register index.
     vreg_in_preg: Vec<Option<VReg>, A>,
-    /// The vregs that are in registers, the last filled register's first.
+    /// The vregs in registers, the last filled register's first.
     in_registers: VRegSet<A>,
     /// By vreg number, whether it is counted that the vreg gets or loses its location.
     watched: &'a [bool],
@@ -43,9 +43,9 @@ impl<'a, A: Allocator> Model for VRegAllocs<'a, A> {
 }
 
 impl<'a, A: Allocator + Copy> VRegAllocs<'a, A> {
-    /// Tables for so many vregs, in which no vreg has a location, and no change is counted.
+    /// Returns tables for `vregs` vregs, in which no vreg has a location. No change is counted yet.
     pub fn new(alloc: A, vregs: usize, watched: &'a [bool]) -> Result<Self, RegAllocError>
-        requires { vregs ≤ 1073741824 }
+        requires { vregs ≤ VReg.MAX + 1 }
         ensures empty { IfOk result (λ t. t ≡ no_allocs vregs watched.now) }
         ensures err { IfErr result (λ e. e ≡ RegAllocError.Memory) }
     {
@@ -62,8 +62,8 @@ impl<'a, A: Allocator + Copy> VRegAllocs<'a, A> {
     }
 }
 
-/// The count of changes once the vreg with this number leaves a place for another: one more if it is
-/// watched and one of the places is none.
+/// Returns the count of changes once the vreg with the number `number` leaves the place `left` for
+/// `place`: one more than `changes` if the vreg is watched and one of the places is none.
 #[inline(always)]
 fn count_after(
     watched: &[bool],
@@ -83,7 +83,7 @@ fn count_after(
     changes
 }
 
-/// Records that the vreg is in the place from now on, if that is a register.
+/// Records that `vreg` is in `place` from now on, if `place` is a register.
 #[inline(always)]
 fn set_vreg_in_preg<A: Allocator>(
     vreg_in_preg: &mut Vec<Option<VReg>, A>,
@@ -99,8 +99,8 @@ fn set_vreg_in_preg<A: Allocator>(
     }
 }
 
-/// Removes the vreg with this number from the list if the place that it leaves is a register; the
-/// vreg is in the list then.
+/// Removes the vreg with the number `number`, which leaves the place `left`, from the list if `left` is
+/// a register. The vreg is in the list then.
 #[inline(always)]
 fn take_out<A: Allocator>(in_registers: &mut VRegSet<A>, left: Allocation, number: usize)
     requires { HasIf (is_in_register left) in_registers.old.members number }
@@ -111,7 +111,7 @@ fn take_out<A: Allocator>(in_registers: &mut VRegSet<A>, left: Allocation, numbe
     }
 }
 
-/// Puts the vreg, which isn't in the list, in front if the place is a register.
+/// Puts `vreg`, which isn't in the list, in front if `place` is a register.
 #[inline(always)]
 fn put_in_front<A: Allocator>(in_registers: &mut VRegSet<A>, place: Allocation, vreg: VReg)
     requires below { vreg.number < in_registers.old.capacity }
@@ -138,7 +138,7 @@ fn registers_of_vregs<A: Allocator>(vregs: &VRegSet<A>, vreg_allocs: &Vec<Alloca
 }
 
 impl<'a, A: Allocator> VRegAllocs<'a, A> {
-    /// The place where the vreg is located, or none.
+    /// Returns the place where `vreg` is located, or none.
     pub fn current_alloc(&self, vreg: VReg) -> Allocation
         requires { vreg.number < length self.now.vreg_allocs }
         ensures place { result ≡ alloc_of self.now vreg.number }
@@ -147,7 +147,7 @@ impl<'a, A: Allocator> VRegAllocs<'a, A> {
         self.vreg_allocs[vreg.vreg()]
     }
 
-    /// The vreg that is in the register.
+    /// Returns the vreg in the register `preg`, if any.
     pub fn vreg_in(&self, preg: PReg) -> Option<VReg>
         ensures vreg { result ≡ vreg_of_preg self.now preg }
         ensures inverse { IsInverse self.now }
@@ -156,15 +156,14 @@ impl<'a, A: Allocator> VRegAllocs<'a, A> {
         self.vreg_in_preg[preg.index()]
     }
 
-    /// The registers in which vregs are. It takes a step for each of these, and not for each
-    /// register.
+    /// Returns the registers that hold vregs, in one step for each vreg in a register.
     pub fn filled(&self) -> PRegSet
         ensures { (r : Register) → r.number < 64 → (has_register result r ≡ true) ↔ ((v : VirtualRegister) × (vreg_of_preg self.now r ≡ Some v)) }
     {
         registers_of_vregs(&self.in_registers, &self.vreg_allocs)
     }
 
-    /// The last filled register, of those in which vregs are.
+    /// Returns the register that was filled last, of the registers that hold vregs.
     pub fn newest_filled(&self) -> Option<PReg>
         ensures some { IfSome result (λ r. IsNewest self.now r) }
         ensures none { IfNone result (self.now.in_registers ≡ []) }
@@ -181,14 +180,14 @@ impl<'a, A: Allocator> VRegAllocs<'a, A> {
         self.changes
     }
 
-    /// Whether that is still so, and the count can rise.
+    /// Whether the count is still `changes`, and can rise.
     pub fn is_unchanged(&self, changes: usize) -> bool
         ensures { IsTrue result ↔ ((self.now.changes ≡ changes) × (changes < 2 ^ 64 - 1)) }
     {
         self.changes == changes && changes < usize::MAX
     }
 
-    /// Makes the place the vreg's only location.
+    /// Makes `place` the only location of `vreg`.
     pub fn set_alloc(&mut self, vreg: VReg, place: Allocation)
         requires vreg { vreg.number < length self.old.vreg_allocs }
         requires alone { (r : Register) → place ≡ InRegister r → (vreg_of_preg self.old r ≡ None) ⊎ (vreg_of_preg self.old r ≡ Some vreg) }

@@ -4,7 +4,7 @@ use Rattle.std.specs.Prelude.{count_by, slice_index_or}
 use Rattle.std.proofs.lemmas.Bool.{cases_Bool}
 use Rattle.std.proofs.lemmas.List.Sums.{sum_by-cons}
 
--- one, or none
+-- 1 if a test passes, else 0
 abbrev one_if : Bool → ℕ
 one_if b = cond b 1 0
 
@@ -23,7 +23,7 @@ one_counted p (x ∷ xs) d h = elim (cases_Bool (p x)) [
       (suc rest.0, omega (arith, rest.1), rest.2))
 ]
 
--- two of them do
+-- two elements pass
 pub two_counted : {X : Type 0} (p : X → Bool) (xs : List X) (d : X) → 2 ≤ count_by p xs → (i j : ℕ) × (i < j) × (j < length xs)
     × (p (slice_index_or xs i d) ≡ true) × (p (slice_index_or xs j d) ≡ true)
 two_counted p [] d h = absurd (omega (arith, h))

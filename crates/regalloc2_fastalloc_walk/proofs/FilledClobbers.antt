@@ -1,4 +1,4 @@
--- Emptying those registers of a set in which vregs are is emptying all of them.
+-- Emptying the registers of a set that hold vregs is emptying all registers of the set.
 use Rattle.std.proofs.Common.{ℕ, zero, suc, ◌≡◌, ◌+◌, ◌<◌, Bool, true, false, cond, ◌&&◌, List, [], ◌∷◌, ◌++◌, refl, sym, ap, ◌∙◌, subst, arith, nat_eq}
 use Rattle.std.proofs.Common.{slice_index, slice_index_or}
 use Rattle.std.specs.Prelude.{All, Contains, None, filter}
@@ -15,7 +15,7 @@ use Rattle.regalloc2_fastalloc_state.specs.declared.inst_regs.InstRegs.{InstRegs
 use Rattle.regalloc2_fastalloc_proofs.specs.InstSteps.{StateValue, EvictsPReg, empty, EvictsEach, none_left, one_more}
 use Rattle.regalloc2_fastalloc_proofs.proofs.Evictions.PushedAndRemoved.{evicts_preg_empty}
 
--- the members of a word that a test lets through are those of the word that has only these bits
+-- the members of a word that pass a test are the members of the word that has only their bits
 kept_step : {X : Type 0} (p : X → Bool) (b : Bool) (x : X) (xs ys : List X) → ys ≡ filter p xs →
     cond (b && p x) (x ∷ ys) ys ≡ filter p (cond b (x ∷ xs) xs)
 kept_step p true x xs ys e = ap (λ l. cond (p x) (x ∷ l) l) e
@@ -35,7 +35,7 @@ three : {X : Type 0} (p : X → Bool) (ks ls ms xs ys zs : List X) → xs ≡ fi
     xs ++ ys ++ zs ≡ filter p (ks ++ ls ++ ms)
 three p ks ls ms xs ys zs d e f = rw (d, e, f, filter-append p (ks ++ ls) ms, filter-append p ks ls) refl
 
--- the registers of what two sets share are those of the first that the second has
+-- the registers that two sets share are the registers of the first set that the second set has
 pub shared_are : (s a b : PRegSet) → ((r : Register) → has_register s r ≡ (has_register a r && has_register b r)) →
     registers_of s ≡ filter (has_register b) (registers_of a)
 unfolding has_register registers_of_words
@@ -51,7 +51,7 @@ shared_are s a b h =
 pub are_small : (s : PRegSet) → All (λ (r : Register). r.number < 64) (registers_of s)
 are_small s k d lt = (listed_is s (slice_index_or (registers_of s) k d) (Contains-get_or (registers_of s) k d lt)).0
 
--- a set that has no register lists none
+-- a set that has no register lists no register
 pub none_listed : (s : PRegSet) → ((r : Register) → has_register s r ≡ false) → registers_of s ≡ []
 none_listed s h = by (registers_of s) (λ r c. let yes = (listed_is s r c).1 in let wrong : true ≡ false = sym yes ∙ h r in cc)
   where
@@ -76,7 +76,7 @@ module _ (point : ℕ) (p : Register → Bool) where
       one_more r rs a b d k l n now (rest b l (λ x lt out. evicts_preg_empty point r a b k l now x lt (h x lt out))
       (subst (λ ys. EvictsEach point ys b l d n) tail more))
 
-  -- so emptying those that it lets through is emptying all
+  -- emptying the registers that pass the test is emptying all
   pub evicts_all : (rs : List Register) (t u : InstRegs) (old new : StateValue) → All (λ (r : Register). r.number < 64) rs → AreLeftOut old →
       EvictsEach point (filter p rs) t old u new → EvictsEach point rs t old u new
   evicts_all [] t u old new small h c = c

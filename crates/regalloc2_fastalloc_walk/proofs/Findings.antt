@@ -15,7 +15,7 @@ use Rattle.regalloc2_fastalloc_walk.specs.Findings.{IsFound, ListsAddingFrom, Pa
 first_or_later : (i k : ℕ) → i ≤ k → (k ≡ i) ⊎ (i + 1 ≤ k)
 first_or_later i k le = grind arith
 
--- the instructions from one on pass their tests
+-- the instructions from `i` on pass their tests
 abbrev pub PassFrom : FunctionValue → ℕ → Type 0
 PassFrom f i = (k : ℕ) → i ≤ k → k < length f.insts → PassesTests (inst_at f k)
 
@@ -45,7 +45,7 @@ none_listed f Asked i end = record {
   all = λ k le lt. absurd (omega (arith, le, lt, end));
 }
 
--- whether one instruction more does
+-- whether the instructions from `i` on pass their tests
 pub passes_more : (f : FunctionValue) (i : ℕ) (a b : Bool) → i < length f.insts → (a ≡ true) ↔ PassFrom f (i + 1) →
     (b ≡ true) ↔ PassesTests (inst_at f i) → ((a && b) ≡ true) ↔ PassFrom f i
 passes_more f i a b inside later here = (
@@ -75,7 +75,7 @@ module _ (f : FunctionValue) (Asked : ℕ → Type 0) (i : ℕ) (listed : List �
   at_it : (n : ℕ) → n ≡ length listed → slice_index_or (listed ++ i ∷ []) n 0 ≡ i
   at_it n same = ap (λ (m : ℕ). slice_index_or (listed ++ i ∷ []) m 0) same ∙ get_or-append_seam listed i [] 0
 
-  -- and one that is listed
+  -- one instruction more, which is listed
   pub listed_more : i < length f.insts → ListsAddingFrom f Asked i (listed ++ i ∷ [])
   listed_more inside =
       let long : length (listed ++ i ∷ []) ≡ length listed + 1 = length-append listed (i ∷ []) in

@@ -2,23 +2,22 @@
 -- Read first: `Steps`, which chains steps; then `reserves_all` in `RegsReserved`, the loop over fixed registers.
 -- Depends on regalloc2_fastalloc_proofs (relations), regalloc2_fastalloc_state (tables) and the branch definitions.
 -- `AvailableCount` says which registers are found free, and `LrusOfClasses` what the order of their use has.
--- `Granted` is about a register that is granted on a condition, `Clashes` about values that differ.
+-- `Clashes` is about values that differ.
 -- `RegsReserved` (`reserves_all`) is the loop over fixed registers, `OperandOutOfRegs` says where an operand stops,
--- `Steps` chains steps, and `StepsFail` has those that do nothing or fail.
+-- `Steps` chains steps, and `StepsFail` has the steps that do nothing or fail.
 -- `InstPlaced`: an instruction is allocated once its operands are placed.
--- `NothingPassed`: a branch to blocks without parameters does nothing to the tables. `FilledClobbers`: only clobbers
--- in which vregs are have to be emptied.
+-- `NothingPassed`: a branch to blocks without parameters does nothing to the tables. `FilledClobbers`: only the clobbers
+-- that hold vregs have to be emptied.
 -- `OperandsSorted` is the pass that counts operands, and finds whether any is fixed.
 -- `SlotUses` (`slot_use`): a use under `Any` stays in its vreg's slot.
 -- What a branch defines: `OwnDefs` (the tables say what is its own), `StoresListed` (`lists_stores`: what a block's
--- beginning stores is listed, each once, counted in `CountedOnce`), `StoresPushed` (the moves of that, as they are
--- pushed) and `StoresOnEdge` (`stores_on`: those are the stores).
+-- beginning stores is listed, each once, counted in `CountedOnce`), `StoresPushed` (the moves of the stores, as they are
+-- pushed) and `StoresOnEdge` (`stores_on`: these moves are the stores on the edge).
 pub mod AvailableCount
 pub mod Clashes
 pub mod CountedOnce
 pub mod FilledClobbers
 pub mod Findings
-pub mod Granted
 pub mod InstPlaced
 pub mod RegOperands
 pub mod RegsReserved

@@ -33,7 +33,7 @@ orders_nothing inst_regs class t = record {
   idle = λ e. (refl, refl);
 }
 
--- and none are pushed
+-- where there are no moves, none are pushed
 pub pushes_nothing : (point : ℕ) (inst_regs : InstRegs) (class : RegClass) (t : StateValue) → Pushes point inst_regs class [] t t
 pushes_nothing point inst_regs class t = record {
   made = [];
@@ -54,7 +54,7 @@ module _ (f : FunctionValue) (b : ℕ) (t : InstRegs) (old : StateValue)
       subst (λ (m : ℕ). GathersMoves f b point t old m t old []) (add-one n)
       (one_edge n [] [] t t old old lt (gathers_moves_nothing point n (omega arith)) (subst Edge (sym none) none_gathered))
 
-  -- so the branch does nothing
+  -- a branch to blocks without parameters does nothing
   pub processes_nothing : (i : ℕ) → ProcessesBranch f b i t t old old
   unfolding of_class
   processes_nothing i = record {

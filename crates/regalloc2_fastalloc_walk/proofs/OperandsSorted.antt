@@ -87,7 +87,7 @@ limit_below_32 class c n e = elim (cases_lt c 32) [
       ])
 ]
 
--- so an operand whose word has bit 40 clear has no limit
+-- an operand whose word has bit 40 clear has no limit
 unlimited_by_bit : (o : OperandValue) (b : ℕ) → operand_of_bits b ≡ o → bit_at b 40 ≡ 0 → IsUnlimited o
 unfolding operand_of_bits
 unlimited_by_bit o b e none n limit =
@@ -148,7 +148,7 @@ under_reg (FixedReg r) b h = elim (cases_Bool b) [ inl e ↦ absurd (let x = h.0
 under_reg (Reuse n) b h = elim (cases_Bool b) [ inl e ↦ absurd (let x = h.0 e in cc) | inr e ↦ e ]
 under_reg (Limit n) b h = elim (cases_Bool b) [ inl e ↦ absurd (let x = h.0 e in cc) | inr e ↦ e ]
 
--- which class an operand is of decides whether it is counted
+-- an operand is counted in its own class alone
 and_holds : (a b c : Bool) → c ≡ a → b ≡ true → (a && b) ≡ c
 and_holds true b c e q = q ∙ sym e
 and_holds false b c e q = sym e
@@ -159,11 +159,11 @@ and_fails false b q = refl
 
 module _ (ops : List OperandValue) (k : ℕ) (t u w : InstRegs) (m p : Masks) (bits b : ℕ) (o : OperandValue) (asks : Bool)
     (h : Sorting ops (k + 1) t u m bits) (is : o ≡ op_at ops k) where
-  -- the operand k is in front of those after it
+  -- the operand k is in front of the operands after it
   before : drop k ops ≡ o ∷ drop (k + 1) ops
   before = drop_more ops k no_operand (let i = h.inside in omega (arith, i)) ∙ ap (λ (x : OperandValue). x ∷ drop (k + 1) ops) (sym is)
 
-  -- it is counted in its class if it requires any register
+  -- an operand is counted in its class if it requires any register
   counted_more : (IsTrue asks ↔ (o.constraint ≡ Reg)) →
       w.awaited ≡ slice_set u.awaited (class_code o.vreg.class) (awaited_of u o.vreg.class + (if asks then 1 else 0)) → (class : RegClass) →
       awaited_of w class ≡ asking (o ∷ drop (k + 1) ops) class
@@ -195,7 +195,7 @@ module _ (ops : List OperandValue) (k : ℕ) (t u w : InstRegs) (m p : Masks) (b
             now ∙ other ∙ was ∙ none ∙ ap (λ (b : Bool). (if b then 1 else 0) + asking rest class) (sym unasked) ∙ sym sum)
       ]
 
-  -- with it, what was found is what there is from the index k on
+  -- with the operand k, what was found is what there is from the index k on
   pub sorting_more : SameAvailable u w → (IsTrue asks ↔ (o.constraint ≡ Reg)) →
       w.awaited ≡ slice_set u.awaited (class_code o.vreg.class) (awaited_of u o.vreg.class + (if asks then 1 else 0)) →
       ((xs : List OperandValue) → length xs < 63 → AreMasks xs m → AreMasks (o ∷ xs) p) → b ≡ bits_of_operand o → IsOperandBits b →
@@ -230,7 +230,7 @@ module _ (ops : List OperandValue) (k : ℕ) (t u w : InstRegs) (m p : Masks) (b
         (All-cons IsTakenOperand o (drop (k + 1) ops) (taken o b word unpacked apart.1) (h.unlimited apart.0));
   }
 
--- once the first operand is passed, that is what one pass finds
+-- once the first operand is passed, what was found is what one pass finds
 pub sorted_all : (ops : List OperandValue) (k : ℕ) (t u : InstRegs) (masks : Masks) (bits : ℕ) (no_limits : Bool) → k ≡ 0 →
     Sorting ops k t u masks bits → ((no_limits ≡ true) ↔ All IsTakenOperand ops) →
     AreSorted ops (record { masks = masks; any_fixed = nat_le 4398046511104 bits; unlimited = no_limits })

@@ -45,7 +45,7 @@ by_own f t are once b i last lt branch v own = (
   }),
 )
 
--- what is gathered depends on which arguments are the branch's own alone
+-- the moves that are gathered depend only on which arguments are the branch's own
 module _ (P Q : VirtualRegister → Type 0) (to : (v : VirtualRegister) → P v → Q v) (back : (v : VirtualRegister) → Q v → P v) (point : ℕ)
     (params arguments : List VirtualRegister) (t : InstRegs) (old : StateValue) (given : List ClassMove) where
   pub gathers_as : (k : ℕ) (u : InstRegs) (new : StateValue) (more : List ClassMove) → GathersEdgeMoves P point params arguments t old given k u new more →

@@ -9,7 +9,7 @@ use Rattle.regalloc2_names.specs.Register.{Register, is_register}
 use Rattle.regalloc2_names.specs.RegisterSet.{has_register}
 use Rattle.regalloc2_names.specs.Operand.{OperandValue}
 use Rattle.regalloc2_semantics.proofs.Cells.{is_register-same, is_register-true}
-use Rattle.regalloc2_steps.specs.declared.positions.Positions.{Positions}
+use Rattle.regalloc2_fastalloc_state.specs.declared.positions.Positions.{Positions}
 use Rattle.regalloc2_fastalloc_state.specs.declared.inst_regs.InstRegs.{InstRegs}
 use Rattle.regalloc2_fastalloc_walk.specs.declared.reserve_regs.ReservedRegs.{ReservedRegs}
 use Rattle.regalloc2_fastalloc_state.specs.InstRegs.{RemovesAvailable, SameAvailable, is_free_throughout}
@@ -24,7 +24,7 @@ use Rattle.regalloc2_fastalloc_proofs.proofs.BlockEnd.NoMoveInPasses.{overlap_ca
 pub shrinks_none : (t : InstRegs) → Shrinks t t
 shrinks_none t = record { early = λ r h. h; late = λ r h. h; scratch = refl }
 
--- where no register becomes available in either of two steps, none does over both
+-- where no register becomes available in each of two steps, none does over both
 pub shrinks_then : (t u w : InstRegs) → Shrinks t u → Shrinks u w → Shrinks t w
 shrinks_then t u w a b = record { early = λ r h. a.early r (b.early r h); late = λ r h. a.late r (b.late r h); scratch = b.scratch ∙ a.scratch }
 
@@ -53,7 +53,7 @@ pub fixed_none : (ops : List OperandValue) (t u : InstRegs) → u.early ≡ t.ea
 fixed_none ops t u e l r was now = absurd (let same : is_free_throughout u r ≡ is_free_throughout t r = rw (e, l) refl in let x : true ≡ false = sym was
     ∙ sym same ∙ now in cc)
 
--- where at most a register is taken, one that isn't free any more is that
+-- where at most one register is taken, a register that isn't free any more is the taken one
 pub taken_one : (t u : InstRegs) (q : Register) → TakesOnly q t u → (r : Register) → is_free_throughout t r ≡ true → is_free_throughout u r ≡ false → q ≡ r
 taken_one t u q s r was now = elim (cases_Bool (is_register q r)) [
   | inl e ↦ is_register-true q r e
@@ -61,11 +61,11 @@ taken_one t u q s r was now = elim (cases_Bool (is_register q r)) [
       ∙ now in cc)
 ]
 
--- where at most a register is taken to which an operand is fixed, only such registers are taken
+-- where at most one register is taken, and an operand is fixed to it, only registers that operands are fixed to are taken
 pub fixed_one : (ops : List OperandValue) (t u : InstRegs) (q : Register) → IsFixedIn ops q → TakesOnly q t u → TakesFixed ops t u
 fixed_one ops t u q fixed s r was now = subst (IsFixedIn ops) (taken_one t u q s r was now) fixed
 
--- where only registers to which operands are fixed are taken in each of two steps, only such are taken over both
+-- where each of two steps takes only registers that operands are fixed to, both together do
 pub fixed_then : (ops : List OperandValue) (t u w : InstRegs) → TakesFixed ops t u → TakesFixed ops u w → TakesFixed ops t w
 fixed_then ops t u w a b r was now = elim (cases_Bool (is_free_throughout u r)) [ inl e ↦ b r e now | inr e ↦ a r was e ]
 
@@ -74,7 +74,7 @@ pub claims_fixed : (ops : List OperandValue) (k : ℕ) (r : Register) (p : Posit
 claims_fixed ops k r p lt (own not_nonallocatable is at) = (k, lt, is)
 claims_fixed ops k r p lt (named n reuse less is at) = (n, less, is)
 
--- no claim is added, or one, or those of two steps
+-- no claim is added, or one claim, or the claims of two steps
 pub claims_none : (ops : List OperandValue) (k : ℕ) (c d : ReservedRegs) → d.early ≡ c.early → d.late ≡ c.late → OperandReserves ops k c d
 claims_none ops k c d e l = record { early = λ r h. inl (ap (λ x. has_register x r) (sym e) ∙ h); late = λ r h. inl (ap (λ x. has_register x r) (sym l) ∙ h) }
 
@@ -94,7 +94,7 @@ claims_then ops k c d e h x y = record {
   late = λ r a. h.late r (ap (λ q. has_register q r) (sym y) ∙ a);
 }
 
--- what isn't free isn't later on
+-- a register that isn't free isn't free later on
 pub stays_held : (a b : Bool) → (b ≡ true → a ≡ true) → a ≡ false → b ≡ false
 stays_held true b h e = absurd cc
 stays_held false true h e = sym (h refl)
@@ -167,7 +167,7 @@ reserving_none ops t c old no_early no_late = record {
 
 module _ (ops : List OperandValue) (k : ℕ) (t u w : InstRegs) (c d : ReservedRegs) (old : StateValue) (h : Reserving ops k t u c old)
     (s : ReservesRegForOperand ops k u w c d old) where
-  -- two operands of which the second is the new one
+  -- two operands, of which the second is the operand k
   met : (i : ℕ) (r : Register) (p q : Positions) → i < k → NeedsFixedReg ops i r p → NeedsFixedReg ops k r q →
       ((p.early && q.early) || (p.late && q.late)) ≡ true → ⊥
   met i r p q lt a b e =
@@ -253,7 +253,7 @@ reserves_all ops k t u c old e h began same counted = record {
   awaited = counted;
 }
 
--- where no operand is fixed, none claims a register: they are reserved as they are
+-- where no operand is fixed, none claims a register, and registers are reserved as they are
 pub reserves_none : (ops : List OperandValue) (t u : InstRegs) (old : StateValue) →
     ((k : ℕ) → k < length ops → (r : Register) → (op_at ops k).constraint ≡ FixedReg r → ⊥) → SameAvailable t u → AwaitsAll ops t u →
     ReservesRegs ops t u old
@@ -276,7 +276,7 @@ reserves_none ops t u old never same counted = record {
 pub grows_none : (c : ReservedRegs) → KeepsReserved c c
 grows_none c = record { early = λ r h. h; late = λ r h. h }
 
--- an operand that claims nothing: no register is taken, or the one that it is fixed to
+-- an operand that claims nothing: no register is taken, or the register that it is fixed to
 pub reserves_nothing : (ops : List OperandValue) (k : ℕ) (t u : InstRegs) (c : ReservedRegs) (old : StateValue) →
     ((r : Register) (p : Positions) → NeedsFixedReg ops k r p → ⊥) → Shrinks t u → TakesFixed ops t u → ReservesRegForOperand ops k t u c c old
 reserves_nothing ops k t u c old none s taken = record {
@@ -287,7 +287,7 @@ reserves_nothing ops k t u c old none s taken = record {
   reserved = λ r p h. absurd (none r p h);
 }
 
--- one that claims a register
+-- an operand that claims a register
 pub reserves_it : {ops : List OperandValue} {k : ℕ} {t u : InstRegs} {c d : ReservedRegs} {old : StateValue} {q : Register} {o : Positions} →
     ((r : Register) (p : Positions) → NeedsFixedReg ops k r p → (r ≡ q) × (p ≡ o)) →
     k < length ops → NeedsFixedReg ops k q o → Shrinks t u → TakesOnly q t u → KeepsReserved c d → ReservesOnly c d q o → IsReserved old q o u c d →
@@ -326,7 +326,7 @@ pub claim_is : (ops : List OperandValue) (k : ℕ) (o : Option (Register × Posi
 claim_is ops k None h c e = absurd cc
 claim_is ops k (Some d) h c e = (let same : d ≡ c = cc in subst (λ (x : Register × Positions). NeedsFixedReg ops k x.0 x.1) same h)
 
--- where no operand is fixed to a register, none has to be emptied
+-- where no operand is fixed to a register, no register has to be emptied
 pub evicts_none : (point : ℕ) (ops : List OperandValue) (t : InstRegs) (m : StateValue) →
     ((k : ℕ) → k < length ops → (r : Register) → (op_at ops k).constraint ≡ FixedReg r → ⊥) → (n : ℕ) → n ≤ length ops → EvictsFixed point ops t m n t m
 evicts_none point ops t m never zero le = none_cleared m.lrus (λ none. refl)

@@ -17,7 +17,7 @@ use Rattle.regalloc2_fastalloc_proofs.specs.InstSteps.{StateValue, AllocsUse, Me
 use Rattle.regalloc2_fastalloc_proofs.specs.InstSteps.{a_use, awaited_less, in_slot, not_used, stays}
 use Rattle.regalloc2_fastalloc_proofs.proofs.Operands.OperandRules.{use_vreg, reading}
 
--- it stays there: nothing is claimed, moved or noted
+-- the vreg stays in its slot: nothing is claimed, moved or noted
 stays_in_slot : (point : ℕ) (request : OperandRequest) (s : ℕ) (t : InstRegs) (old : StateValue) → request.requirement ≡ AnyPlace →
     alloc_of old.places request.vreg.number ≡ InSlot s → AllocsUse point request (InSlot s) t t old old
 unfolding MeetsRequirement
@@ -32,13 +32,13 @@ stays_in_slot point request s t old any at = record {
       uses = not_used (λ r wants e. absurd cc) refl;
     };
     affordable = λ asked r e. absurd cc;
-    awaited_in = λ def asked r e. absurd cc;
+    expected_in = λ def asked r e. absurd cc;
   };
   uses = stays (λ e. absurd cc) refl;
   awaited = ap (λ (w : Requirement). awaited_less w request.vreg.class t.awaited) (sym any);
 }
 
--- where no reuse has chosen a register for it, it may have any place
+-- a use for which no reuse has chosen a register may have any place
 asks_any_place : (o : OperandValue) (h : Place) → o.constraint ≡ Any → ((r : Register) → (use_request o h).requirement ≡ InPReg r → ⊥) →
     (use_request o h).requirement ≡ AnyPlace
 asks_any_place o NoPlace any none = ap requirement_of any
@@ -51,12 +51,12 @@ is_unfixed o any = ap (λ (c : OperandConstraint). is_fixed c && nat_eq o.vreg.n
 pub reads_vreg : (o : OperandValue) → is_def o.kind ≡ false → o.constraint ≡ Any → is_reading o ≡ true
 reads_vreg o used any = reading (is_def o.kind) (is_fixed_nonallocatable o) used (is_unfixed o any)
 
--- it is processed once its place is set
-pub slot_use : {i : ℕ} {is_ret : Bool} {operands : List OperandValue} {k : ℕ} {here : List Place} {t : InstRegs} {old : StateValue} (o : OperandValue)
+-- the use is processed once its place is set
+pub slot_use : {i : ℕ} {ends_block : Bool} {operands : List OperandValue} {k : ℕ} {here : List Place} {t : InstRegs} {old : StateValue} (o : OperandValue)
     (h p : Place)
     → o ≡ op_at operands k → h ≡ slice_index_or here k NoPlace → is_def o.kind ≡ false → o.constraint ≡ Any
     → (is_reading o ≡ true → (r : Register) → (use_request o h).requirement ≡ InPReg r → ⊥) → is_in_slot p ≡ true → alloc_of old.places o.vreg.number ≡ p
-    → ProcessesOperand i is_ret operands k here (slice_set here k p) t t old old
+    → ProcessesOperand i ends_block operands k here (slice_set here k p) t t old old
 slot_use o h NoPlace e f used any none slot at = absurd cc
 slot_use o h (InRegister r) e f used any none slot at = absurd cc
 slot_use {i} {operands} {k} {here} {t} {old} o h (InSlot s) e f used any none slot at =

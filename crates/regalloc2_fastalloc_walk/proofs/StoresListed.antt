@@ -1,4 +1,5 @@
--- What is listed as stored: the branch's own fixed definitions that are used elsewhere, and what parameters are given that it defines, each once.
+-- What is listed as stored: the branch's own fixed definitions that are used elsewhere, and the arguments that the branch defines, for their parameters,
+-- each once.
 use Rattle.std.proofs.Common.{ℕ, ◌≡◌, ◌+◌, ◌<◌, ◌≤◌, Bool, true, cond, inl, inr, List, [], ◌∷◌, ◌++◌, map, length, take, refl, sym, ap, ◌∙◌, subst, arith}
 use Rattle.std.specs.Prelude.{All, Contains, Option, None, Some, count_by, nat_eq, slice_index, slice_index_or}
 use Rattle.std.proofs.lemmas.Bool.{cases_eq, cases_lt, eqb-true}
@@ -32,8 +33,8 @@ use Rattle.regalloc2_fastalloc_walk.proofs.CountedOnce.{one_counted, two_counted
 use Rattle.regalloc2_fastalloc_walk.proofs.OwnDefs.{site_found}
 
 -- whether a store is for the vreg of a number
-abbrev has_number : ℕ → StoredDef → Bool
-has_number n s = nat_eq s.to.number n
+abbrev is_for_number : ℕ → StoredDef → Bool
+is_for_number n s = nat_eq s.to.number n
 
 -- the operand of a site
 index_of : Option DefSite → ℕ
@@ -48,7 +49,7 @@ module _ {A : Type 0} (defs : BranchDefs A) (branch : ℕ) (slots : SpillSlotsVa
   abbrev argument_at : ℕ → VirtualRegister
   argument_at k = slice_index_or arguments k no_vreg
 
-  -- each is of the old list, or of a parameter
+  -- each store is of the old list, or of a parameter
   pub listed_each : (P : StoredDef → Type 0) → All P old → ((k j : ℕ) → k < length params → IsArgumentStored defs branch slots (param_at k) (argument_at k) j
       → P (record { index = j; to = param_at k })) → (k : ℕ) (new : List StoredDef) → ListsParams defs branch slots params arguments old k new → All P new
   listed_each P first each k new no_param = first
@@ -95,9 +96,9 @@ module _ {A : Type 0} (defs : BranchDefs A) (branch : ℕ) (slots : SpillSlotsVa
           subst (λ (l : List StoredDef). Contains l S) (sym at) (subst (λ (s : StoredDef). Contains (m ++ s ∷ []) S) (sym item) (Contains-push m S))
       here e (not_given none same) = absurd (none j (subst (λ (p : ℕ). IsArgumentStored defs branch slots (param_at p) (argument_at p) j) e is))
 
-  -- each parameter at most once
+  -- each parameter is listed at most once
   pub listed_counted : (n k : ℕ) (new : List StoredDef) → ListsParams defs branch slots params arguments old k new →
-      count_by (has_number n) new ≤ count_by (has_number n) old + count_by (λ v. nat_eq v.number n) (take k params)
+      count_by (is_for_number n) new ≤ count_by (is_for_number n) old + count_by (λ v. nat_eq v.number n) (take k params)
   listed_counted n k new no_param = omega arith
   listed_counted n k new (one_param i m w lt prev step) =
       let before = listed_counted n i m prev in
@@ -105,14 +106,14 @@ module _ {A : Type 0} (defs : BranchDefs A) (branch : ℕ) (slots : SpillSlotsVa
       let most = counted step in
       omega (arith, before, more, most)
     where
-      counted : ListsGiven defs branch slots (param_at i) (argument_at i) m w → count_by (has_number n) w ≤ count_by (has_number n) m + cond (nat_eq
+      counted : ListsGiven defs branch slots (param_at i) (argument_at i) m w → count_by (is_for_number n) w ≤ count_by (is_for_number n) m + cond (nat_eq
           (param_at i).number n) 1 0
       counted (listed j is at) =
-          let s = sum_by_push (λ x. cond (has_number n x) 1 0) m (record { index = j; to = param_at i }) in
-          subst (λ (l : List StoredDef). count_by (has_number n) l ≤ count_by (has_number n) m + cond (nat_eq (param_at i).number n) 1 0) (sym at) (omega
+          let s = sum_by_push (λ x. cond (is_for_number n x) 1 0) m (record { index = j; to = param_at i }) in
+          subst (λ (l : List StoredDef). count_by (is_for_number n) l ≤ count_by (is_for_number n) m + cond (nat_eq (param_at i).number n) 1 0) (sym at) (omega
           (arith, s))
       counted (not_given none same) =
-          subst (λ (l : List StoredDef). count_by (has_number n) l ≤ count_by (has_number n) m + cond (nat_eq (param_at i).number n) 1 0) (sym same) (omega
+          subst (λ (l : List StoredDef). count_by (is_for_number n) l ≤ count_by (is_for_number n) m + cond (nat_eq (param_at i).number n) 1 0) (sym same) (omega
           arith)
 
 -- the branch at the end of a block that is entered by an edge
@@ -126,7 +127,7 @@ module _ (f : FunctionValue) (well : MayBeAllocated f) (b e k : ℕ) (edge : IsE
   abbrev last : ℕ
   last = last_of (block_at f e)
 
-  -- what it defines is defined there
+  -- what the branch defines is defined at the block's end
   pub defines_there : (n j : ℕ) → DefinesNumber ops n j → DefinesAt f n last j
   defines_there n j d = record { inst = last_within f well e edge.block; operand = d.operand; definition = d.definition; number = d.number }
 
@@ -137,7 +138,7 @@ module _ (f : FunctionValue) (well : MayBeAllocated f) (b e k : ℕ) (edge : IsE
   own_defines j h = record { operand = h.operand; definition = fixed_defines (op_at ops j) h.fixed; number = refl }
 
   module _ (slots : SpillSlotsValue) (ks : List ℕ) (stored : AreStoredOperands f ops ks) where
-    -- the branch's own
+    -- the stores of the branch's own definitions
     own_each : All (λ s. IsStoredFor f e k slots s.index s.to) (map (own_store ops) ks)
     own_each = All-map (λ s. IsStoredFor f e k slots s.index s.to) (own_store ops) ks
         (All-weaker (Contains ks) (λ j. IsStoredFor f e k slots j (op_at ops j).vreg) (λ j has. its_own ((stored.members j).0 has) refl) ks
@@ -156,25 +157,25 @@ module _ (f : FunctionValue) (well : MayBeAllocated f) (b e k : ℕ) (edge : IsE
           get_or-map (own_store ops) ks at.0 j (own_store ops j) at.1 ∙ ap (own_store ops) at.2,
         )
 
-    number_at : (n i : ℕ) → i < length (map (own_store ops) ks) → has_number n (slice_index_or (map (own_store ops) ks) i no_store) ≡ true →
+    number_at : (n i : ℕ) → i < length (map (own_store ops) ks) → is_for_number n (slice_index_or (map (own_store ops) ks) i no_store) ≡ true →
         (op_at ops (slice_index ks i)).vreg.number ≡ n
     number_at n i lt h =
         let less : i < length ks = omega (arith, lt, length-map ks (own_store ops)) in
         let same : slice_index_or (map (own_store ops) ks) i no_store ≡ own_store ops (slice_index ks i) = get_or-map (own_store ops) ks i 0 no_store less in
-        eqb-true (op_at ops (slice_index ks i)).vreg.number n (ap (λ (s : StoredDef). has_number n s) (sym same) ∙ h)
+        eqb-true (op_at ops (slice_index ks i)).vreg.number n (ap (λ (s : StoredDef). is_for_number n s) (sym same) ∙ h)
 
     at_stored : (i : ℕ) → i < length (map (own_store ops) ks) → IsStoredOperand f ops (slice_index ks i)
     at_stored i lt = (stored.members (slice_index ks i)).0 (Contains-get_or ks i 0 (omega (arith, lt, length-map ks (own_store ops))))
 
-    own_once : (n : ℕ) → count_by (has_number n) (map (own_store ops) ks) ≤ 1
-    own_once n = elim (cases_lt 1 (count_by (has_number n) (map (own_store ops) ks))) [
+    own_once : (n : ℕ) → count_by (is_for_number n) (map (own_store ops) ks) ≤ 1
+    own_once n = elim (cases_lt 1 (count_by (is_for_number n) (map (own_store ops) ks))) [
       | inl more ↦ absurd (two more)
       | inr few ↦ omega (arith, few)
     ]
       where
-        two : 1 < count_by (has_number n) (map (own_store ops) ks) → ⊥
+        two : 1 < count_by (is_for_number n) (map (own_store ops) ks) → ⊥
         two more =
-            let t = two_counted (has_number n) (map (own_store ops) ks) no_store (omega (arith, more)) in
+            let t = two_counted (is_for_number n) (map (own_store ops) ks) no_store (omega (arith, more)) in
             let li : t.0 < length (map (own_store ops) ks) = omega (arith, t.2, t.3) in
             let di = subst (λ (m : ℕ). DefinesNumber ops m (slice_index ks t.0)) (number_at n t.0 li t.4) (own_defines (slice_index ks t.0) (at_stored t.0
             li)) in
@@ -185,7 +186,7 @@ module _ (f : FunctionValue) (well : MayBeAllocated f) (b e k : ℕ) (edge : IsE
             let rises = stored.rising t.0 t.1 t.2 (omega (arith, t.3, length-map ks (own_store ops))) in
             omega (arith, one.1, rises)
 
-    -- the parameters
+    -- the stores for parameters
     params_once : (n : ℕ) → count_by (λ v. nat_eq v.number n) params ≤ 1
     params_once n = elim (cases_lt 1 (count_by (λ v. nat_eq v.number n) params)) [
       | inl more ↦ absurd (two more)
@@ -200,9 +201,9 @@ module _ (f : FunctionValue) (well : MayBeAllocated f) (b e k : ℕ) (edge : IsE
             (takes_there n t.1 t.3 (eqb-true (slice_index_or params t.1 no_vreg).number n t.5)) in
             omega (arith, one.1, t.2)
 
-    not_twice : (n : ℕ) → 1 ≤ count_by (has_number n) (map (own_store ops) ks) → 1 ≤ count_by (λ v. nat_eq v.number n) params → ⊥
+    not_twice : (n : ℕ) → 1 ≤ count_by (is_for_number n) (map (own_store ops) ks) → 1 ≤ count_by (λ v. nat_eq v.number n) params → ⊥
     not_twice n own param =
-        let i = one_counted (has_number n) (map (own_store ops) ks) no_store own in
+        let i = one_counted (is_for_number n) (map (own_store ops) ks) no_store own in
         let j = one_counted (λ v. nat_eq v.number n) params no_vreg param in
         let d = subst (λ (m : ℕ). DefinesNumber ops m (slice_index ks i.0)) (number_at n i.0 i.1 i.2) (own_defines (slice_index ks i.0) (at_stored i.0 i.1)) in
         not_both f well.1.defined_once n last (slice_index ks i.0) (target_at f e k) j.0 (defines_there n (slice_index ks i.0) d)
@@ -222,7 +223,7 @@ module _ (f : FunctionValue) (well : MayBeAllocated f) (b e k : ℕ) (edge : IsE
           ap (λ (l : List VirtualRegister). count_by (λ v. nat_eq v.number n) l) whole in
           let a = own_once n in
           let b = params_once n in
-          elim (cases_lt 0 (count_by (has_number n) own)) [
+          elim (cases_lt 0 (count_by (is_for_number n) own)) [
             | inl some ↦ elim (cases_lt 0 (count_by (λ v. nat_eq v.number n) params)) [
               | inl both ↦ absurd (not_twice n (omega (arith, some)) (omega (arith, both)))
               | inr none ↦ omega (arith, most, same, a, none)
@@ -257,7 +258,7 @@ module _ (f : FunctionValue) (well : MayBeAllocated f) (b e k : ℕ) (edge : IsE
             )
             (length params) all lt h)
 
--- in another order they are still that
+-- stores that are listed in another order are still what is stored
 pub lists_permuted : (f : FunctionValue) (e k : ℕ) (slots : SpillSlotsValue) (xs ys : List StoredDef) → IsPermutation xs ys → ListsStores f e k slots xs →
     ListsStores f e k slots ys
 lists_permuted f e k slots xs ys moved h = record {

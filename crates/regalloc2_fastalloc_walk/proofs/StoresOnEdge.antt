@@ -27,23 +27,23 @@ use Rattle.regalloc2_fastalloc_proofs.proofs.Safety.StoredDefs.{last_within}
 use Rattle.regalloc2_fastalloc_proofs.proofs.Safety.StoresKeepSafe.{stored_concerned, stored_defines}
 use Rattle.regalloc2_fastalloc_proofs.proofs.Slots.SlotsGrow.{SlotsStay, gives_stay, same_stay}
 use Rattle.regalloc2_fastalloc_proofs.proofs.Operands.DefRecord.{real_slot}
-use Rattle.regalloc2_steps.specs.declared.moved.PlaceMove.{PlaceMove}
+use Rattle.regalloc2_fastalloc_walk.specs.declared.store.StoreMove.{StoreMove}
 use Rattle.regalloc2_fastalloc_walk.specs.declared.store.StoredDef.{StoredDef}
 use Rattle.regalloc2_fastalloc_walk.specs.BranchStores.{ListsStores, is_for, FindsDefined, held, in_slot, FindsStore, no_store, FindsStores, none_found}
 use Rattle.regalloc2_fastalloc_walk.specs.BranchStores.{one_found, IsMadeOf, AreMadeOf, none_made, passed_over, one_made, PushesStores, LacksStoreReg}
 use Rattle.regalloc2_fastalloc_walk.proofs.StoresPushed.{pushed_append}
 
 -- a move that no list has
-abbrev no_move : PlaceMove
-no_move = record { class = Int; from = NoPlace; to = NoPlace }
+abbrev no_store_move : StoreMove
+no_store_move = record { class = Int; from = NoPlace; to = NoPlace }
 
 abbrev store_at : List StoredDef → ℕ → StoredDef
 store_at ds i = slice_index_or ds i no_store
 
-abbrev move_at : List PlaceMove → ℕ → PlaceMove
-move_at ms i = slice_index_or ms i no_move
+abbrev store_move_at : List StoreMove → ℕ → StoreMove
+store_move_at ms i = slice_index_or ms i no_store_move
 
--- one of those for a number
+-- a store for the vreg of a number is counted
 one_for : (n : ℕ) (ds : List StoredDef) (i : ℕ) → i < length ds → (store_at ds i).to.number ≡ n → 1 ≤ sum_by (is_for n) ds
 one_for n [] i lt e = absurd (omega (arith, lt))
 one_for n (d ∷ ds) zero lt e =
@@ -52,7 +52,7 @@ one_for n (d ∷ ds) zero lt e =
 one_for n (d ∷ ds) (suc i) lt e =
     let c = sum_by-cons (is_for n) d ds in let h = one_for n ds i (omega (arith, lt)) e in omega (arith, c, h)
 
--- two that are for one number count twice
+-- two stores for the vreg of one number count twice
 two_for : (n : ℕ) (ds : List StoredDef) (i j : ℕ) → i ≢ j → i < length ds → j < length ds → (store_at ds i).to.number ≡ n → (store_at ds j).to.number ≡ n →
     2 ≤ sum_by (is_for n) ds
 two_for n [] i j ne li lj a b = absurd (omega (arith, li))
@@ -68,22 +68,22 @@ two_for n (d ∷ ds) (suc i) (suc j) ne li lj a b =
     let h = two_for n ds i j (λ e. ne (ap suc e)) (omega (arith, li)) (omega (arith, lj)) a b in omega (arith, c, h)
 
 -- a list with one more at its end
-length_more : (ms : List PlaceMove) (m : PlaceMove) → length (ms ++ m ∷ []) ≡ length ms + 1
+length_more : (ms : List StoreMove) (m : StoreMove) → length (ms ++ m ∷ []) ≡ length ms + 1
 length_more [] m = refl
 length_more (x ∷ ms) m = (let h = length_more ms m in omega (arith, h))
 
-at_sooner : (ms : List PlaceMove) (m : PlaceMove) (i : ℕ) → i < length ms → move_at (ms ++ m ∷ []) i ≡ move_at ms i
+at_sooner : (ms : List StoreMove) (m : StoreMove) (i : ℕ) → i < length ms → store_move_at (ms ++ m ∷ []) i ≡ store_move_at ms i
 at_sooner [] m i lt = absurd (omega (arith, lt))
 at_sooner (x ∷ ms) m zero lt = refl
 at_sooner (x ∷ ms) m (suc i) lt = at_sooner ms m i (omega (arith, lt))
 
-at_last : (ms : List PlaceMove) (m : PlaceMove) (i : ℕ) → i ≡ length ms → move_at (ms ++ m ∷ []) i ≡ m
+at_last : (ms : List StoreMove) (m : StoreMove) (i : ℕ) → i ≡ length ms → store_move_at (ms ++ m ∷ []) i ≡ m
 at_last [] m zero e = refl
 at_last [] m (suc i) e = absurd (omega (arith, e))
 at_last (x ∷ ms) m zero e = absurd (omega (arith, e))
 at_last (x ∷ ms) m (suc i) e = at_last ms m i (omega (arith, e))
 
--- one of two lists, one behind the other
+-- a store of two lists, one behind the other, is of one of the lists
 one_of_either : (x : Store) (ss ts : List Store) → IsOneOf x (ss ++ ts) → IsOneOf x ss ⊎ IsOneOf x ts
 one_of_either x [] ts is = inr is
 one_of_either x (s ∷ ss) ts (first e) = inl (first e)
@@ -106,14 +106,14 @@ moves_of_both (s ∷ ss) ts = ap (λ l. moves_by s.from s.by s.to ++ l) (moves_o
     ∙ sym (append_assoc (moves_by s.from s.by s.to) (store_moves ss) (store_moves ts))
 
 -- The move of the store i is from where the branch leaves the value, to the slot of the vreg, as the tables have them at the end.
-record Fits (operands : List OperandValue) (slots : SpillSlotsValue) (d : StoredDef) (m : PlaceMove) : Type 0 where
+record MovesValue (operands : List OperandValue) (slots : SpillSlotsValue) (d : StoredDef) (m : StoreMove) : Type 0 where
   from : m.from ≡ defined_place slots (op_at operands d.index)
   there : m.from ≢ NoPlace
   to : slot_name slots d.to.number ≡ m.to
   slot : (n : ℕ) × (m.to ≡ InSlot n)
   class : m.class ≡ (op_at operands d.index).vreg.class
 
--- and it stays
+-- a vreg's slot stays its slot
 gets_spillslot_stays : (old new final : SpillSlotsValue) (v : VirtualRegister) (p : Place) → GetsSpillSlot old new v p → SlotsStay new final → slot_name final
     v.number ≡ p
 gets_spillslot_stays old new final v p g stay =
@@ -135,11 +135,11 @@ module _ (operands : List OperandValue) (final : SpillSlotsValue) where
   found_stays o p old new (held r fixed at same) = same_stay old new same
   found_stays o p old new (in_slot free gets temps) = gives_stay old new o.vreg p gets
 
-  store_stays : (o : OperandValue) (v : VirtualRegister) (m : PlaceMove) (old new : SpillSlotsValue) → FindsStore o v m old new → SlotsStay old new
+  store_stays : (o : OperandValue) (v : VirtualRegister) (m : StoreMove) (old new : SpillSlotsValue) → FindsStore o v m old new → SlotsStay old new
   store_stays o v m old new h n k is = gives_stay h.middle new v m.to h.slot n k (found_stays o m.from old h.middle h.from n k is)
 
-  store_fits : (d : StoredDef) (m : PlaceMove) (old new : SpillSlotsValue) → FindsStore (op_at operands d.index) d.to m old new → SlotsStay new final →
-      Fits operands final d m
+  store_fits : (d : StoredDef) (m : StoreMove) (old new : SpillSlotsValue) → FindsStore (op_at operands d.index) d.to m old new → SlotsStay new final →
+      MovesValue operands final d m
   store_fits d m old new h stay =
       let p = place_found (op_at operands d.index) m.from old h.middle h.from (λ n k is. stay n k (gives_stay h.middle new d.to m.to h.slot n k is)) in record {
         from = p.0;
@@ -150,8 +150,8 @@ module _ (operands : List OperandValue) (final : SpillSlotsValue) where
       }
 
   -- each move that is found fits
-  stores_fit : (ds : List StoredDef) (old : SpillSlotsValue) (k : ℕ) (ms : List PlaceMove) (s : SpillSlotsValue) → FindsStores operands ds old k ms s →
-      SlotsStay s final → (length ms ≡ k) × ((i : ℕ) → i < k → Fits operands final (store_at ds i) (move_at ms i))
+  stores_fit : (ds : List StoredDef) (old : SpillSlotsValue) (k : ℕ) (ms : List StoreMove) (s : SpillSlotsValue) → FindsStores operands ds old k ms s →
+      SlotsStay s final → (length ms ≡ k) × ((i : ℕ) → i < k → MovesValue operands final (store_at ds i) (store_move_at ms i))
   stores_fit ds old k ms s none_found stay = (refl, λ i lt. absurd (omega (arith, lt)))
   stores_fit ds old k ms s (one_found j ns m r t lt prev one) stay =
       let here = stores_fit ds old j ns r prev (λ n x is. stay n x (store_stays (op_at operands (store_at ds j).index) (store_at ds j).to m r s one n x is)) in
@@ -159,20 +159,20 @@ module _ (operands : List OperandValue) (final : SpillSlotsValue) where
       let more = length_more ns m in (
         omega (arith, long, more),
         λ i less. elim (cases_eq i j) [
-          | inl e ↦ subst (λ x. Fits operands final (store_at ds x) (move_at (ns ++ m ∷ []) x)) (sym e)
-              (subst (Fits operands final (store_at ds j)) (sym (at_last ns m j (sym long))) (store_fits (store_at ds j) m r s one stay))
-          | inr ne ↦ subst (Fits operands final (store_at ds i)) (sym (at_sooner ns m i (omega (arith, less, ne, long)))) (here.1 i (omega (arith, less, ne)))
+          | inl e ↦ subst (λ x. MovesValue operands final (store_at ds x) (store_move_at (ns ++ m ∷ []) x)) (sym e)
+              (subst (MovesValue operands final (store_at ds j)) (sym (at_last ns m j (sym long))) (store_fits (store_at ds j) m r s one stay))
+          | inr ne ↦ subst (MovesValue operands final (store_at ds i)) (sym (at_sooner ns m i (omega (arith, less, ne, long)))) (here.1 i (omega (arith, less, ne)))
         ],
       )
 
--- slots are made for what is concerned alone
+-- slots are made only for the vregs that are concerned
 place_made : (P : VirtualRegister → Type 0) (operands : List OperandValue) (j : ℕ) (p : Place) (old m n : SpillSlotsValue) → P (op_at operands j).vreg →
     GetsSlots P old m → FindsDefined (op_at operands j) p m n → GetsSlots P old n
 place_made P operands j p old m n concerned prev (held q fixed at same) = subst (GetsSlots P old) (sym same) prev
 place_made P operands j p old m n concerned prev (in_slot free gets temps) = one_slot (op_at operands j).vreg p m n prev concerned gets temps
 
 gets_slots_made : (P : VirtualRegister → Type 0) (operands : List OperandValue) (ds : List StoredDef) (old : SpillSlotsValue) →
-    ((i : ℕ) → i < length ds → P (op_at operands (store_at ds i).index).vreg × P (store_at ds i).to) → (k : ℕ) (ms : List PlaceMove) (s : SpillSlotsValue) →
+    ((i : ℕ) → i < length ds → P (op_at operands (store_at ds i).index).vreg × P (store_at ds i).to) → (k : ℕ) (ms : List StoreMove) (s : SpillSlotsValue) →
     FindsStores operands ds old k ms s → GetsSlots P old s
 gets_slots_made P operands ds old each k ms s none_found = no_slot
 gets_slots_made P operands ds old each k ms s (one_found j ns m r t lt prev one) =
@@ -180,13 +180,13 @@ gets_slots_made P operands ds old each k ms s (one_found j ns m r t lt prev one)
     (gets_slots_made P operands ds old each j ns r prev) one.from) (each j lt).1 one.slot one.temps
 
 -- no moves are found without making a slot
-no_slots_made : (f : FunctionValue) (e : ℕ) (t : StateValue) (ds : List StoredDef) (n : ℕ) (ns : List PlaceMove) (z : SpillSlotsValue) →
+no_slots_made : (f : FunctionValue) (e : ℕ) (t : StateValue) (ds : List StoredDef) (n : ℕ) (ns : List StoreMove) (z : SpillSlotsValue) →
     FindsStores (branch_operands f e) ds t.slots n ns z → n ≡ 0 → z ≡ t.slots
 no_slots_made f e t ds n ns z none_found few = refl
 no_slots_made f e t ds n ns z (one_found j os m x y lt prev one) few = absurd (omega (arith, few))
 
 -- What is made of moves doesn't depend on slots and edits.
-made_on : (t : StateValue) (s : SpillSlotsValue) (es : List (ℕ × MoveValue)) (from_memory : Bool) (ms : List PlaceMove) (ss : List Store) →
+made_on : (t : StateValue) (s : SpillSlotsValue) (es : List (ℕ × MoveValue)) (from_memory : Bool) (ms : List StoreMove) (ss : List Store) →
     AreMadeOf (record t { slots = s; edits = es }) from_memory ms ss → AreMadeOf t from_memory ms ss
 made_on t s es from_memory ms ss none_made = none_made
 made_on t s es from_memory ms ss (passed_over m ns ts is rest) = passed_over m ns ts is (made_on t s es from_memory ns ts rest)
@@ -211,18 +211,18 @@ module _ (t : StateValue) (apart : RegsAvoidStack t) where
   abbrev Memory : Place → Bool
   Memory = is_memory t.fixed_stack
 
-  -- each that is made is made of a move from such a place
-  made_of : (fm : Bool) (ms : List PlaceMove) (ss : List Store) → AreMadeOf t fm ms ss → (x : Store) → IsOneOf x ss →
-      (i : ℕ) × (i < length ms) × (Memory (move_at ms i).from ≡ fm) × IsMadeOf t (move_at ms i) x
+  -- each store is made of a move from a place of the kind
+  made_of : (fm : Bool) (ms : List StoreMove) (ss : List Store) → AreMadeOf t fm ms ss → (x : Store) → IsOneOf x ss →
+      (i : ℕ) × (i < length ms) × (Memory (store_move_at ms i).from ≡ fm) × IsMadeOf t (store_move_at ms i) x
   made_of fm ms ss none_made x none = elim none [ ]
   made_of fm ms ss (passed_over m ns ts is rest) x one = (let r = made_of fm ns ts rest x one in let lt = r.1 in (suc r.0, omega (arith, lt), r.2, r.3))
   made_of fm ms ss (one_made m s ns ts is made rest) x (first e) = (0, omega arith, is, subst (IsMadeOf t m) e made)
   made_of fm ms ss (one_made m s ns ts is made rest) x (later one) =
       (let r = made_of fm ns ts rest x one in let lt = r.1 in (suc r.0, omega (arith, lt), r.2, r.3))
 
-  -- and each such move makes one
-  makes_one : (fm : Bool) (ms : List PlaceMove) (ss : List Store) → AreMadeOf t fm ms ss → (i : ℕ) → i < length ms → Memory (move_at ms i).from ≡ fm →
-      (x : Store) × IsOneOf x ss × IsMadeOf t (move_at ms i) x
+  -- each move from a place of the kind makes a store
+  makes_one : (fm : Bool) (ms : List StoreMove) (ss : List Store) → AreMadeOf t fm ms ss → (i : ℕ) → i < length ms → Memory (store_move_at ms i).from ≡ fm →
+      (x : Store) × IsOneOf x ss × IsMadeOf t (store_move_at ms i) x
   makes_one fm ms ss none_made i lt from = absurd (omega (arith, lt))
   makes_one fm ms ss (passed_over m ns ts is rest) zero lt from = absurd (opposite fm (sym from ∙ is))
     where
@@ -235,7 +235,7 @@ module _ (t : StateValue) (apart : RegsAvoidStack t) where
       (let r = makes_one fm ns ts rest i (omega (arith, lt)) from in (r.0, later r.1, r.2))
 
   -- two moves that don't meet: they go to different places, and neither starts where the other goes
-  abbrev Separate : PlaceMove → PlaceMove → Type 0
+  abbrev Separate : StoreMove → StoreMove → Type 0
   Separate m n = (m.to ≢ n.to) × (n.from ≢ m.to)
 
   empty_order : AreInOrder Memory []
@@ -243,10 +243,10 @@ module _ (t : StateValue) (apart : RegsAvoidStack t) where
   empty_order = tt
 
   -- where moves go to the stack and don't meet, what is made of them is in order, with more behind it
-  in_order : (fm : Bool) (ms : List PlaceMove) (ss : List Store) → AreMadeOf t fm ms ss → ((i : ℕ) → i < length ms → Memory (move_at ms i).to ≡ true) →
-      ((i j : ℕ) → i < length ms → j < length ms → i ≢ j → Separate (move_at ms i) (move_at ms j)) → (rest : List Store) → AreInOrder Memory rest →
-      ((x : Store) → IsOneOf x rest → (fm ≡ false) × ((i : ℕ) → i < length ms → Memory (move_at ms i).from ≡ fm →
-      ((move_at ms i).to ≢ x.to) × (x.from ≢ (move_at ms i).to))) → AreInOrder Memory (ss ++ rest)
+  in_order : (fm : Bool) (ms : List StoreMove) (ss : List Store) → AreMadeOf t fm ms ss → ((i : ℕ) → i < length ms → Memory (store_move_at ms i).to ≡ true) →
+      ((i j : ℕ) → i < length ms → j < length ms → i ≢ j → Separate (store_move_at ms i) (store_move_at ms j)) → (rest : List Store) → AreInOrder Memory rest →
+      ((x : Store) → IsOneOf x rest → (fm ≡ false) × ((i : ℕ) → i < length ms → Memory (store_move_at ms i).from ≡ fm →
+      ((store_move_at ms i).to ≢ x.to) × (x.from ≢ (store_move_at ms i).to))) → AreInOrder Memory (ss ++ rest)
   unfolding AreInOrder
   in_order fm ms ss none_made to separate rest order behind = order
   in_order fm ms ss (passed_over m ns ts is more) to separate rest order behind =
@@ -281,7 +281,7 @@ module _ (t : StateValue) (apart : RegsAvoidStack t) where
         (λ x one. ((behind x one).0, λ i lt from. (behind x one).1 (suc i) (omega (arith, lt)) from)),
   )
     where
-      -- one that goes by way of a register is from the stack
+      -- a store that goes by way of a register is from the stack
       by_memory : (q : Place) → s.by ≡ Some q → fm ≡ true
       by_memory q by = elim (cases_Bool (Memory m.from)) [
         | inl yes_memory ↦ sym is ∙ yes_memory
@@ -301,14 +301,14 @@ pub record EdgeStores : Type 0 where
   pub apart : RegsAvoidStack t
   pub ds : List StoredDef
   pub lists : ListsStores f e k t.slots ds
-  pub ms : List PlaceMove
+  pub ms : List StoreMove
   pub s : SpillSlotsValue
   pub finds : FindsStores (branch_operands f e) ds t.slots (length ds) ms s
   pub own : (m n i : ℕ) → slot_name s m ≡ InSlot i → slot_name s n ≡ InSlot i → m ≡ n
 
 abbrev pub edge_stores : (f : FunctionValue) → MayBeAllocated f → (b e k : ℕ) → IsEdgeInto f b e k → (t : StateValue) → RegsAvoidStack t →
     (ds : List StoredDef) →
-    ListsStores f e k t.slots ds → (ms : List PlaceMove) (s : SpillSlotsValue) → FindsStores (branch_operands f e) ds t.slots (length ds) ms s →
+    ListsStores f e k t.slots ds → (ms : List StoreMove) (s : SpillSlotsValue) → FindsStores (branch_operands f e) ds t.slots (length ds) ms s →
     ((m n i : ℕ) → slot_name s m ≡ InSlot i → slot_name s n ≡ InSlot i → m ≡ n) → EdgeStores
 edge_stores f may b e k edge t apart ds lists ms s finds own = record {
   f = f;
@@ -333,13 +333,13 @@ module _ (at_edge : EdgeStores) where
   ok : IsWellFormed may.0 f
   ok = may.1
 
-  fit : (length ms ≡ length ds) × ((i : ℕ) → i < length ds → Fits (branch_operands f e) s (store_at ds i) (move_at ms i))
+  fit : (length ms ≡ length ds) × ((i : ℕ) → i < length ds → MovesValue (branch_operands f e) s (store_at ds i) (store_move_at ms i))
   fit = stores_fit (branch_operands f e) s ds t.slots (length ds) ms s finds (λ n i is. is)
 
   long : length ms ≡ length ds
   long = fit.0
 
-  fits : (i : ℕ) → i < length ms → Fits (branch_operands f e) s (store_at ds i) (move_at ms i)
+  fits : (i : ℕ) → i < length ms → MovesValue (branch_operands f e) s (store_at ds i) (store_move_at ms i)
   fits i lt = fit.1 i (let l = long in omega (arith, lt, l))
 
   is_stored : (i : ℕ) → i < length ms → IsStoredFor f e k t.slots (store_at ds i).index (store_at ds i).to
@@ -348,7 +348,7 @@ module _ (at_edge : EdgeStores) where
   defines_at : (n j : ℕ) → DefinesNumber (branch_operands f e) n j → DefinesAt f n (last_of (block_at f e)) j
   defines_at n j d = record { inst = last_within f ok.follow e edge.block; operand = d.operand; definition = d.definition; number = d.number }
 
-  to_memory : (i : ℕ) → i < length ms → is_memory t.fixed_stack (move_at ms i).to ≡ true
+  to_memory : (i : ℕ) → i < length ms → is_memory t.fixed_stack (store_move_at ms i).to ≡ true
   to_memory i lt = ap (is_memory t.fixed_stack) (fits i lt).slot.1
 
   -- what is in its own slot isn't stored for that vreg
@@ -374,7 +374,7 @@ module _ (at_edge : EdgeStores) where
       (record { block = (well_formed_are_sound may.0 f ok).targets e k edge.edge; param = lt; number = ap (λ (w : VirtualRegister). w.number) is })
 
   -- the moves don't meet
-  separate : (i j : ℕ) → i < length ms → j < length ms → i ≢ j → Separate t apart (move_at ms i) (move_at ms j)
+  separate : (i j : ℕ) → i < length ms → j < length ms → i ≢ j → Separate t apart (store_move_at ms i) (store_move_at ms j)
   separate i j li lj ne = (
     λ same. (
         let n = (fits i li).slot in
@@ -405,7 +405,7 @@ module _ (at_edge : EdgeStores) where
           ≡ fixed_or_slot o (slot_name s (op_at (branch_operands f e) (store_at ds j).index).vreg.number)
       from_by o is = ap (λ x. fixed_or_slot x (slot_name s (op_at (branch_operands f e) (store_at ds j).index).vreg.number)) is
 
-  -- what is concerned gets slots
+  -- the vregs that are concerned get slots
   gets_slots_got : GetsSlots (IsConcerned f e k) t.slots s
   gets_slots_got = gets_slots_made (IsConcerned f e k) (branch_operands f e) ds t.slots (λ i lt.
       let stored : IsStoredFor f e k t.slots (store_at ds i).index (store_at ds i).to = lists.each i no_store lt in (
@@ -413,8 +413,8 @@ module _ (at_edge : EdgeStores) where
         stored_concerned f e k t.slots (store_at ds i).index (store_at ds i).to stored,
       )) (length ds) ms s finds
 
-  -- one that is made of a move is a store for its vreg
-  is_for_vreg : (w : StateValue) → w.slots ≡ s → (i : ℕ) → i < length ms → (x : Store) → IsMadeOf t (move_at ms i) x →
+  -- a store that is made of a move is for the move's vreg
+  is_for_vreg : (w : StateValue) → w.slots ≡ s → (i : ℕ) → i < length ms → (x : Store) → IsMadeOf t (store_move_at ms i) x →
       StoresFor f e k t w x (store_at ds i).index (store_at ds i).to
   is_for_vreg w same i lt x made =
       let h = fits i lt in record {
@@ -433,7 +433,7 @@ module _ (at_edge : EdgeStores) where
       by_list (x ∷ xs) is = absurd (none (store_at ds 0).index (store_at ds 0).to (lists.each 0 no_store (let l = ap length is in omega (arith, l))))
       by_list [] is = no_slots_made f e t ds (length ds) ms s finds (ap length is)
 
-  -- Pushed, the ones from the stack first, they are the stores on the edge.
+  -- The moves, pushed with the ones from the stack first, are the stores on the edge.
   pub stores_on : {point : ℕ} → SameMachine t (record t { slots = s }) → {u w : StateValue} → PushesStores point true ms (record t { slots = s }) u →
       PushesStores point false ms u w → StoresOn f e k point t w
   stores_on {point} machine {u} {w} p q = record {
@@ -444,7 +444,7 @@ module _ (at_edge : EdgeStores) where
           λ i lt from.
               let o = made_of t apart true ms p.stores from_memory x one in
               let sep = separate i o.0 lt o.1 (λ same. (
-              let z : is_memory t.fixed_stack (move_at ms o.0).from ≡ false = subst (λ y. is_memory t.fixed_stack (move_at ms y).from ≡ false) same from in
+              let z : is_memory t.fixed_stack (store_move_at ms o.0).from ≡ false = subst (λ y. is_memory t.fixed_stack (store_move_at ms y).from ≡ false) same from in
               let zz : true ≡ false = sym o.2 ∙ z in cc)) in
               (λ e. sep.0 (e ∙ o.3.to), λ e. sep.1 (sym o.3.from ∙ e)),
         ));
@@ -459,7 +459,7 @@ module _ (at_edge : EdgeStores) where
         let lt : c.0 < length ms = (let less = c.1 in let l = long in omega (arith, less, l)) in
         let is : store_at ds c.0 ≡ record { index = j; to = v } = listed_at ds c.0 (record { index = j; to = v }) c.1 c.2 in
         subst (λ (d : StoredDef). (x : Store) × IsOneOf x (q.stores ++ p.stores) × StoresFor f e k t w x d.index d.to) is
-        (elim (cases_Bool (is_memory t.fixed_stack (move_at ms c.0).from)) [
+        (elim (cases_Bool (is_memory t.fixed_stack (store_move_at ms c.0).from)) [
           | inl memory ↦ (let o = makes_one t apart true ms p.stores from_memory c.0 lt memory in
               (o.0, of_second o.0 q.stores p.stores o.1, is_for_vreg w slots_are c.0 lt o.0 o.2))
           | inr none ↦ (let o = makes_one t apart false ms q.stores from_registers c.0 lt none in
@@ -512,17 +512,17 @@ module _ (at_edge : EdgeStores) where
   pub stores_lack : LacksStoreReg t ms → StoreBranchDefs f b t no_register
   stores_lack h = (
       let lt : h.1.0 < length ms = h.1.1 in
-      let is : move_at ms h.1.0 ≡ h.0 = move_is ms h.1.0 h.0 h.1.1 h.1.2 in record {
+      let is : store_move_at ms h.1.0 ≡ h.0 = move_is ms h.1.0 h.0 h.1.1 h.1.2 in record {
         from = e;
         position = k;
         index = (store_at ds h.1.0).index;
         vreg = (store_at ds h.1.0).to;
         edge = edge;
         stored = is_stored h.1.0 lt;
-        none = subst (λ c. NoneIsFrom t.allocatable c 0) (sym (ap (λ (m : PlaceMove). m.class) is) ∙ (fits h.1.0 lt).class) h.2;
+        none = subst (λ c. NoneIsFrom t.allocatable c 0) (sym (ap (λ (m : StoreMove). m.class) is) ∙ (fits h.1.0 lt).class) h.2;
       })
     where
-      move_is : (xs : List PlaceMove) (i : ℕ) (d : PlaceMove) → i < length xs → slice_index_or xs i d ≡ d → move_at xs i ≡ d
+      move_is : (xs : List StoreMove) (i : ℕ) (d : StoreMove) → i < length xs → slice_index_or xs i d ≡ d → store_move_at xs i ≡ d
       move_is [] i d lt is = absurd (omega (arith, lt))
       move_is (x ∷ xs) zero d lt is = is
       move_is (x ∷ xs) (suc i) d lt is = move_is xs i d (omega (arith, lt)) is

@@ -10,7 +10,7 @@ use Rattle.regalloc2_semantics.specs.Stores.{Store, moves_by, store_moves}
 use Rattle.regalloc2_fastalloc_proofs.specs.InstSteps.{StateValue}
 use Rattle.regalloc2_fastalloc_proofs.specs.StoreSteps.{pushed_moves}
 use Rattle.regalloc2_fastalloc_walk.specs.BranchStores.{AreMadeOf, IsMadeOf, PushesStores, none_made, passed_over, one_made}
-use Rattle.regalloc2_steps.specs.declared.moved.PlaceMove.{PlaceMove}
+use Rattle.regalloc2_fastalloc_walk.specs.declared.store.StoreMove.{StoreMove}
 
 -- what is pushed of two lists is what is pushed of the second, and then of the first
 pub pushed_append : (point : ℕ) (ms ns : List MoveValue) → pushed_moves point (ms ++ ns) ≡ pushed_moves point ns ++ pushed_moves point ms
@@ -21,7 +21,7 @@ pushed_append point (m ∷ ms) ns =
     ((point, m) ∷ [])
 
 -- how a move is made depends on the registers alone
-pub made_same : (t u : StateValue) (es : List (ℕ × MoveValue)) → u ≡ record t { edits = es } → (m : PlaceMove) (s : Store) → IsMadeOf u m s → IsMadeOf t m s
+pub made_same : (t u : StateValue) (es : List (ℕ × MoveValue)) → u ≡ record t { edits = es } → (m : StoreMove) (s : Store) → IsMadeOf u m s → IsMadeOf t m s
 made_same t u es same m s made = by_edits (subst (λ (x : StateValue). IsMadeOf x m s) same made)
   where
     by_edits : IsMadeOf (record t { edits = es }) m s → IsMadeOf t m s
@@ -42,35 +42,35 @@ made_same t u es same m s made = by_edits (subst (λ (x : StateValue). IsMadeOf 
       };
     }
 
--- two that aren't the same are opposite
+-- two truth values that differ are opposite
 opposite : (b c : Bool) → (b ≡ c → ⊥) → b ≡ not c
 opposite true true ne = absurd (ne refl)
 opposite true false ne = refl
 opposite false true ne = refl
 opposite false false ne = absurd (ne refl)
 
-module _ (point : ℕ) (from_memory : Bool) (ms : List PlaceMove) (t : StateValue) where
-  -- none is pushed so far
-  pub pushes_none : (u : StateValue) (xs : List PlaceMove) → xs ≡ [] → u ≡ t → PushesStores point from_memory xs t u
+module _ (point : ℕ) (from_memory : Bool) (ms : List StoreMove) (t : StateValue) where
+  -- no store is pushed so far
+  pub pushes_none : (u : StateValue) (xs : List StoreMove) → xs ≡ [] → u ≡ t → PushesStores point from_memory xs t u
   unfolding pushed_moves store_moves
   pushes_none u xs empty same = record {
     stores = [];
-    made = subst (λ (l : List PlaceMove). AreMadeOf t from_memory l []) (sym empty) none_made;
+    made = subst (λ (l : List StoreMove). AreMadeOf t from_memory l []) (sym empty) none_made;
     pushed = same ∙ ap (λ (es : List (ℕ × MoveValue)). record t { edits = es }) (sym (append-nil t.edits));
   }
 
   -- a move of the other kind is passed over
-  pub pushes_over : (k : ℕ) (d : PlaceMove) (u : StateValue) → k < length ms → is_memory t.fixed_stack (slice_index_or ms k d).from ≡ not from_memory →
+  pub pushes_over : (k : ℕ) (d : StoreMove) (u : StateValue) → k < length ms → is_memory t.fixed_stack (slice_index_or ms k d).from ≡ not from_memory →
       PushesStores point from_memory (drop (k + 1) ms) t u → PushesStores point from_memory (drop k ms) t u
   pushes_over k d u lt other h = record {
     stores = h.stores;
-    made = subst (λ (l : List PlaceMove). AreMadeOf t from_memory l h.stores) (sym (drop_more ms k d lt))
+    made = subst (λ (l : List StoreMove). AreMadeOf t from_memory l h.stores) (sym (drop_more ms k d lt))
         (passed_over (slice_index_or ms k d) (drop (k + 1) ms) h.stores other h.made);
     pushed = h.pushed;
   }
 
-  -- one more is pushed
-  pub pushes_one : (k : ℕ) (d : PlaceMove) (u v : StateValue) (s : Store) → k < length ms → is_memory t.fixed_stack (slice_index_or ms k d).from ≡ from_memory →
+  -- one more store is pushed
+  pub pushes_one : (k : ℕ) (d : StoreMove) (u v : StateValue) (s : Store) → k < length ms → is_memory t.fixed_stack (slice_index_or ms k d).from ≡ from_memory →
       PushesStores point from_memory (drop (k + 1) ms) t u → IsMadeOf u (slice_index_or ms k d) s →
       v ≡ record u { edits = u.edits ++ pushed_moves point (moves_by s.from s.by s.to) } → PushesStores point from_memory (drop k ms) t v
   unfolding store_moves
@@ -79,7 +79,7 @@ module _ (point : ℕ) (from_memory : Bool) (ms : List PlaceMove) (t : StateValu
       let more : List (ℕ × MoveValue) = pushed_moves point (moves_by s.from s.by s.to) in
       record {
         stores = s ∷ h.stores;
-        made = subst (λ (l : List PlaceMove). AreMadeOf t from_memory l (s ∷ h.stores)) (sym (drop_more ms k d lt))
+        made = subst (λ (l : List StoreMove). AreMadeOf t from_memory l (s ∷ h.stores)) (sym (drop_more ms k d lt))
             (one_made (slice_index_or ms k d) s (drop (k + 1) ms) h.stores kind (made_same t u (t.edits ++ before) h.pushed (slice_index_or ms k d) s made)
             h.made);
         pushed = same ∙ ap (λ (x : StateValue). record x { edits = x.edits ++ more }) h.pushed
@@ -88,12 +88,12 @@ module _ (point : ℕ) (from_memory : Bool) (ms : List PlaceMove) (t : StateValu
             (sym (pushed_append point (moves_by s.from s.by s.to) (store_moves h.stores))));
       }
 
-  -- a place is of a kind in the tables as they are after pushes where it is in those before
-  pub kind_there : (xs : List PlaceMove) (u : StateValue) → PushesStores point from_memory xs t u → (p : Place) (b : Bool) → b ≡ is_memory u.fixed_stack p →
+  -- a place that is of a kind in the tables after pushes is of the kind in the tables before them
+  pub kind_there : (xs : List StoreMove) (u : StateValue) → PushesStores point from_memory xs t u → (p : Place) (b : Bool) → b ≡ is_memory u.fixed_stack p →
       beq b from_memory ≡ true → is_memory t.fixed_stack p ≡ from_memory
   kind_there xs u h p b is same = sym (ap (λ (x : StateValue). is_memory x.fixed_stack p) h.pushed) ∙ sym is ∙ (booleans_Decides b from_memory).0 same
 
-  pub other_kind : (xs : List PlaceMove) (u : StateValue) → PushesStores point from_memory xs t u → (p : Place) (b : Bool) → b ≡ is_memory u.fixed_stack p →
+  pub other_kind : (xs : List StoreMove) (u : StateValue) → PushesStores point from_memory xs t u → (p : Place) (b : Bool) → b ≡ is_memory u.fixed_stack p →
       beq b from_memory ≡ false → is_memory t.fixed_stack p ≡ not from_memory
   other_kind xs u h p b is other = sym (ap (λ (x : StateValue). is_memory x.fixed_stack p) h.pushed) ∙ sym is ∙ opposite b from_memory (λ same.
       let x : true ≡ false = sym ((booleans_Decides b from_memory).1 same) ∙ other in cc)

@@ -57,7 +57,7 @@ pub record IsBeforeMoves {A : Type 0} (point : ℕ) (ms : Moves) (s : State A) :
   pub apart : RegsAvoidStack (tables_of s)
   pub later : AllAtOrAfter point s.edits
 
--- those of all classes are
+-- the parallel moves of all classes are next to be pushed at a point
 pub record IsBeforeAllMoves {A : Type 0} (point : ℕ) (is fs vs : Moves) (s : State A) : Type 0 where
   pub ints : MayBeParallel s.slots.count is
   pub floats : MayBeParallel s.slots.count fs
@@ -86,14 +86,14 @@ pub record IsBeforeInst {A C : Type 0} (f : FunctionValue) (d : BranchDefs C) (b
   pub allocs_long : length places ≡ operand_count f
   pub no_places : (k : ℕ) → k < offset_of f (i + 1) → slice_index_or places k NoPlace ≡ NoPlace
 
--- the instruction i of the block b is next, and those after it are noted
+-- the instruction i of the block b is next, and the instructions after it are noted
 pub record IsBeforeNoting {A B C : Type 0} (f : FunctionValue) (d : BranchDefs C) (b i at : ℕ) (places : List Place) (s : State A) (noted : Found B)
     : Type 0 where
   pub inst : IsBeforeInst f d b i at places s
   pub located : LocatedAreUsed f (i + 1) (tables_of s)
   pub found : IsFound f (IsWanted s.places.watched) (i + 1) noted
 
--- the block b is next, from its last instruction, and those after it are noted; the list of offsets says where the places of each instruction's
+-- the block b is next, from its last instruction, and the instructions after the block are noted; the list of offsets says where the places of each instruction's
 -- operands begin
 pub record IsBeforeBlock {A B C : Type 0} (f : FunctionValue) (d : BranchDefs C) (b : ℕ) (starts : List ℕ) (places : List Place) (s : State A)
     (noted : Found B) : Type 0 where

@@ -12,7 +12,7 @@ use Rattle.regalloc2_analysis.specs.declared.branch_defs.BranchDefs.{BranchDefs}
 use Rattle.regalloc2_fastalloc_state.specs.StateParts.{SpillSlotsValue, GetsSpillSlot, NoneIsFrom, slot_name}
 use Rattle.regalloc2_fastalloc_proofs.specs.InstSteps.{StateValue, Outcome, next, no_register}
 use Rattle.regalloc2_fastalloc_proofs.specs.StoreSteps.{IsByWay, IsStoredFor, pushed_moves}
-use Rattle.regalloc2_steps.specs.declared.moved.PlaceMove.{PlaceMove}
+use Rattle.regalloc2_fastalloc_walk.specs.declared.store.StoreMove.{StoreMove}
 use Rattle.regalloc2_fastalloc_walk.specs.declared.store.StoredDef.{StoredDef}
 
 -- the tables say that the branch defines the argument of a parameter with a slot, by the operand j
@@ -20,14 +20,14 @@ abbrev pub IsArgumentStored : {A : Type 0} → BranchDefs A → ℕ → SpillSlo
 IsArgumentStored defs branch slots param argument j = (site_of defs argument.number ≡ Some (record { branch = branch; index = j }))
     × (slot_name slots param.number ≢ NoPlace)
 
--- if so, it is listed
+-- an argument that the branch defines is listed, if its parameter has a slot
 pub data ListsGiven {A : Type 0} (defs : BranchDefs A) (branch : ℕ) (slots : SpillSlotsValue) (param argument : VirtualRegister) (old new : List StoredDef) :
     Type 0 where
   listed : (j : ℕ) → IsArgumentStored defs branch slots param argument j → new ≡ old ++ record { index = j; to = param } ∷ []
       → ListsGiven defs branch slots param argument old new
   not_given : ((j : ℕ) → IsArgumentStored defs branch slots param argument j → ⊥) → new ≡ old → ListsGiven defs branch slots param argument old new
 
--- the first k parameters
+-- the arguments of the first k parameters are listed
 pub data ListsParams {A : Type 0} (defs : BranchDefs A) (branch : ℕ) (slots : SpillSlotsValue) (params arguments : List VirtualRegister)
     (old : List StoredDef) : ℕ → List StoredDef → Type 0 where
   no_param : ListsParams defs branch slots params arguments old 0 old
@@ -39,7 +39,7 @@ pub data ListsParams {A : Type 0} (defs : BranchDefs A) (branch : ℕ) (slots : 
 abbrev pub own_store : List OperandValue → ℕ → StoredDef
 own_store operands j = record { index = j; to = (op_at operands j).vreg }
 
--- one, if it is for the vreg of a number
+-- 1 if a store is for the vreg of a number, else 0
 abbrev pub is_for : ℕ → StoredDef → ℕ
 is_for n s = if nat_eq s.to.number n then 1 else 0
 
@@ -55,7 +55,7 @@ pub data FindsDefined (o : OperandValue) (p : Place) (old new : SpillSlotsValue)
   in_slot : fixed_definition o ≡ None → GetsSpillSlot old new o.vreg p → new.num_temp_slots ≡ old.num_temp_slots → FindsDefined o p old new
 
 -- the move of what an operand defines to the slot of a vreg
-pub record FindsStore (o : OperandValue) (to : VirtualRegister) (m : PlaceMove) (old new : SpillSlotsValue) : Type 0 where
+pub record FindsStore (o : OperandValue) (to : VirtualRegister) (m : StoreMove) (old new : SpillSlotsValue) : Type 0 where
   pub middle : SpillSlotsValue
   pub from : FindsDefined o m.from old middle
   pub slot : GetsSpillSlot middle new to m.to
@@ -65,49 +65,49 @@ pub record FindsStore (o : OperandValue) (to : VirtualRegister) (m : PlaceMove) 
 abbrev pub no_store : StoredDef
 no_store = record { index = 0; to = no_vreg }
 
--- the moves of the first k
-pub data FindsStores (operands : List OperandValue) (stores : List StoredDef) (old : SpillSlotsValue) : ℕ → List PlaceMove → SpillSlotsValue → Type 0 where
+-- the moves of the first k stores
+pub data FindsStores (operands : List OperandValue) (stores : List StoredDef) (old : SpillSlotsValue) : ℕ → List StoreMove → SpillSlotsValue → Type 0 where
   none_found : FindsStores operands stores old 0 [] old
-  one_found : (k : ℕ) (ms : List PlaceMove) (m : PlaceMove) (s t : SpillSlotsValue) → k < length stores → FindsStores operands stores old k ms s →
+  one_found : (k : ℕ) (ms : List StoreMove) (m : StoreMove) (s t : SpillSlotsValue) → k < length stores → FindsStores operands stores old k ms s →
       FindsStore (op_at operands (slice_index_or stores k no_store).index) (slice_index_or stores k no_store).to m s t
       → FindsStores operands stores old (k + 1) (ms ++ m ∷ []) t
 
 -- a move, as it is made: by way of a register where it is from the stack
-pub record IsMadeOf (t : StateValue) (m : PlaceMove) (s : Store) : Type 0 where
+pub record IsMadeOf (t : StateValue) (m : StoreMove) (s : Store) : Type 0 where
   pub from : s.from ≡ m.from
   pub to : s.to ≡ m.to
   pub direct : is_memory t.fixed_stack m.from ≡ false → s.by ≡ None
   pub by_way : IsByWay t m.class s
 
--- those from the stack, or those that aren't, in their order
-pub data AreMadeOf (t : StateValue) (from_memory : Bool) : List PlaceMove → List Store → Type 0 where
+-- the moves from the stack, or the moves from registers, as they are made, in their order
+pub data AreMadeOf (t : StateValue) (from_memory : Bool) : List StoreMove → List Store → Type 0 where
   none_made : AreMadeOf t from_memory [] []
-  passed_over : (m : PlaceMove) (ms : List PlaceMove) (ss : List Store) → is_memory t.fixed_stack m.from ≡ not from_memory → AreMadeOf t from_memory ms ss →
+  passed_over : (m : StoreMove) (ms : List StoreMove) (ss : List Store) → is_memory t.fixed_stack m.from ≡ not from_memory → AreMadeOf t from_memory ms ss →
       AreMadeOf t from_memory (m ∷ ms) ss
-  one_made : (m : PlaceMove) (s : Store) (ms : List PlaceMove) (ss : List Store) → is_memory t.fixed_stack m.from ≡ from_memory → IsMadeOf t m s →
+  one_made : (m : StoreMove) (s : Store) (ms : List StoreMove) (ss : List Store) → is_memory t.fixed_stack m.from ≡ from_memory → IsMadeOf t m s →
       AreMadeOf t from_memory ms ss
       → AreMadeOf t from_memory (m ∷ ms) (s ∷ ss)
 
--- they are pushed at a point, the last one first
-pub record PushesStores (point : ℕ) (from_memory : Bool) (ms : List PlaceMove) (old new : StateValue) : Type 0 where
+-- the stores from the stack, or the stores from registers, are pushed at a point, the last store first
+pub record PushesStores (point : ℕ) (from_memory : Bool) (ms : List StoreMove) (old new : StateValue) : Type 0 where
   pub stores : List Store
   pub made : AreMadeOf old from_memory ms stores
   pub pushed : new ≡ record old { edits = old.edits ++ pushed_moves point (store_moves stores) }
 
 -- one of the moves is of a class that has no register
-abbrev pub LacksStoreReg : StateValue → List PlaceMove → Type 0
-LacksStoreReg t ms = (m : PlaceMove) × Contains ms m × NoneIsFrom t.allocatable m.class 0
+abbrev pub LacksStoreReg : StateValue → List StoreMove → Type 0
+LacksStoreReg t ms = (m : StoreMove) × Contains ms m × NoneIsFrom t.allocatable m.class 0
 
-abbrev pub PushStores : ℕ → Bool → List PlaceMove → StateValue → Outcome (Unit {0}) → Type 0
+abbrev pub PushStores : ℕ → Bool → List StoreMove → StateValue → Outcome (Unit {0}) → Type 0
 PushStores point from_memory ms old (next x new) = PushesStores point from_memory ms old new
 PushStores point from_memory ms old no_register = LacksStoreReg old ms
 
--- first those from the stack, then the others
-abbrev pub PushAllStores : ℕ → List PlaceMove → StateValue → Outcome (Unit {0}) → Type 0
+-- the stores from the stack are pushed first, and then the stores from registers
+abbrev pub PushAllStores : ℕ → List StoreMove → StateValue → Outcome (Unit {0}) → Type 0
 PushAllStores point ms old (next x new) = (middle : StateValue) × PushesStores point true ms old middle × PushesStores point false ms middle new
 PushAllStores point ms old no_register = LacksStoreReg old ms
 
 -- a store, by way of a register where it is from the stack
-abbrev pub PushStore : ℕ → PlaceMove → StateValue → Outcome (Unit {0}) → Type 0
+abbrev pub PushStore : ℕ → StoreMove → StateValue → Outcome (Unit {0}) → Type 0
 PushStore point m old (next x new) = (s : Store) × IsMadeOf old m s × (new ≡ record old { edits = old.edits ++ pushed_moves point (moves_by s.from s.by s.to) })
 PushStore point m old no_register = NoneIsFrom old.allocatable m.class 0

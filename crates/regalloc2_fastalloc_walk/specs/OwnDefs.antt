@@ -23,7 +23,7 @@ pub record GathersArgument (point : ℕ) (param argument : VirtualRegister) (to 
   pub machine : SameMachine old middle
   pub spills : SpillsArgument point argument from t u middle new
 
--- or the argument can't be spilled
+-- the argument is spilled, or it can't be
 abbrev pub GatherArgument : ℕ → VirtualRegister → VirtualRegister → InstRegs → StateValue → Outcome (Place × Place × InstRegs) → Type 0
 GatherArgument point param argument t old (next (to, from, u) new) = GathersArgument point param argument to from t u old new
 GatherArgument point param argument t old no_register = (m : StateValue) × (m.places ≡ old.places) × SameMachine old m

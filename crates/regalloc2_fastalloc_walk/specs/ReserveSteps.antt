@@ -5,7 +5,7 @@ use Rattle.regalloc2_names.specs.declared.OperandConstraint.TheVariants.{FixedRe
 use Rattle.regalloc2_names.specs.Register.{Register, is_register}
 use Rattle.regalloc2_names.specs.RegisterSet.{has_register}
 use Rattle.regalloc2_names.specs.Operand.{OperandValue}
-use Rattle.regalloc2_steps.specs.declared.positions.Positions.{Positions}
+use Rattle.regalloc2_fastalloc_state.specs.declared.positions.Positions.{Positions}
 use Rattle.regalloc2_fastalloc_state.specs.declared.inst_regs.InstRegs.{InstRegs}
 use Rattle.regalloc2_fastalloc_state.specs.InstRegs.{SameAvailable, awaited_of, is_free_throughout}
 use Rattle.regalloc2_fastalloc_state.specs.Masks.{AreMasks}
@@ -25,16 +25,16 @@ pub record Shrinks (t u : InstRegs) : Type 0 where
   pub late : (r : Register) → has_register u.late r ≡ true → has_register t.late r ≡ true
   pub scratch : u.scratch ≡ t.scratch
 
--- no other register than this one is taken
+-- no register but `by` is taken
 pub record TakesOnly (by : Register) (t u : InstRegs) : Type 0 where
   pub early : (r : Register) → is_register by r ≡ false → has_register u.early r ≡ has_register t.early r
   pub late : (r : Register) → is_register by r ≡ false → has_register u.late r ≡ has_register t.late r
 
--- registers that are taken now, and were free at both positions, are those that operands are fixed to
+-- each register that is taken now, and was free at both positions, is one that an operand is fixed to
 abbrev pub TakesFixed : List OperandValue → InstRegs → InstRegs → Type 0
 TakesFixed operands t u = (r : Register) → is_free_throughout t r ≡ true → is_free_throughout u r ≡ false → IsFixedIn operands r
 
--- of none so far, the operands that require any register are counted
+-- where none was counted, all operands that require any register are
 abbrev pub AwaitsAll : List OperandValue → InstRegs → InstRegs → Type 0
 AwaitsAll operands t u = t.awaited ≡ 0 ∷ 0 ∷ 0 ∷ [] → (class : RegClass) → awaited_of u class ≡ asking operands class
 
@@ -43,12 +43,12 @@ pub record KeepsReserved (c d : ReservedRegs) : Type 0 where
   pub early : (r : Register) → has_register c.early r ≡ true → has_register d.early r ≡ true
   pub late : (r : Register) → has_register c.late r ≡ true → has_register d.late r ≡ true
 
--- no other register than this one is claimed now, and at these positions
+-- no register but `by` is claimed now, and only at the positions `p`
 pub record ReservesOnly (c d : ReservedRegs) (by : Register) (p : Positions) : Type 0 where
   pub early : (r : Register) → has_register d.early r ≡ true → (has_register c.early r ≡ true) ⊎ ((r ≡ by) × (p.early ≡ true))
   pub late : (r : Register) → has_register d.late r ≡ true → (has_register c.late r ≡ true) ⊎ ((r ≡ by) × (p.late ≡ true))
 
--- nor than what the operand k claims
+-- no register is claimed now but the one that the operand k claims
 pub record OperandReserves (operands : List OperandValue) (k : ℕ) (c d : ReservedRegs) : Type 0 where
   pub early : (r : Register) → has_register d.early r ≡ true → (has_register c.early r ≡ true)
       ⊎ ((p : Positions) × NeedsFixedReg operands k r p × (p.early ≡ true))
@@ -58,7 +58,7 @@ pub record OperandReserves (operands : List OperandValue) (k : ℕ) (c d : Reser
 abbrev pub IsReservedAt : ReservedRegs → Register → Positions → Type 0
 IsReservedAt c r p = ((p.early && has_register c.early r) || (p.late && has_register c.late r)) ≡ true
 
--- the register is claimed at the positions, where no vreg claimed it
+-- the register is claimed at the positions, where no operand claimed it
 pub record IsNewlyReserved (c d : ReservedRegs) (r : Register) (p : Positions) : Type 0 where
   pub fresh_early : p.early ≡ true → has_register c.early r ≡ false
   pub fresh_late : p.late ≡ true → has_register c.late r ≡ false

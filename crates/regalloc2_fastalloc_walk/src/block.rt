@@ -12,11 +12,10 @@ use super::state::State;
 use regalloc2_fastalloc_state::inst_regs::InstRegs;
 use regalloc2_index::Inst;
 use regalloc2_names::{Allocation, ProgPoint, RegAllocError, VReg};
-use regalloc2_steps::moved::PlaceMove;
 use std::alloc::Allocator;
 
 impl<'a, A: Allocator> State<'a, A> {
-    /// Reloads a parameter of the block that begins: it arrives in its slot, from where it is moved
+    /// Reloads `param`, a parameter of the block that begins: it arrives in its slot, from where it is moved
     /// to its expected place, and has no location before.
     fn reload_param(
         &mut self,
@@ -36,16 +35,7 @@ impl<'a, A: Allocator> State<'a, A> {
         let slot = self.slots.get_spillslot(param)?;
         self.places.set_alloc(param, Allocation::none());
         let is_moved = are_places_different(slot, current);
-        self.add_move_if(
-            inst_regs,
-            point,
-            is_moved,
-            PlaceMove {
-                class: param.class(),
-                from: slot,
-                to: current,
-            },
-        )
+        self.add_move_if(inst_regs, point, is_moved, param.class(), slot, current)
     }
 
     /// Reloads the parameters of the block that begins, in order.

@@ -26,16 +26,16 @@ ghost use Rattle.regalloc2_fastalloc_state.specs.StateParts.{IsLeastRecentIn, No
 use super::state::State;
 use super::walk::FunctionCx;
 use regalloc2_analysis::branch_defs::BranchDefs;
-use regalloc2_fastalloc_state::inst_regs::{InstRegs, Positions};
+use regalloc2_fastalloc_state::inst_regs::InstRegs;
+use regalloc2_fastalloc_state::positions::Positions;
 use regalloc2_function::Function;
 use regalloc2_index::{Block, Inst};
 use regalloc2_names::{Allocation, PReg, PRegSet, ProgPoint, RegAllocError, RegClass, VReg};
 use regalloc2_parts::moves::{MoveVec, MoveVecWithScratch, ParallelMoves};
 use regalloc2_parts::scratch_pool::{ScratchPair, ScratchPool};
-use regalloc2_steps::moved::{by_way_of, passing_point};
 use std::alloc::Allocator;
 
-/// What a branch defines.
+/// The definitions of one branch.
 #[derive(Clone, Copy)]
 struct OwnDefs<'f, A: Allocator> {
     defs: &'f BranchDefs<A>,
@@ -43,7 +43,7 @@ struct OwnDefs<'f, A: Allocator> {
 }
 
 impl<A: Allocator> OwnDefs<'_, A> {
-    /// Whether a vreg is defined by the branch.
+    /// Whether the branch defines `vreg`.
     fn has(&self, vreg: VReg) -> bool
         ensures { IsTrue result ↔ IsOwnBy self.now.defs.now self.now.branch vreg }
     {
@@ -51,7 +51,7 @@ impl<A: Allocator> OwnDefs<'_, A> {
     }
 }
 
-/// A register as a place.
+/// The place of `preg`, if it is a register.
 fn as_place(preg: Option<PReg>) -> Option<Allocation>
     ensures some { (p : Place) → result ≡ Some p → (r : Register) × (p ≡ InRegister r) × (preg ≡ Some r) }
     ensures none { result ≡ None → preg ≡ None }
@@ -62,7 +62,7 @@ fn as_place(preg: Option<PReg>) -> Option<Allocation>
     }
 }
 
-/// Whether no edge out of a block leads to one with parameters.
+/// Whether no edge out of `block` leads to a block with parameters.
 fn passes_nothing<F: Function>(f: &F, block: Block) -> bool
     requires block { block < length (F.function f.now).blocks }
     requires targets { (k : ℕ) → HasEdge (F.function f.now) block k → target_at (F.function f.now) block k < length (F.function f.now).blocks }
@@ -97,7 +97,7 @@ struct MovesByClass<'b, B: Allocator> {
     vector: ParallelMoves<(), &'b B>,
 }
 
-/// Adds one of the moves.
+/// Adds a move from `from` to `to`.
 fn add_to<A: Allocator + Copy>(
     moves: &mut ParallelMoves<(), A>,
     from: Allocation,
@@ -115,7 +115,7 @@ fn add_to<A: Allocator + Copy>(
 }
 
 impl<'b, B: Allocator> MovesByClass<'b, B> {
-    /// No moves.
+    /// Makes the lists, without moves.
     fn none(alloc: &'b B) -> Self
         ensures { AreOf result.int result.float result.vector [] }
     {
@@ -126,7 +126,7 @@ impl<'b, B: Allocator> MovesByClass<'b, B> {
         }
     }
 
-    /// Adds a move of a class.
+    /// Adds a move of `class`.
     fn add(
         &mut self,
         class: RegClass,
@@ -148,8 +148,8 @@ impl<'b, B: Allocator> MovesByClass<'b, B> {
 }
 
 impl<'a, A: Allocator> State<'a, A> {
-    /// The first scratch register for moves of a class: the machine's dedicated one, else the one
-    /// chosen from the set.
+    /// The first scratch register for moves of `class`: the machine's dedicated one, else the
+    /// register chosen from `free`.
     fn first_scratch(&self, class: RegClass, free: PRegSet) -> Option<PReg>
         ensures found { IfSome result (λ r. (slice_index_or self.now.registers.dedicated_scratch (class_code class) None ≡ Some r)
             ⊎ IsLeastRecentIn self.now.registers class free r) }
@@ -249,10 +249,10 @@ impl<'a, A: Allocator> State<'a, A> {
         self.edits.push_all(point, made.as_slice())
     }
 
-    /// Pushes one slot-to-slot move, made by way of a register: the last one pushed is listed
-    /// first. `push_some` would push just these two, since both ends are on the stack and the
-    /// register is the first that it would choose. It skips what needs more than one move:
-    /// ordering, a second register and temporary slots.
+    /// Pushes one slot-to-slot move by way of `by`, as two moves: the move pushed last is listed
+    /// first. `push_some` would push the same moves, since both ends are on the stack and `by` is
+    /// the first register that it would choose. Skipped is what only several moves need: ordering,
+    /// a second register and temporary slots.
     #[inline(never)]
     fn push_one(
         &mut self,
@@ -267,9 +267,9 @@ impl<'a, A: Allocator> State<'a, A> {
         ensures rest { tables_of self.new ≡ record (tables_of self.old) { edits = self.new.edits } }
         ensures err { IfErr result (λ e. e ≡ RegAllocError.Memory) }
     {
-        let (first, then) = by_way_of(Allocation::reg(by), from, to);
-        self.edits.push(point, then.0, then.1)?;
-        self.edits.push(point, first.0, first.1)
+        let by = Allocation::reg(by);
+        self.edits.push(point, by, to)?;
+        self.edits.push(point, from, by)
     }
 
     /// Pushes the parallel moves of a class.
@@ -305,7 +305,8 @@ impl<'a, A: Allocator> State<'a, A> {
 }
 
 impl<'a, A: Allocator> State<'a, A> {
-    /// Makes an argument's slot its location; it is reloaded from there to its expected place.
+    /// Makes an argument's slot its location; the argument is reloaded from there to its expected
+    /// place.
     fn spill_argument(
         &mut self,
         inst_regs: &mut InstRegs,
@@ -369,7 +370,7 @@ impl<'a, A: Allocator> State<'a, A> {
             arguments.now inst_regs.old (tables_of self.old) given no_register) }
         ensures step { IsStepAt (before own.now.branch) result self.old self.new }
     {
-        let point = passing_point(own.branch);
+        let point = ProgPoint::before(own.branch);
         for j in 0..params.len() {
             let argument = arguments[j];
             if !own.has(argument) {
@@ -428,8 +429,8 @@ impl<'a, A: Allocator> State<'a, A> {
         self.push_moves(inst_regs, point, RegClass::Vector, vector)
     }
 
-    /// Passes the arguments of a branch: all are spilled to their slots, and then moved to those of
-    /// the parameters. A branch that passes nothing returns at once, because lists for its moves
+    /// Passes the arguments of a branch: all are spilled to their slots, and then moved to the slots
+    /// of the parameters. A branch that passes nothing returns at once, because lists for its moves
     /// would cost more than all else.
     pub fn process_branch<F: Function, B: Allocator, C: Allocator>(
         &mut self,
@@ -449,7 +450,7 @@ impl<'a, A: Allocator> State<'a, A> {
         let moves = self.gather(inst_regs, alloc, cx, block, inst)?;
         // read for its contract: each slot has one owner, so no two arguments go to one slot
         let _count = self.slots.num_units();
-        let point = passing_point(inst);
+        let point = ProgPoint::before(inst);
         self.push_gathered(inst_regs, point, moves)
     }
 }

@@ -22,18 +22,18 @@ ghost use Rattle.regalloc2_fastalloc_proofs.specs.BlockSteps.{AllocInstAt};
 
 use super::reserve_regs::Sorted;
 use super::state::State;
-use regalloc2_fastalloc_state::inst_regs::{InstRegs, Positions};
+use regalloc2_fastalloc_state::inst_regs::InstRegs;
 use regalloc2_fastalloc_state::masks::{Masks, Selected};
+use regalloc2_fastalloc_state::positions::Positions;
 use regalloc2_fastalloc_state::request::{OperandRequest, Requirement};
 use regalloc2_index::Inst;
 use regalloc2_names::{
     Allocation, Operand, OperandConstraint, OperandPos, PReg, PRegSet, ProgPoint, RegAllocError,
 };
 use regalloc2_parts::iter::{Operands, PickedOperands};
-use regalloc2_steps::moved::PlaceMove;
 use std::alloc::Allocator;
 
-/// The operands at a position, with their indexes.
+/// The operands at the position `pos`, with their indexes.
 fn operands_at<'o>(operands: &'o [Operand], pos: OperandPos) -> PickedOperands<'o>
     ensures { result ≡ picked (is_at pos) operands.now }
 {
@@ -44,7 +44,7 @@ fn operands_at<'o>(operands: &'o [Operand], pos: OperandPos) -> PickedOperands<'
     }
 }
 
-/// The operands at a position, by their masks.
+/// The operands at the position `pos`, with their indexes, found by `masks`.
 #[inline(always)]
 fn masked_at<'o>(masks: &Masks, operands: &'o [Operand], pos: OperandPos) -> Selected<'o>
     requires masks { AreMasks operands.now masks.now }
@@ -57,14 +57,14 @@ fn masked_at<'o>(masks: &Masks, operands: &'o [Operand], pos: OperandPos) -> Sel
     }
 }
 
-/// Whether the places differ.
+/// Whether `place` and `other` differ.
 pub fn are_places_different(place: Allocation, other: Allocation) -> bool
     ensures { result ≡ not (is_place place other) }
 {
     place != other
 }
 
-/// The index of the operand that a reuse names.
+/// The index of the operand that `operand` names, if it is a reuse.
 fn reused(operand: Operand) -> Option<usize>
     ensures some { IfSome result (λ n. operand.constraint ≡ OperandConstraint.Reuse n) }
     ensures none { IsNone result → (n : ℕ) → operand.constraint ≡ OperandConstraint.Reuse n → ⊥ }
@@ -134,9 +134,9 @@ fn asks_any_reg(operand: Operand, place: Allocation) -> bool
     operand.is_any_reg() && place.is_none()
 }
 
-/// The register of a use, if it is already determined before it is placed: the one that a reuse has
-/// chosen for it, else the one that it is fixed to. None for a definition, and for a use that reads
-/// nothing: both aren't placed as uses.
+/// The register of a use, if it is determined before the use is placed: the register that a reuse
+/// has chosen for the use, else the register that the use is fixed to. `None` for a definition, and
+/// for a use that reads nothing: neither is placed as a use.
 fn known_register(operand: Operand, place: Allocation) -> Option<PReg>
     ensures some { IfSome result (λ r. (is_reading operand ≡ true) × ((use_request operand place).requirement ≡ Requirement.InPReg r)) }
     ensures none { IfNone result (is_reading operand ≡ true → (r : Register) → (use_request operand place).requirement ≡ Requirement.InPReg r → ⊥) }
@@ -178,7 +178,7 @@ fn reg_request(operand: Operand) -> OperandRequest
     }
 }
 
-/// The request of a reuse: it holds its register throughout, for the operand that it names too.
+/// The request of a reuse, which holds its register throughout, for the operand that it names too.
 fn reuse_request(operand: Operand, operands: &[Operand], index: usize) -> OperandRequest
     ensures { result ≡ reuse_request operand (op_at operands.now index) }
 {
@@ -195,7 +195,7 @@ fn reuse_request(operand: Operand, operands: &[Operand], index: usize) -> Operan
     }
 }
 
-/// Sets the place of an index, if there is one.
+/// Sets the place at `index`, if it is in the list.
 fn set_place(places: &mut [Allocation], index: usize, place: Allocation)
     ensures { places.new ≡ slice_set places.old index place }
 {
@@ -211,12 +211,12 @@ pub struct InstCx<'a> {
     /// Whether the instruction is its block's last. No move may follow it.
     pub ends_block: bool,
     pub operands: &'a [Operand],
-    /// The registers that it overwrites.
+    /// The registers that the instruction overwrites.
     pub clobbers: PRegSet,
 }
 
 impl<'a, A: Allocator> State<'a, A> {
-    /// Allocates the operand k, whatever it requires. The place of a reuse is that of the operand
+    /// Allocates the operand `k`, whatever it requires. The place of a reuse is that of the operand
     /// that it names too.
     #[inline(never)]
     fn process_operand(
@@ -258,8 +258,8 @@ impl<'a, A: Allocator> State<'a, A> {
         Ok(())
     }
 
-    /// Allocates the operand k, which requires any register, as most do. It is
-    /// [`Self::process_operand`] without all that other operands need.
+    /// Allocates the operand `k`, which requires any register, as most do. Does what
+    /// [`Self::process_operand`] does, without all that other operands need.
     #[inline(never)]
     fn process_reg_operand(
         &mut self,
@@ -291,9 +291,9 @@ impl<'a, A: Allocator> State<'a, A> {
         Ok(())
     }
 
-    /// Allocates the operand k, a use whose register is determined before it is placed. It is
-    /// [`Self::process_operand`] without its first tests: whether the operand is a use of a vreg,
-    /// as each that reads is, and what such a use requires, which is the register here.
+    /// Allocates the operand `k`, a use for which `preg` is determined before it is placed. Does
+    /// what [`Self::process_operand`] does, without its first tests: an operand that reads is the
+    /// use of a vreg, and this use requires `preg`.
     #[inline(never)]
     fn process_placed_use(
         &mut self,
@@ -327,10 +327,10 @@ impl<'a, A: Allocator> State<'a, A> {
         Ok(())
     }
 
-    /// The slot that a use under `Any` is read from, if its vreg is in one.
-    /// [`Self::process_operand`] would choose it too, and do nothing else: no register is claimed,
-    /// no move is added, and the vreg keeps its location. None if the vreg is in a register or has
-    /// no location yet.
+    /// The slot that a use under `Any` is read from, if its vreg is in a slot.
+    /// [`Self::process_operand`] would choose the slot too, and do nothing else: no register is
+    /// claimed, no move is added, and the vreg keeps its location. `None` if the vreg is in a
+    /// register or has no location yet.
     fn slot_of_any_use(&self, operand: Operand) -> Option<Allocation>
         requires { operand.constraint ≡ OperandConstraint.Any → operand.vreg.number < length self.now.places.vreg_allocs }
         ensures some { IfSome result (λ p. (is_def operand.kind ≡ false) × (operand.constraint ≡ OperandConstraint.Any) × (is_in_slot p ≡ true)
@@ -349,7 +349,7 @@ impl<'a, A: Allocator> State<'a, A> {
         }
     }
 
-    /// Allocates the operand k. The most common kinds have fast paths, which do what
+    /// Allocates the operand `k`. The most common kinds have fast paths, which do what
     /// [`Self::process_operand`] does.
     #[inline(always)]
     fn process_operand_allocation(
@@ -384,7 +384,8 @@ impl<'a, A: Allocator> State<'a, A> {
         self.process_operand(inst_regs, cx, allocs, k)
     }
 
-    /// Allocates the operands of one position, in operand order, however many there are.
+    /// Allocates the operands at the position `pos`, in operand order, however many operands there
+    /// are.
     #[inline(never)]
     fn process_each_at(
         &mut self,
@@ -407,8 +408,8 @@ impl<'a, A: Allocator> State<'a, A> {
         Ok(())
     }
 
-    /// Allocates the operands of one position, in operand order. There are at most
-    /// 63, whose masks are given.
+    /// Allocates the operands at the position `pos`, in operand order. There are at most 63
+    /// operands, whose `masks` are given.
     #[inline(always)]
     pub fn process_operands_at(
         &mut self,
@@ -434,7 +435,7 @@ impl<'a, A: Allocator> State<'a, A> {
         Ok(())
     }
 
-    /// Moves a use from its vreg's current location to its place.
+    /// Moves the use `operand` from its vreg's current location to `place`.
     #[inline(always)]
     fn move_use(
         &mut self,
@@ -450,16 +451,7 @@ impl<'a, A: Allocator> State<'a, A> {
     {
         let current = self.places.current_alloc(operand.vreg());
         let is_moved = are_places_different(current, place);
-        self.add_move_if(
-            inst_regs,
-            point,
-            is_moved,
-            PlaceMove {
-                class: operand.class(),
-                from: current,
-                to: place,
-            },
-        )
+        self.add_move_if(inst_regs, point, is_moved, operand.class(), current, place)
     }
 
     /// Moves the uses of an instruction from their vregs' current locations to their places, in
@@ -487,7 +479,7 @@ impl<'a, A: Allocator> State<'a, A> {
     }
 
     /// Moves the uses of an instruction from their vregs' current locations to their places, in
-    /// operand order. There are at most 63 operands, whose masks are given.
+    /// operand order. There are at most 63 operands, whose `masks` are given.
     pub fn move_uses(
         &mut self,
         inst_regs: &mut InstRegs,
@@ -557,9 +549,9 @@ impl<'a, A: Allocator> State<'a, A> {
         self.move_each(inst_regs, ProgPoint::before(cx.inst), cx.operands, allocs)
     }
 
-    /// Allocates an instruction: `allocs`, which has no place yet, gets those of its operands.
+    /// Allocates an instruction: `allocs`, which has no place yet, gets the places of its operands.
     ///
-    /// Returns whether no operand has `Limit`. An operand that has it requires any register, as under `Reg`.
+    /// Returns whether no operand has `Limit`. An operand under `Limit` requires any register, as under `Reg`.
     pub fn alloc_inst(
         &mut self,
         inst_regs: &mut InstRegs,

@@ -3,7 +3,7 @@
 ghost use Rattle.std.specs.Prelude.{All, ℕ, ◌≡◌, ◌<◌, ◌⊎◌, ◌||◌, ◌↔◌, ◌∷◌, [], length, true, false, IsTrue, OnOk, IfOk, IfSome, IfNone, IfErr, Some, MatchResult};
 ghost use Rattle.regalloc2_names.specs.Register.{Register};
 ghost use Rattle.regalloc2_names.specs.RegisterSet.{has_register, registers_of};
-ghost use Rattle.regalloc2_steps.specs.Positions.{positions_of};
+ghost use Rattle.regalloc2_fastalloc_state.specs.Positions.{positions_of};
 ghost use Rattle.regalloc2_fastalloc_state.specs.InstRegs.{SameAvailable, RemovesAvailable, is_free_throughout};
 ghost use Rattle.regalloc2_fastalloc_state.specs.StateParts.{AllAtOrAfter};
 ghost use Rattle.regalloc2_fastalloc_state.specs.OutOfResources.{IsResourceErrorIn};
@@ -16,14 +16,14 @@ ghost use Rattle.regalloc2_fastalloc_walk.specs.ReserveSteps.{AreSorted, AwaitsA
 ghost use Rattle.regalloc2_fastalloc_walk.specs.ReserveSteps.{KeepsReserved, Shrinks, ReservesRegForOperand, TakesOnly, RegIsNotReserved};
 
 use super::state::State;
-use regalloc2_fastalloc_state::inst_regs::{InstRegs, Positions};
+use regalloc2_fastalloc_state::inst_regs::InstRegs;
 use regalloc2_fastalloc_state::masks::Masks;
+use regalloc2_fastalloc_state::positions::Positions;
 use regalloc2_fastalloc_state::validate::constraints::is_unlimited;
 use regalloc2_names::{Operand, OperandConstraint, PReg, PRegSet, ProgPoint, RegAllocError};
-use regalloc2_steps::clobbers::held_clobbers;
 use std::alloc::Allocator;
 
-/// The fixed registers of an instruction's operands so far, by position, and those that were poked.
+/// The registers that an instruction's operands so far are fixed to, by position, and the registers that were poked.
 #[derive(Clone, Copy)]
 struct ReservedRegs {
     early: PRegSet,
@@ -32,7 +32,7 @@ struct ReservedRegs {
 }
 
 impl ReservedRegs {
-    /// None.
+    /// No reserved and no poked register.
     fn none() -> ReservedRegs
         ensures early { (r : Register) → has_register result.early r ≡ false }
         ensures late { (r : Register) → has_register result.late r ≡ false }
@@ -44,7 +44,7 @@ impl ReservedRegs {
         }
     }
 
-    /// Reserves the register at the positions, unless an earlier operand did at one of them.
+    /// Reserves `preg` at `positions`, unless an earlier operand reserved it at one of these positions.
     fn reserve(&mut self, preg: PReg, positions: Positions) -> Result<(), RegAllocError>
         ensures ok { OnOk result (IsNewlyReserved self.old self.new preg positions) }
         ensures grows { KeepsReserved self.old self.new }
@@ -71,15 +71,15 @@ impl ReservedRegs {
 /// What one pass over an instruction's operands finds.
 #[derive(Clone, Copy)]
 pub struct Sorted {
-    /// Which are late, and which are uses, if there are at most 63.
+    /// Which operands are late, and which are uses, if there are at most 63 operands.
     pub masks: Masks,
-    /// Whether any is fixed to a register.
+    /// Whether any operand is fixed to a register.
     pub any_fixed: bool,
     /// Whether no operand has `Limit`.
     pub unlimited: bool,
 }
 
-/// Makes that pass, without a branch for each operand, and counts those that require any register.
+/// Sorts `operands` in one pass without a branch for each operand, and counts the operands under `Reg`.
 #[inline(always)]
 fn sort(inst_regs: &mut InstRegs, operands: &[Operand]) -> Sorted
     requires { inst_regs.old.awaited ≡ 0 ∷ 0 ∷ 0 ∷ [] }
@@ -120,7 +120,7 @@ fn are_unlimited(operands: &[Operand]) -> bool
     true
 }
 
-/// The register that an operand is fixed to.
+/// The register that `operand` is fixed to.
 fn fixed_register(operand: Operand) -> Option<PReg>
     ensures some { IfSome result (λ r. operand.constraint ≡ OperandConstraint.FixedReg r) }
     ensures none { IfNone result ((r : Register) → operand.constraint ≡ OperandConstraint.FixedReg r → ⊥) }
@@ -131,7 +131,7 @@ fn fixed_register(operand: Operand) -> Option<PReg>
     }
 }
 
-/// The register of the operand that a reuse names, if that is fixed.
+/// The register that an operand is fixed to, if the reuse `operand` names it.
 fn reused_register(operand: Operand, operands: &[Operand]) -> Option<PReg>
     ensures some { IfSome result (λ r. (n : ℕ) × (operand.constraint ≡ OperandConstraint.Reuse n) × (n < length operands.now)
         × ((op_at operands.now n).constraint ≡ OperandConstraint.FixedReg r)) }
@@ -146,8 +146,8 @@ fn reused_register(operand: Operand, operands: &[Operand]) -> Option<PReg>
     }
 }
 
-/// What the operand k claims before operands are allocated: its fixed register, unless it reads and defines nothing; or for a
-/// reuse that of the operand that it names, while late operands are there.
+/// What the operand `k` claims before operands are allocated: its fixed register, unless it reads and defines nothing; or for a
+/// reuse the fixed register of the operand that it names, while late operands are there.
 fn reserved_by(operands: &[Operand], k: usize) -> Option<(PReg, Positions)>
     requires { k < length operands.now }
     ensures some { IfSome result (λ c. NeedsFixedReg operands.now k c.0 c.1) }
@@ -173,8 +173,8 @@ fn reserved_by(operands: &[Operand], k: usize) -> Option<(PReg, Positions)>
     }
 }
 
-/// Makes the register unavailable that an operand which claims nothing is fixed to: such an operand reads and defines
-/// nothing, but its register is named.
+/// Makes the register that `operand` is fixed to unavailable. The operand claims nothing, since it reads and defines nothing,
+/// but its register is named.
 fn remove_unclaimed(inst_regs: &mut InstRegs, operand: Operand)
     ensures shrinks { Shrinks inst_regs.old inst_regs.new }
     ensures takes { (r : Register) → is_free_throughout inst_regs.old r ≡ true → is_free_throughout inst_regs.new r ≡ false →
@@ -188,7 +188,7 @@ fn remove_unclaimed(inst_regs: &mut InstRegs, operand: Operand)
     }
 }
 
-/// Whether a set has no register.
+/// Whether `set` has no register.
 fn has_none(set: PRegSet) -> bool
     ensures { IsTrue result ↔ ((r : Register) → has_register set r ≡ false) }
 {
@@ -196,15 +196,15 @@ fn has_none(set: PRegSet) -> bool
 }
 
 impl<'a, A: Allocator> State<'a, A> {
-    /// Whether a register is one of the machine's, or a fixed stack slot.
+    /// Whether `preg` is allocatable, or a fixed stack slot.
     fn is_of_machine(&self, preg: PReg) -> bool
         ensures { result ≡ has_register self.now.registers.allocatable preg || has_register self.now.registers.fixed_stack preg }
     {
         self.registers.is_allocatable(preg) || self.registers.fixed_stack().contains(preg)
     }
 
-    /// Reserves a register at the positions. Returns an error where it isn't one of the machine's, or an earlier operand claimed it
-    /// at one of them.
+    /// Reserves `preg` at `positions`. Returns an error if `preg` is neither allocatable nor a fixed stack slot, or if an earlier
+    /// operand claimed it at one of these positions.
     fn reserve_preg(
         &self,
         inst_regs: &mut InstRegs,
@@ -231,7 +231,7 @@ impl<'a, A: Allocator> State<'a, A> {
         Ok(())
     }
 
-    /// Makes the register of the operand k unavailable: where the operand claims one, that is reserved.
+    /// Makes the register of the operand `k` unavailable, and reserves it if the operand claims it.
     fn claim(
         &self,
         inst_regs: &mut InstRegs,
@@ -253,7 +253,7 @@ impl<'a, A: Allocator> State<'a, A> {
         Ok(())
     }
 
-    /// Pokes the register that an operand is fixed to, if it may be allocated and wasn't poked yet.
+    /// Pokes the register that `operand` is fixed to, if it may be allocated and wasn't poked yet.
     fn poke_fixed(&mut self, claims: &mut ReservedRegs, operand: Operand)
         ensures same { Between SameButOrder self.old self.new }
         ensures early { claims.new.early ≡ claims.old.early }
@@ -269,7 +269,7 @@ impl<'a, A: Allocator> State<'a, A> {
         }
     }
 
-    /// Reserves what the operand k claims before operands are allocated.
+    /// Reserves what the operand `k` claims before operands are allocated.
     fn reserve_reg_for_operand(
         &mut self,
         inst_regs: &mut InstRegs,
@@ -347,7 +347,7 @@ impl<'a, A: Allocator> State<'a, A> {
     }
 
     /// Empties the fixed registers of the operands, in operand order, of all vregs but each
-    /// operand's own. Most instructions have none, which `any_fixed` says.
+    /// operand's own. Most instructions have no fixed operand: then `any_fixed` is false.
     pub fn evict_fixed(
         &mut self,
         inst_regs: &mut InstRegs,
@@ -382,7 +382,7 @@ impl<'a, A: Allocator> State<'a, A> {
         Ok(())
     }
 
-    /// Empties the clobbers in which vregs are, by rising index; the others are empty already. Most
+    /// Empties the clobbers that hold vregs, by rising index; all others are empty already. Most
     /// instructions clobber nothing.
     pub fn evict_clobbers(
         &mut self,
@@ -398,8 +398,7 @@ impl<'a, A: Allocator> State<'a, A> {
         if has_none(clobbers) {
             return Ok(());
         }
-        let filled = self.places.filled();
-        let held = held_clobbers(clobbers, filled);
+        let held = clobbers & self.places.filled();
         for preg in held {
             self.evict_preg(inst_regs, point, preg)?;
         }

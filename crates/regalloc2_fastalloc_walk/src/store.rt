@@ -22,21 +22,28 @@ use regalloc2_index::Block;
 use regalloc2_names::{
     Allocation, Operand, PReg, PRegSet, ProgPoint, RegAllocError, RegClass, VReg,
 };
-use regalloc2_steps::moved::{PlaceMove, by_way_of};
-use regalloc2_steps::stores::{is_stored, stack_in_turn};
 use std::alloc::Allocator;
 
-/// A value that a block's beginning stores: that of an operand of the branch, to the slot of a vreg.
+/// A value that a block's beginning stores: an operand of the branch defines it, and it goes to the slot of a vreg.
 #[derive(Clone, Copy)]
 struct StoredDef {
     /// The operand's index.
     index: usize,
-    /// The vreg: the operand's own, or a parameter to which the branch passes it.
+    /// The vreg: the operand's own, or a parameter to which the branch passes the value.
     to: VReg,
 }
 
+/// The move of a value to a slot.
+#[derive(Clone, Copy)]
+struct StoreMove {
+    class: RegClass,
+    /// The place in which the branch leaves the value.
+    from: Allocation,
+    to: Allocation,
+}
+
 impl<'a, A: Allocator> State<'a, A> {
-    /// Lists a value of an operand for the slot of a vreg, its own or a parameter, if it is stored there.
+    /// Lists the value of the operand `index` for the slot of `to`, the operand's own vreg or a parameter, if the value is stored there.
     fn list_store<B: Allocator>(
         &self,
         stores: &mut Vec<StoredDef, B>,
@@ -49,8 +56,9 @@ impl<'a, A: Allocator> State<'a, A> {
             then stores.old.items ++ record { index = index; to = to } ∷ [] else stores.old.items)) }
         ensures err { IfErr result (λ e. e ≡ RegAllocError.Memory) }
     {
-        let has_slot = self.slots.find_spillslot(to).is_some();
-        if !is_stored(is_own, has_slot) {
+        // a vreg's own value is stored even if the vreg has no slot yet: its reader may be an instruction that the walk hasn't
+        // reached; a parameter without a slot has no reader
+        if !is_own && self.slots.find_spillslot(to).is_none() {
             return Ok(());
         }
         stores.push(StoredDef { index, to })?;
@@ -100,8 +108,7 @@ impl<'a, A: Allocator> State<'a, A> {
         self.list_store(stores, false, site.index, param)
     }
 
-    /// Lists the values that the parameters are given, of those that the branch of the edge
-    /// defines.
+    /// Lists the values that the branch of `edge` defines and passes to `params`.
     fn list_params<B: Allocator, C: Allocator>(
         &self,
         stores: &mut Vec<StoredDef, B>,
@@ -123,7 +130,7 @@ impl<'a, A: Allocator> State<'a, A> {
     }
 
     /// Lists the values that the beginning of a block stores, by the operands that define them: for
-    /// each operand first the store for its own vreg, and then those for the parameters in order.
+    /// each operand first the store for its own vreg, and then the stores for parameters in order.
     fn list_stores<'b, F: Function, B: Allocator, C: Allocator>(
         &self,
         alloc: &'b B,
@@ -158,7 +165,7 @@ impl<'a, A: Allocator> State<'a, A> {
     }
 
     /// The move that stores a value.
-    fn store_move(&mut self, operand: Operand, to: VReg) -> Result<PlaceMove, RegAllocError>
+    fn store_move(&mut self, operand: Operand, to: VReg) -> Result<StoreMove, RegAllocError>
         requires from { operand.vreg.number < length self.old.slots.vreg_spillslots }
         requires to { to.number < length self.old.slots.vreg_spillslots }
         ensures ok { IfOk result (λ m. FindsStore operand to m self.old.slots self.new.slots) }
@@ -166,7 +173,7 @@ impl<'a, A: Allocator> State<'a, A> {
     {
         let from = self.defined_place(operand)?;
         let to = self.slots.get_spillslot(to)?;
-        Ok(PlaceMove {
+        Ok(StoreMove {
             class: operand.class(),
             from,
             to,
@@ -179,7 +186,7 @@ impl<'a, A: Allocator> State<'a, A> {
         alloc: &'b B,
         operands: &[Operand],
         stores: &[StoredDef],
-    ) -> Result<Vec<PlaceMove, &'b B>, RegAllocError>
+    ) -> Result<Vec<StoreMove, &'b B>, RegAllocError>
         requires inside { All (λ s. s.index < length operands.now) stores.now }
         requires from { All (λ s. (op_at operands.now s.index).vreg.number < length self.old.slots.vreg_spillslots) stores.now }
         requires to { All (λ s. s.to.number < length self.old.slots.vreg_spillslots) stores.now }
@@ -195,8 +202,9 @@ impl<'a, A: Allocator> State<'a, A> {
     }
 
     /// The register that stack-to-stack stores of a class go through: the machine's dedicated
-    /// scratch register, else the least recently used one to which no definition is fixed, else the
-    /// one with the greatest number. Everything else is in slots at a block's beginning.
+    /// scratch register, else the least recently used register outside `held`, which has the
+    /// registers that definitions are fixed to, else the register with the greatest number. All
+    /// other values are in slots at a block's beginning.
     fn store_scratch(&self, class: RegClass, held: PRegSet) -> Result<PReg, RegAllocError>
         ensures ok { IfOk result (λ r. (slice_index_or self.now.registers.dedicated_scratch (class_code class) None ≡ Some r)
             ⊎ MayHold (tables_of self.now) class r) }
@@ -215,12 +223,12 @@ impl<'a, A: Allocator> State<'a, A> {
         }
     }
 
-    /// Pushes a store, by way of a register where it is from the stack.
+    /// Pushes the store `m`, by way of a register if it is from the stack.
     fn push_store(
         &mut self,
         point: ProgPoint,
         held: PRegSet,
-        m: PlaceMove,
+        m: StoreMove,
     ) -> Result<(), RegAllocError>
         requires { AllAtOrAfter point self.old.edits }
         ensures outcome { ComesTo (PushStore point m) tt result self.old self.new }
@@ -231,19 +239,19 @@ impl<'a, A: Allocator> State<'a, A> {
             return Ok(());
         }
         let by = Allocation::reg(self.store_scratch(m.class, held)?);
-        let (first, then) = by_way_of(by, m.from, m.to);
-        self.edits.push(point, then.0, then.1)?;
-        self.edits.push(point, first.0, first.1)?;
+        self.edits.push(point, by, m.to)?;
+        self.edits.push(point, m.from, by)?;
         Ok(())
     }
 
-    /// Pushes the stores from the stack, or those from registers, the last one first.
+    /// Pushes the stores from the stack if `from_memory` is true, else the stores from registers. The last store is pushed
+    /// first.
     fn push_stores(
         &mut self,
         point: ProgPoint,
         held: PRegSet,
         from_memory: bool,
-        moves: &[PlaceMove],
+        moves: &[StoreMove],
     ) -> Result<(), RegAllocError>
         requires { AllAtOrAfter point self.old.edits }
         ensures outcome { ComesTo (PushStores point from_memory moves.now) tt result self.old self.new }
@@ -260,26 +268,26 @@ impl<'a, A: Allocator> State<'a, A> {
         Ok(())
     }
 
-    /// Pushes the stores from the stack, and then those from registers: so these come first in the
-    /// listing, and the others may go through any register.
+    /// Pushes the stores from the stack, and then the stores from registers.
     fn push_all_stores(
         &mut self,
         point: ProgPoint,
         held: PRegSet,
-        moves: &[PlaceMove],
+        moves: &[StoreMove],
     ) -> Result<(), RegAllocError>
         requires { AllAtOrAfter point self.old.edits }
         ensures outcome { ComesTo (PushAllStores point moves.now) tt result self.old self.new }
         ensures step { IsStepAt point result self.old self.new }
     {
-        let (first, then) = stack_in_turn();
-        self.push_stores(point, held, first, moves)?;
-        self.push_stores(point, held, then, moves)
+        // the stores pushed first are made last: by then the definitions in registers are stored, and the stores from the stack
+        // may go through any register
+        self.push_stores(point, held, true, moves)?;
+        self.push_stores(point, held, false, moves)
     }
 
-    /// The beginning of a block, before all else there: stores the definitions of the branch into
-    /// it, each to its vreg's slot if another instruction uses the vreg, and to the slot of each
-    /// used parameter that is given it.
+    /// Stores the definitions of the branch into `block` at its beginning, before all else there:
+    /// each goes to its vreg's slot if another instruction uses the vreg, and to the slot of each
+    /// used parameter to which the branch passes it.
     pub fn store_branch_defs<F: Function, B: Allocator, C: Allocator>(
         &mut self,
         alloc: &B,
@@ -296,7 +304,7 @@ impl<'a, A: Allocator> State<'a, A> {
         };
         let stores = self.list_stores(alloc, f, defs, &edge)?;
         let moves = self.store_moves(alloc, f.inst_operands(edge.branch), &stores)?;
-        // its contract says that each slot has one owner
+        // read for its contract: each slot has one owner
         let _count = self.slots.num_units();
         let point = edge.store_point(f.block_insns(block).first());
         self.push_all_stores(point, edge.held, &moves)

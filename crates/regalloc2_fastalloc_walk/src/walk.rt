@@ -1,10 +1,10 @@
 //! The walk over all blocks, from the last to the first, and over the instructions of each.
 //!
-//! It goes backward: when it reaches an instruction, all later uses of each vreg are known, and one
-//! place for each vreg is all that it has to remember. The first use that the walk meets gives the
-//! vreg its location; a move from there fills the place of each other use, before its instruction;
-//! and the definition, which the walk meets last, brings the value there. So liveness needs no
-//! analysis of its own, and no instruction is visited twice.
+//! The walk goes backward: when it reaches an instruction, all later uses of each vreg are known,
+//! and one place for each vreg is all that it has to remember. The first use that the walk meets
+//! gives the vreg its location; a move from there fills the place of each other use, before its
+//! instruction; and the definition, which the walk meets last, brings the value there. Therefore
+//! liveness needs no analysis of its own, and no instruction is visited twice.
 
 ghost use Rattle.std.specs.Prelude.{◌≡◌, ◌<◌, ◌+◌, ◌*◌, ◌↔◌, ◌&&◌, ◌++◌, ◌∷◌, [], if◌then◌else◌, length, slice_index_or, ℕ, IsTrue, OnOk, IfOk, IfErr};
 ghost use Rattle.regalloc2_names.specs.Point.{before, inst_limit};
@@ -43,8 +43,8 @@ pub struct Found<A: Allocator> {
     /// Whether all operands pass their tests: none has `Limit`, and a branch defines only in
     /// registers that it names and in stack places.
     pub passes: bool,
-    /// The instructions at which a watched vreg got its location or was left without one, the last one first. Another one defines no watched
-    /// vreg, and one that it reads is used later too.
+    /// The instructions at which a watched vreg got its location or was left without one, the last instruction first. All other instructions
+    /// define no watched vreg, and none is the last use of a watched vreg.
     pub changed: Vec<u32, A>,
 }
 
@@ -65,14 +65,14 @@ impl<A: Allocator> Found<A> {
     }
 }
 
-/// An instruction, and where the places of its operands begin in the list of those of all instructions.
+/// An instruction, and the index at which the places of its operands begin in the list of all operands' places.
 #[derive(Clone, Copy)]
 struct InstAt {
     inst: Inst,
     start: usize,
 }
 
-/// Whether an instruction is its block's last. No move may follow it.
+/// Whether `inst` is its block's last instruction. No move may follow it.
 fn ends_block<F: Function>(f: &F, inst: Inst) -> bool
     requires { inst < length (F.function f.now).insts }
     ensures { result ≡ ends_block (inst_at (F.function f.now) inst) }
@@ -83,7 +83,7 @@ fn ends_block<F: Function>(f: &F, inst: Inst) -> bool
 impl<'a, A: Allocator> State<'a, A> {
     /// Allocates an instruction of a block. A branch passes its arguments.
     ///
-    /// Returns whether its operands pass their tests. An operand that has `Limit` requires any register, as under `Reg`.
+    /// Returns whether its operands pass their tests. An operand under `Limit` requires any register, as under `Reg`.
     fn alloc_inst_in_block<F: Function, B: Allocator, C: Allocator>(
         &mut self,
         alloc: &B,
@@ -171,8 +171,8 @@ impl<'a, A: Allocator> State<'a, A> {
         Ok(())
     }
 
-    /// The beginning of a block: its reloads, and before them in the listing, the stores of what
-    /// the branch into it defines.
+    /// Adds the reloads at the beginning of `block`, and before them in the listing the stores of the
+    /// definitions of the branch into it.
     fn begin_block<F: Function, B: Allocator, C: Allocator>(
         &mut self,
         alloc: &B,
@@ -189,7 +189,7 @@ impl<'a, A: Allocator> State<'a, A> {
         self.store_branch_defs(alloc, f, cx.defs, block)
     }
 
-    /// Allocates all instructions, from the last block to the first. Returns what is found out of the function.
+    /// Allocates all instructions, from the last block to the first. Returns what the walk finds out of the function.
     pub fn alloc_blocks<F: Function, B: Allocator + Copy>(
         &mut self,
         alloc: B,

@@ -38,17 +38,17 @@ either true x y f g e = f refl e
 either false x y f g e = g e
 
 -- no other write has the number 1
-marked_alone : (f : FunctionValue) (t : Stamp) (reads : List Way → List (Option Stamp)) (ws : List Way) (s : Stamp) → IsOne (marked f t reads ws s) → s ≡ t
+no_other_marked : (f : FunctionValue) (t : Stamp) (reads : List Way → List (Option Stamp)) (ws : List Way) (s : Stamp) → IsOne (marked f t reads ws s) → s ≡ t
 unfolding numbers
-marked_alone f t reads [] s e = absurd cc
-marked_alone f t reads (w ∷ ws) s e =
+no_other_marked f t reads [] s e = absurd cc
+no_other_marked f t reads (w ∷ ws) s e =
     either (nat_eq s.step (length ws)) (cond (nat_eq (length ws) t.step && nat_eq s.operand t.operand) 1 0) (marked f t reads ws s)
     (λ here one.
     let both = marks (nat_eq (length ws) t.step) (nat_eq s.operand t.operand) one in
     stamps s.step t.step s.operand t.operand (eqb-true s.step (length ws) here ∙ eqb-true (length ws) t.step both.0) (eqb-true s.operand t.operand both.1))
-    (λ one. marked_alone f t reads ws s one) e
+    (λ one. no_other_marked f t reads ws s one) e
 
--- and that write has it, once its step is past
+-- the marked write has the number 1 once its step is past
 marked_here : (f : FunctionValue) (t : Stamp) (reads : List Way → List (Option Stamp)) (ws : List Way) → t.step < length ws → IsOne (marked f t reads ws t)
 unfolding numbers
 marked_here f t reads [] lt = absurd (omega arith)
@@ -87,13 +87,13 @@ heads : (x y : List (Option ℕ)) (xs ys : List (List (Option ℕ))) → x ∷ x
 heads x y xs ys e = cc
 
 -- what is read where the write's number is 1 is that write
-found_alone : (a b : Stamp → ℕ) (x y : Option Stamp) (t : Stamp) → y ≡ Some t → IsOne (b t) → ((s : Stamp) → IsOne (a s) → s ≡ t) →
+same_read : (a b : Stamp → ℕ) (x y : Option Stamp) (t : Stamp) → y ≡ Some t → IsOne (b t) → ((s : Stamp) → IsOne (a s) → s ≡ t) →
     option_map a x ≡ option_map b y → x ≡ y
-found_alone a b None y t e one alone h = let u = rw e at h in absurd cc
-found_alone a b (Some s) y t e one alone h =
+same_read a b None y t e one only h = let u = rw e at h in absurd cc
+same_read a b (Some s) y t e one only h =
     let u = rw e at h in
     let v : a s ≡ b t = cc in
-    let w : s ≡ t = alone s (v ∙ one) in
+    let w : s ≡ t = only s (v ∙ one) in
     rw (e, w) refl
 
 some_of : (x : Option Stamp) (t : Stamp) → x ≡ Some t → IsSome x
@@ -115,7 +115,7 @@ agree f out same (w ∷ ws) p k d lt reads t e less =
     let z : k + 0 ≡ k = omega arith in
     let here : option_map a (allocated_read f out (w ∷ ws) k (slice_index_or os k d)) ≡ option_map b (source_read f (w ∷ ws) (slice_index_or os k d)) =
     rw z at (at_operand (option_map a) (option_map b) (allocated_read f out (w ∷ ws)) (λ j o. source_read f (w ∷ ws) o) 0 os h k d lt reads) in
-    found_alone a b _ _ t e (marked_here f t (source_reads f) (w ∷ ws) less) (marked_alone f t (allocated_reads f out) (w ∷ ws)) here
+    same_read a b _ _ t e (marked_here f t (source_reads f) (w ∷ ws) less) (no_other_marked f t (allocated_reads f out) (w ∷ ws)) here
 
 -- reads agree if each use finds an earlier write and both runs read the same numbers, whatever the instructions compute
 pub numbers_give_reads : NumbersGiveReads

@@ -52,7 +52,7 @@ among_operands n i (o ∷ os) =
 abbrev pub insts_to : FunctionValue → ℕ → ℕ → ℕ
 insts_to f n i = sum_by (λ inst. count_by (defines_number n) inst.operands) (take i f.insts)
 
--- and of the first blocks' parameters
+-- how many parameters of the first b blocks have the number n
 abbrev pub params_to : FunctionValue → ℕ → ℕ → ℕ
 params_to f n b = sum_by (λ b. count_by (λ v. nat_eq v.number n) b.params) (take b f.blocks)
 

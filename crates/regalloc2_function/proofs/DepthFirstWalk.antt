@@ -122,7 +122,7 @@ unfoldable pub frames_work : ℕ → List Frame → ℕ
 frames_work top [] = 0
 frames_work top (f ∷ fs) = suc (top - f.next) + frames_work top fs
 
--- and what the blocks that it has not entered may add
+-- the work that the blocks without a mark may add
 unfoldable pub pending : ℕ → List Bool → ℕ
 pending top [] = 0
 pending top (true ∷ vs) = pending top vs
@@ -155,16 +155,16 @@ unfolding frames_work
 work_leave top b n fs = omega arith
 
 -- the marks of the blocks that were met
-abbrev pub Marks : List Bool → List ℕ → Type 0
-Marks vs seen = (k : ℕ) → k < length vs → get_or vs k false ≡ met seen k
+abbrev pub MarksMet : List Bool → List ℕ → Type 0
+MarksMet vs seen = (k : ℕ) → k < length vs → get_or vs k false ≡ met seen k
 
--- where no block is marked, the marks are those of a walk that has met none
-pub marks_none : (n : ℕ) → Marks (replicate n false) []
+-- where no block is marked, the marks are of a walk that has met no block
+pub marks_none : (n : ℕ) → MarksMet (replicate n false) []
 unfolding met
 marks_none n k less = get_or-replicate n k false false (simp length-replicate at less)
 
--- to mark a block is to add it to those that the walk has met
-pub marks_more : (vs : List Bool) (seen : List ℕ) (x : ℕ) → x < length vs → Marks vs seen → Marks (set vs x true) (x ∷ seen)
+-- to mark a block is to add it to the blocks that the walk has met
+pub marks_more : (vs : List Bool) (seen : List ℕ) (x : ℕ) → x < length vs → MarksMet vs seen → MarksMet (set vs x true) (x ∷ seen)
 unfolding met
 marks_more vs seen x in_range m k less =
     elim (cases_eq x k) [
@@ -172,7 +172,7 @@ marks_more vs seen x in_range m k less =
       | inr ne ↦ let other : k ≢ x = λ q. ne (sym q) in rw (get_or-set_other) (rw (ne_eqb x k ne) (m k (simp length-set at less)))
     ]
 
--- each entry of a walk's stack is of one of so many blocks
+-- each entry of a walk's stack is of one of `num` blocks
 abbrev pub Framed : ℕ → List Frame → Type 0
 Framed num fs = All (λ (f : Frame). f.block < num) fs
 
@@ -180,7 +180,7 @@ framed_front : (num : ℕ) (fs : List Frame) (f : Frame) → Framed num (fs ++ f
 framed_front num fs f h k d less =
     subst (λ (z : Frame). z.block < num) (get_or_append_left fs (f ∷ []) d k less) (h k d (simp length-append (omega arith)))
 
--- the entry on top of such a stack is of one of the blocks
+-- the entry on top of the stack is of one of `num` blocks
 pub framed_last : (num : ℕ) (fs : List Frame) (f : Frame) → Framed num (fs ++ f ∷ []) → f.block < num
 framed_last num fs f h =
     subst (λ (z : Frame). z.block < num) (get_or_push fs f f (length fs) refl) (h (length fs) f (simp length-append (omega arith)))
@@ -192,20 +192,20 @@ framed_more num fs f h less = All-append (λ (z : Frame). z.block < num) fs (f �
 reverse-push : (fs : List Frame) (f : Frame) → reverse (fs ++ f ∷ []) ≡ f ∷ reverse fs
 reverse-push fs f = reverse-append fs (f ∷ [])
 
--- Whatever order the rest of the walk leaves blocks in, the whole walk leaves those so far and then these.
+-- Whatever order the rest of the walk leaves blocks in, the whole walk leaves `out` and then that order.
 pub record Walked (succs : ℕ → List ℕ) (num entry : ℕ) (vs : List Bool) (fs : List Frame) (out : List ℕ) : Type 0 where
   pub long : length vs ≡ num
   pub framed : Framed num fs
   pub seen : List ℕ
-  pub marks : Marks vs seen
+  pub marks : MarksMet vs seen
   pub goes : (rest : List ℕ) → Finish succs seen (reverse fs) rest → Leaves succs [] (entry ∷ []) (out ++ rest)
 
--- a block on the stack is one of so many
+-- a block on the stack is one of `num` blocks
 pub walked_frame : {succs : ℕ → List ℕ} {num entry : ℕ} {vs : List Bool} {before : List Frame} {out : List ℕ} (popped : List Frame) (f : Frame) →
     Walked succs num entry vs before out → before ≡ popped ++ f ∷ [] → f.block < num
 walked_frame {num = num} popped f w top = framed_last num popped f (subst (Framed num) top w.framed)
 
--- and how much is still to do at most
+-- an upper bound of what is still to do
 abbrev pub work : List Bool → List Frame → ℕ
 work vs fs = pending most vs + frames_work most (reverse fs)
 
@@ -227,7 +227,7 @@ pub record StandsAt (succs : ℕ → List ℕ) (num entry : ℕ) (vs : List Bool
   pub is : xs ≡ succs f.block
   pub w : Walked succs num entry vs before out
 
--- x is the next of these successors, and one of so many blocks
+-- x is the next of the successors `xs`, and one of `num` blocks
 pub record IsNext (num : ℕ) (xs : List ℕ) (f : Frame) (x : ℕ) : Type 0 where
   pub less : f.next < length xs
   pub at : get_or xs f.next 0 ≡ x

@@ -1,4 +1,4 @@
--- A walk leaves each block once, and just those that can be reached.
+-- A walk leaves each block that can be reached, once, and no other.
 use Rattle.std.proofs.Common.{ℕ, ◌≡◌, Bool, true, false, List, [], ◌∷◌, ◌++◌, ◌⊎◌, inl, inr, refl, sym, ◌∙◌, subst, eq-eqb}
 use Rattle.std.specs.Prelude.{nat_eq}
 use Rattle.std.proofs.lemmas.Bool.{cases_Bool, false_from_ne_true, or_cases}
@@ -62,7 +62,7 @@ covered succs {seen = seen} (enter {b = b} {bs = bs} {inner = inner} {rest = res
       | inr k ↦ sym (same_mix inner rest seen b x) ∙ covered succs r x k
     ]
 
--- and so is each successor of a block that is left
+-- each successor of a block that is left is left or met before
 closed : (succs : ℕ → List ℕ) {seen bs order : List ℕ} → Leaves succs seen bs order → (x s : ℕ) → met order x ≡ true → met (succs x) s ≡ true →
     met (order ++ seen) s ≡ true
 closed succs done x s h k = absurd (met-none x h)
@@ -130,7 +130,7 @@ complete : (succs : ℕ → List ℕ) (entry : ℕ) (order : List ℕ) → Leave
 complete succs entry order l x here = no_more order x (covered succs l x (met-here x []))
 complete succs entry order l x (onward {b = b} s r k) = no_more order s (closed succs l b s (complete succs entry order l b r) k)
 
--- the blocks that are left are those that the entry reaches
+-- a walk leaves exactly the blocks that the entry reaches
 pub leaves_reached : (succs : ℕ → List ℕ) (entry : ℕ) (order : List ℕ) → Leaves succs [] (entry ∷ []) order → (x : ℕ) →
     (met order x ≡ true → Reaches succs entry x) × (Reaches succs entry x → met order x ≡ true)
 leaves_reached succs entry order l x = (

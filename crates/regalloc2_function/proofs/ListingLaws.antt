@@ -111,7 +111,7 @@ listing_is o first n k sorted l below above =
     rw at.1 (above k d (omega arith) at.0)) in
     left_is o first (drop k o.edits) first n (before first) (omega arith) (λ w. omega arith) (omega arith) rest ∙ sym (skip_all o k o.edits first n l below)
 
--- the same over edits as they are stored
+-- edits as they are stored have the points of the edits that contracts see
 
 at_map : (items : List (ℕ × Edit)) (j : ℕ) (d : ℕ × Edit) → (get_or (map edit_of items) j (edit_of d)).0 ≡ (get_or items j d).0
 at_map [] j d = refl
@@ -155,7 +155,7 @@ moves_within : (first end : ℕ) (ms : List MoveValue) → All (λ m. IsListedWi
 moves_within first end [] = All-nil _
 moves_within first end (m ∷ ms) = All-cons (λ x. IsListedWithin first end (ListedMove x)) m ms tt (moves_within first end ms)
 
--- a listing of so many instructions from i on has no others
+-- a listing of n instructions from i on has no other instructions
 pub listed_within : (o : OutputValue) (first end begin i n : ℕ) → first ≤ i → i + n ≤ end → All (IsListedWithin first end) (listing_from o begin i n)
 unfolding listing_from
 listed_within o first end begin i zero f e = All-nil _

@@ -134,7 +134,7 @@ listed_defines f d v i m is usable =
           ])
     ]
 
--- and the other way round
+-- each definition that the function has is listed
 pub defined_listed : (f : FunctionValue) → BlocksFollow f → 0 < length f.blocks → (v : VirtualRegister) (i : ℕ) → IsDefinedBy f v i → (d : DefinitionSite)
     × Contains (definitions_in f) d × (d.vreg ≡ v) × (d.usable ≤ i)
 defined_listed f follow some v i before =

@@ -54,7 +54,7 @@ pub flat_more : {X Y : Type 0} (h : X → List Y) (xs : List X) (i : ℕ) (x : X
 flat_more h xs i x less is = ap (flat_map h) (one_more xs i x less is) ∙ flat_map-append h (take i xs) (x ∷ [])
     ∙ ap (λ l. flat_map h (take i xs) ++ l) (append-nil (h x))
 
--- the same over numbers in turn
+-- numbers in turn are the first i numbers, and the numbers after them
 numbers_append : (n i k : ℕ) → numbers_from n (i + k) ≡ numbers_from n i ++ numbers_from (n + i) k
 numbers_append n zero k = let e : 0 + k ≡ k = omega arith in let o : n + 0 ≡ n = omega arith in rw (e, o) refl
 numbers_append n (suc i) k =

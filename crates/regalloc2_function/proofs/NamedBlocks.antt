@@ -15,7 +15,7 @@ use Rattle.regalloc2_function.proofs.ListsInParts.{first_of_part, numbers_more, 
 pub entry_is_block : (succs : ℕ → List ℕ) (num entry : ℕ) → AreBlocks succs num entry → entry < num
 entry_is_block succs num entry h = h 0 0 (omega arith)
 
--- those of a function
+-- the entry and the successors of a function are blocks of the function
 pub function_blocks : (f : FunctionValue) → SuccessorsAreBlocks f → AreBlocks (succs_in f) (length f.blocks) f.entry
 function_blocks f h = All-cons (λ s. s < length f.blocks) f.entry (flat_map (succs_in f) (numbers_from 0 (length f.blocks))) h.0
     (all_members (λ s. s < length f.blocks) (flat_map (succs_in f) (numbers_from 0 (length f.blocks))) (λ s m.
@@ -38,7 +38,7 @@ succ_in_range succs num entry b k x xs h less is short read =
 abbrev pub named_to : (ℕ → List ℕ) → ℕ → ℕ → List ℕ
 named_to succs b entry = entry ∷ flat_map succs (numbers_from 0 b)
 
--- what holds of the entry and of the successors of blocks below b, and of b's own, holds of all those up to b
+-- what holds of the entry and of the successors of blocks below b, and of b's own, holds of all up to b
 pub named_more : (P : ℕ → Type 0) (succs : ℕ → List ℕ) (entry b : ℕ) (xs : List ℕ) → xs ≡ succs b → All P (named_to succs b entry) → All P xs →
     All P (named_to succs (b + 1) entry)
 named_more P succs entry b xs is so_far here =

@@ -13,7 +13,7 @@ pub notes_append : {a b c : Table} {xs ys : List DefinitionSite} → NotesDefini
 notes_append {xs = xs} m none = rw append-nil m
 notes_append {xs = xs} m (more {ds = ds} d n room free) = rw (← append_assoc xs ds (d ∷ [])) (more d (notes_append m n) room free)
 
--- the first definition of a part whose number is taken is the first of the whole list, once those before the part are noted
+-- the first definition of a part whose number is taken is the first of the whole list, once the definitions before the part are noted
 pub taken_in_part : {a b : Table} (whole xs ys zs : List DefinitionSite) (d : DefinitionSite) → whole ≡ (xs ++ ys) ++ zs → NotesDefinitions a xs b →
     IsFirstNumberTaken b ys d →
     IsFirstNumberTaken a whole d
@@ -27,7 +27,7 @@ taken_in_part whole xs ys zs d e before h = record {
   taken = h.taken;
 }
 
--- an error that names a part's first definition with a taken number names the whole list's, once those before the part are noted
+-- an error that names a part's first definition with a taken number names the whole list's, once the definitions before the part are noted
 pub names_in_part : {a b : Table} (whole xs ys zs : List DefinitionSite) (e : RegAllocError) → whole ≡ (xs ++ ys) ++ zs → NotesDefinitions a xs b →
     NamesTaken b ys e →
     NamesTaken a whole e
@@ -37,7 +37,7 @@ names_in_part whole xs ys zs e is before h = (h.0, h.1, taken_in_part whole xs y
 pub taken_now : {a : Table} (d : DefinitionSite) → IsNumberTaken a d.vreg → IsFirstNumberTaken a (d ∷ []) d
 taken_now {a = a} d h = record { earlier = []; later = []; marks = a; is = refl; noted = none; taken = h }
 
--- an error that names a part's first use that isn't usable names the whole list's, if those before the part are usable
+-- an error that names a part's first use that isn't usable names the whole list's, if the uses before the part are usable
 pub unusable_in_part : (t : Table) (whole xs ys zs : List UseSite) (e : RegAllocError) → whole ≡ (xs ++ ys) ++ zs → All (IsUsable t) xs → NamesUnusable t ys e →
     NamesUnusable t whole e
 unusable_in_part t whole xs ys zs e is before h = (h.0, h.1, first_of_part (IsUsable t) whole xs ys zs h.0 is before h.2)

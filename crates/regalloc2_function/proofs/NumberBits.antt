@@ -58,7 +58,7 @@ bits_lowest w some fits =
     bits_at 64 0 w _ (trailing_zeros w64 w) (omega arith) t.0 t.1 (bit_at_clear_same w64 w _ t.0) t.2
     (λ i h d. bit_at_clear_other w64 w _ t.0 i h d)
 
--- they rise
+-- numbers that rise from a bound rise from a lower bound
 rises-lower : (l low : ℕ) (xs : List ℕ) → l ≤ low → RisesFrom low xs → RisesFrom l xs
 unfolding RisesFrom
 rises-lower l low [] le h = tt
@@ -169,7 +169,7 @@ unfolding word_of
 word_of-append [] fs k = omega arith
 word_of-append (e ∷ es) fs k = omega (arith, word_of-append es fs k)
 
--- the members of two lists of words are those of the first, then those of the second
+-- the members of two lists of words are the members of the first, then the members of the second
 pub numbers_of-append : (es fs : List (ℕ × ℕ)) → numbers_of_set (es ++ fs) ≡ numbers_of_set es ++ numbers_of_set fs
 unfolding numbers_of_set
 numbers_of-append [] fs = refl

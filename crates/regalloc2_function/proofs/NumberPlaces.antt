@@ -135,7 +135,7 @@ KeysApart-add es key w p apart place at = KeysApart-append key w es apart (place
 length_take_min : (ws : List (ℕ × ℕ)) (n : ℕ) → n ≤ length ws → length (take n ws) ≡ n
 length_take_min ws n h = omega (arith, length-take n ws)
 
--- the same where the words are at the front of a longer list
+-- the word of `key` is written in a list of words, whose keys stay apart
 pub record IsWritten (old new : List (ℕ × ℕ)) (key w : ℕ) : Type 0 where
   pub apart : KeysApart new
   pub words : (k : ℕ) → word_of new k ≡ cond (nat_eq k key) w (word_of old k)

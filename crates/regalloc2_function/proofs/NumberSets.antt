@@ -67,13 +67,13 @@ word_first few many whole k w e once at ne = rw (word_of-whole few many whole e 
 pub word_second : (few many whole : List (ℕ × ℕ)) (k v w : ℕ) → few ++ many ≡ whole → v ≡ word_of few k → v ≡ 0 → w ≡ word_of many k → w ≡ word_of whole k
 word_second few many whole k v w e at z other = rw (word_of-whole few many whole e k) (omega arith)
 
--- a word is written among those of a set
+-- a word is written among the words of a set
 pub whole_written : (few many whole few' many' : List (ℕ × ℕ)) (key w : ℕ) → few ++ many ≡ whole
     → ((k : ℕ) → word_of few' k + word_of many' k ≡ cond (nat_eq k key) w (word_of few k + word_of many k))
     → (k : ℕ) → word_of (few' ++ many') k ≡ cond (nat_eq k key) w (word_of whole k)
 whole_written few many whole few' many' key w e h k = rw (word_of-append few' many' k, h k, word_of-whole few many whole e k) refl
 
--- the same words give the same members
+-- equal words give equal members
 pub has_same : (s t : List (ℕ × ℕ)) → ((k : ℕ) → word_of s k ≡ word_of t k) → (i : ℕ) → has_number s i ≡ has_number t i
 unfolding has_number
 has_same s t h i = rw (h (i / 64)) refl

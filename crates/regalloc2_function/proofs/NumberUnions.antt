@@ -13,7 +13,7 @@ use Rattle.std.proofs.Common.{append_assoc}
 use Rattle.std.proofs.lemmas.List.{append-nil}
 use Rattle.regalloc2_function.proofs.NumberBits.{word_times, times_in-append, bits_of-zero}
 
--- a bit is set in some word of a list and one word more if it is in some word of the list or in that one
+-- a bit is set in some word of a list and one word more if it is in some word of the list or in the word more
 pub some_more : (ys : List (ℕ × ℕ)) (e : ℕ × ℕ) (i : ℕ) → in_some_word (ys ++ e ∷ []) i ≡ in_some_word ys i || has_bit e i
 unfolding in_some_word
 some_more [] e i = or_false (has_bit e i)

@@ -20,11 +20,11 @@ use Rattle.regalloc2_function.proofs.TimesInList.{times-take}
 abbrev pub met_part : FunctionValue → ℕ → ℕ → ℕ → List ℕ
 met_part f b i n = ways_of_first f b n ++ replicate (times_in n (take i (block_at f b).succs)) b
 
--- so many of the items of a list are these, its first
+-- `ws` are the first items of a list, and their count
 abbrev pub AreFirst : List ℕ → ℕ → List ℕ → Type 0
 AreFirst ws c xs = (c ≡ length ws) × (xs ≡ ws ++ drop c xs)
 
--- those were met
+-- the predecessors met so far are the first of each block's list
 abbrev pub MetInPart : FunctionValue → ℕ → ℕ → List ℕ → Type 0
 MetInPart f b i counts = EachBlock f (λ n block. AreFirst (met_part f b i n) (get_or counts n 0) block.preds)
 

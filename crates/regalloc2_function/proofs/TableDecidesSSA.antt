@@ -39,7 +39,7 @@ among_some (d ∷ ds) m h =
           (r.0, Contains-append_right (d ∷ []) ds r.0 r.1, r.2))
     ]
 
--- and below a bound with room for all that the function defines, if they are the first of its definitions
+-- single definitions are below a bound with room for all that the function defines, if they are the first of its definitions
 narrower : (f : FunctionValue) (n : ℕ) (xs ys : List DefinitionSite) → HasRoom f n → definitions_in f ≡ xs ++ ys → AreSingle f.num_vregs xs → AreSingle n xs
 narrower f n xs ys room is h m = (
   (h m).0,
@@ -73,7 +73,7 @@ module _ (f : FunctionValue) (follow : BlocksFollow f) (some : 0 < length f.bloc
   pub usable_uses : NotesDefinitions (replicate n None) (definitions_in f) t → All (IsUsable t) (uses_in f) → UsesAreDefined f
   usable_uses noted all = listed_uses f (All-weaker (IsUsable t) (λ u. IsDefinedBy f u.vreg u.point) (usable_defined (notes_keep n noted)) (uses_in f) all)
 
-  -- an error that names the first use that such a table doesn't allow is right: that use is the first not defined before
+  -- an error that names the first use that the table doesn't allow is right: the use is the first not defined before
   pub unusable_fault : n ≤ f.num_vregs → NotesDefinitions (replicate n None) (definitions_in f) t → (e : RegAllocError) → NamesUnusable t (uses_in f) e →
       IsDefinitionFault f e
   unusable_fault few noted e h =

@@ -64,7 +64,7 @@ room_above f m n r least le params operands v point (inr o) less =
     let same = ap (λ (w : VirtualRegister). w.number) o.6 in
     least v.number (omega (arith, low, same)) less
 
--- and one that a definition reaches is short
+-- a length that a definition reaches is short
 pub short_above : (f : FunctionValue) (m n r : ℕ) → r ≤ n → ReachedInBlocks f m → ReachedInInsts f m n → IsShort f r
 short_above f m n r le (inl zero) (inl low) = inl (omega (arith, le, zero, low))
 short_above f m n r le (inr p) (inl low) =

@@ -48,7 +48,7 @@ all_used xs ys left sums used b =
       | inr h ↦ All-contains (λ z. get_or left z 0 ≡ 0) xs b used h
     ]
 
--- and the other way round
+-- lists with equal counts use one another up
 pub used_up : (xs ys left : List ℕ) → ((b : ℕ) → get_or left b 0 + times_in b ys ≡ times_in b xs) → ((b : ℕ) → times_in b ys ≡ times_in b xs) →
     All (λ b. get_or left b 0 ≡ 0) xs
 used_up xs ys left sums same k d less = let s = sums (get_or xs k d) in let e = same (get_or xs k d) in omega (arith, s, e)

@@ -11,7 +11,7 @@ once_written other old new key w once none h k = elim (eqb_tells k key) [
   | inr apart ↦ rw (h k, apart.0) (once k)
 ]
 
--- and both together have the word that was written
+-- both lists together have the word that was written
 pub sum_written : (other old new : ℕ → ℕ) (key w : ℕ) → other key ≡ 0 → ((k : ℕ) → new k ≡ cond (nat_eq k key) w (old k)) → (k : ℕ) →
     other k + new k ≡ cond (nat_eq k key) w (other k + old k)
 sum_written other old new key w none h k = elim (eqb_tells k key) [
@@ -19,7 +19,7 @@ sum_written other old new key w none h k = elim (eqb_tells k key) [
   | inr apart ↦ rw (h k, apart.0) refl
 ]
 
--- the same, where the word is written to the first list
+-- both lists together have the word that was written to the first
 pub written_once : (old new other : ℕ → ℕ) (key w : ℕ) → ((k : ℕ) → (old k ≡ 0) ⊎ (other k ≡ 0)) → other key ≡ 0
     → ((k : ℕ) → new k ≡ cond (nat_eq k key) w (old k)) → (k : ℕ) → (new k ≡ 0) ⊎ (other k ≡ 0)
 written_once old new other key w once none h k = elim (eqb_tells k key) [

@@ -48,11 +48,11 @@ after_clobbers clobbers c (InSlot n) = c (InSlot n)
 abbrev pub moves_at : FunctionValue → OutputValue → Location → List MoveValue
 moves_at f o l = moves_before o (block_at f l.block).range.first l.inst
 
--- the cells that the early uses of an instruction read, from those before its moves
+-- the cells that the early uses of an instruction read, from the cells before its moves
 abbrev pub cells_early : FunctionValue → OutputValue → Location → Cells → Cells
 cells_early f o l c = after_early_defs (allocs_of o l.inst) 0 (inst_at f l.inst).operands (after_moves (moves_at f o l) c)
 
--- the cells that its late uses read, from those that its early uses read
+-- the cells that the late uses of an instruction read, from the cells that its early uses read
 abbrev pub cells_late : FunctionValue → OutputValue → Location → ℕ → Cells → Cells
 cells_late f o l step c = after_clobbers (inst_at f l.inst).clobbers (after_writes (allocs_of o l.inst) step 0 (inst_at f l.inst).operands c)
 

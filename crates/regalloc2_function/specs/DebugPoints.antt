@@ -1,5 +1,5 @@
 -- From where to where a vreg's value can be shown, and the debug locations that an output has to give.
--- The points are those of upstream's `vreg_to_live_inst_range`.
+-- The points are as in upstream's `vreg_to_live_inst_range`.
 -- `run` guarantees `AreDebugLocations`, with valid places (`IsProperPlace`) of the labels' vregs that hold their values (`ShowsLabels`).
 use Rattle.std.specs.Prelude.{ℕ, ◌≡◌, ◌+◌, ◌/◌, ◌<◌, ◌≤◌, ◌⊎◌, true, List, [], ◌∷◌, Contains, length, IsPermutation, slice_index_or}
 use Rattle.std.specs.Ordering.{nat_cmp}
@@ -58,7 +58,7 @@ pub data AreLocationsOf (f : FunctionValue) (Asked : Label → DebugLocation →
   left_out : {ls : List Label} {ds : List DebugLocation} (l : Label) → ((start end : ℕ) → IsKept f l start end → ⊥) → AreLocationsOf f Asked ls ds →
       AreLocationsOf f Asked (l ∷ ls) ds
 
--- the debug locations of an output are those of the function's labels, by rising label, and as listed where labels are equal
+-- the debug locations of an output are the locations of the function's labels, by rising label, and as listed where labels are equal
 pub record AreDebugLocations (f : FunctionValue) (Asked : Label → DebugLocation → Type 0) (out : OutputValue) : Type 0 where
   pub listed : List DebugLocation
   pub kept : AreLocationsOf f Asked f.labels listed

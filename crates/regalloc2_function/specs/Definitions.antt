@@ -46,7 +46,7 @@ NamesTaken before ds e = (d : DefinitionSite) × (e ≡ SSA d.vreg d.inst) × Is
 abbrev pub IsDefinedInTable : Table → VirtualRegister → ℕ → Type 0
 IsDefinedInTable t v point = (e : Definition) × (entry_of t v.number ≡ Some e) × (e.class ≡ v.class) × (e.usable ≤ point)
 
--- and so what is used
+-- by the table, the used vreg is defined where it is used
 abbrev pub IsUsable : Table → UseSite → Type 0
 IsUsable t u = IsDefinedInTable t u.vreg u.point
 

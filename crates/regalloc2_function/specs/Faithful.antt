@@ -1,5 +1,5 @@
 -- A faithful output: on every path each use reads what the function's own run reads.
--- Constraints are those of upstream's `OperandConstraint`. Its checker tests that reads agree; here the agreement is defined along paths.
+-- Constraints are as in upstream's `OperandConstraint`. Its checker tests that reads agree; here the agreement is defined along paths.
 use Rattle.std.specs.Prelude.{ℕ, ◌≡◌, ◌<◌, ◌≤◌, true, List, All, length, slice_index_or, IsSome}
 use Rattle.regalloc2_names.specs.declared.OperandConstraint.{OperandConstraint}
 use Rattle.regalloc2_names.specs.declared.OperandConstraint.TheVariants.{Any, Reg, Stack, FixedReg, Reuse, Limit}
@@ -24,7 +24,7 @@ IsNumberedBelow NoPlace n = ⊥
 IsNumberedBelow (InRegister r) n = r.number < n
 IsNumberedBelow (InSlot m) n = ⊥
 
--- the place of an operand meets its constraint; places are those of the instruction's operands, of which there are so many
+-- the place of an operand meets its constraint; `places` are the places of the instruction's `count` operands
 abbrev pub Meets : MachineValue → ℕ → List Place → OperandConstraint → Place → Type 0
 Meets env count places Any p = p ≡ NoPlace → ⊥
 Meets env count places Reg p = IsPlainRegister env p

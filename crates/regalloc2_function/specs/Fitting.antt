@@ -102,7 +102,7 @@ count_below p (suc n) = (if p n then 1 else 0) + count_below p n
 abbrev pub register_number : RegClass → ℕ → Register
 register_number class n = record { number = n; class = class }
 
--- the registers of a class that an instruction needs: one for each operand that may be in any, and those that are fixed or clobbered
+-- the registers of a class that an instruction needs: one for each operand that may be in any, and each that is fixed or clobbered
 unfoldable pub need_of : MachineValue → RegClass → InstValue → ℕ
 need_of env class i =
     count_by (λ o. is_under_reg o.constraint && nat_eq (class_code o.vreg.class) (class_code class)) i.operands

@@ -61,7 +61,7 @@ pub record FunctionValue : Type 0 where
 abbrev pub no_block : BlockValue
 no_block = record { range = record { first = 0; end = 0 }; succs = []; preds = []; params = []; arguments = [] }
 
--- the block of that number
+-- the block of a number
 abbrev pub block_at : FunctionValue → ℕ → BlockValue
 block_at f b = slice_index_or f.blocks b no_block
 
@@ -69,7 +69,7 @@ block_at f b = slice_index_or f.blocks b no_block
 abbrev pub no_inst : InstValue
 no_inst = record { operands = []; clobbers = record { bits = 0 ∷ 0 ∷ 0 ∷ [] }; is_branch = false; is_ret = false }
 
--- the instruction of that number
+-- the instruction of a number
 abbrev pub inst_at : FunctionValue → ℕ → InstValue
 inst_at f i = slice_index_or f.insts i no_inst
 

@@ -31,7 +31,7 @@ FaithfulGivesNumbers = (f : FunctionValue) (env : MachineValue) (out : OutputVal
 abbrev pub ReadsGiveNumbers : Type 0
 ReadsGiveNumbers = (f : FunctionValue) (out : OutputValue) → ((ws : List Way) → IsPath f ws → ReadsAgree f out ws) → SameNumbers f out
 
--- and the converse: if each use finds a write of an earlier step, and both runs read the same numbers, whatever the instructions compute, reads agree
+-- the converse: if each use finds a write of an earlier step, and both runs read the same numbers, whatever the instructions compute, reads agree
 abbrev pub NumbersGiveReads : Type 0
 NumbersGiveReads = (f : FunctionValue) (out : OutputValue) → ((ws : List Way) → IsPath f ws → UsesFindEarlier f ws) → SameNumbers f out → (ws : List Way) →
     IsPath f ws → ReadsAgree f out ws

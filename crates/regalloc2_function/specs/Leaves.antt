@@ -7,8 +7,8 @@ unfoldable pub met : List ℕ → ℕ → Bool
 met [] b = false
 met (x ∷ xs) b = nat_eq x b || met xs b
 
--- A walk that has met the blocks `seen` goes to those of a list in turn, and leaves blocks in an order: it passes by those that it has met,
--- and enters the others, goes to their successors as listed, and then leaves them.
+-- A walk that has met the blocks `seen` goes to the blocks of a list in turn, and leaves blocks in an order: it passes by each block that it
+-- has met, and enters each other block, goes to its successors as listed, and then leaves it.
 pub data Leaves (succs : ℕ → List ℕ) : List ℕ → List ℕ → List ℕ → Type 0 where
   done : {seen : List ℕ} → Leaves succs seen [] []
   again : {seen : List ℕ} {b : ℕ} {bs order : List ℕ} → met seen b ≡ true → Leaves succs seen bs order → Leaves succs seen (b ∷ bs) order

@@ -26,6 +26,7 @@ pub mod Stored
 pub mod FaultText
 pub mod Misfit
 pub mod MisfitText
+pub mod RoleText
 pub mod SingleUnits
 pub mod Definitions
 pub mod TableLength

@@ -1,5 +1,5 @@
 -- A block's listing: its instructions, each after the moves that run before it.
--- The order is that of upstream's `OutputIter`.
+-- The order is as in upstream's `OutputIter`.
 use Rattle.std.specs.Prelude.{ℕ, zero, suc, ◌+◌, ◌-◌, ◌<◌, ◌≤◌, nat_le, if◌then◌else◌, List, [], ◌∷◌, ◌++◌, map}
 use Rattle.regalloc2_names.specs.Point.{before}
 use Rattle.regalloc2_function.specs.FunctionValue.{FunctionValue, block_at}
@@ -10,7 +10,7 @@ pub data Listed : Type 0 where
   ListedInst : ℕ → Listed
   ListedMove : MoveValue → Listed
 
--- the listing of so many instructions of a block from one on; the block begins at first
+-- the listing of `n` instructions of a block from the instruction `i` on; the block begins at `first`
 unfoldable pub listing_from : OutputValue → ℕ → ℕ → ℕ → List Listed
 listing_from o first i zero = []
 listing_from o first i (suc n) = map (λ m. ListedMove m) (moves_before o first i) ++ (ListedInst i ∷ listing_from o first (i + 1) n)
@@ -24,7 +24,7 @@ abbrev pub IsListedWithin : ℕ → ℕ → Listed → Type 0
 IsListedWithin first end (ListedInst i) = (first ≤ i) × (i < end)
 IsListedWithin first end (ListedMove m) = Unit {0}
 
--- what is left of a listing where these edits and so many instructions from one on are left
+-- what is left of a listing where `edits` and `n` instructions from `i` on are left
 unfoldable pub listing_left : List (ℕ × MoveValue) → ℕ → ℕ → List Listed
 listing_left [] i zero = []
 listing_left [] i (suc n) = ListedInst i ∷ listing_left [] (i + 1) n

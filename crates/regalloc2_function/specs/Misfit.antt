@@ -30,7 +30,7 @@ AreOfClass env class = (r : Register) → is_allocatable env class r ≡ true �
 abbrev pub AreListedOnce : MachineValue → RegClass → Type 0
 AreListedOnce env class = (r : Register) → is_preferred env class r ≡ true → is_non_preferred env class r ≡ false
 
--- all conditions on them
+-- all conditions on the registers that are listed for a class
 pub record AreRegistersSound (env : MachineValue) (class : RegClass) : Type 0 where
   pub of_class : AreOfClass env class
   pub listed_once : AreListedOnce env class
@@ -59,7 +59,7 @@ abbrev pub IsFirstTaken : MachineValue → RegClass → Register → Type 0
 IsFirstTaken env class r =
     (k : ℕ) × (k < length env.fixed_stack_slots) × (slice_index_or env.fixed_stack_slots k r ≡ r) × All (IsSlotApart env class) (take k env.fixed_stack_slots)
 
--- the condition that a misfit names fails, and those that are tested before it hold
+-- the condition that a misfit names fails, and the conditions that are tested before it hold
 abbrev pub IsMisfit : FunctionValue → MachineValue → MachineMisfit → Type 0
 IsMisfit f env InvalidSlot = Contains env.fixed_stack_slots invalid_register
 IsMisfit f env (OtherClass class r) = FitsBefore f env class × (is_allocatable env class r ≡ true) × (r.class ≢ class)

@@ -15,7 +15,7 @@ word_of (e ∷ es) k = cond (nat_eq k e.0) e.1 0 + word_of es k
 unfoldable pub has_number : NumberSet → ℕ → Bool
 has_number s i = nat_eq (bit_at (word_of s (i / 64)) (i % 64)) 1
 
--- the numbers of a word's bits that are set, from one on, of so many
+-- the numbers of a word's bits that are set, among `n` bits from the bit `k` on
 unfoldable pub bits_from : ℕ → ℕ → ℕ → List ℕ
 bits_from k zero w = []
 bits_from k (suc n) w = cond (nat_eq (bit_at w k) 1) (k ∷ bits_from (k + 1) n w) (bits_from (k + 1) n w)

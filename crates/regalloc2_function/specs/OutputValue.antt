@@ -19,7 +19,7 @@ pub record DebugLocation : Type 0 where
   pub end : ℕ
   pub place : Place
 
--- the output: moves by their points, the places of all operands, and where those of each instruction begin
+-- the output: moves by their points, the places of all operands, and where the places of each instruction begin
 pub record OutputValue : Type 0 where
   pub num_spillslots : ℕ
   pub edits : List (ℕ × MoveValue)

@@ -1,5 +1,5 @@
 -- Paths through a function.
--- Blocks and successors are those of upstream's trait `Function`; paths are this project's own.
+-- Blocks and successors are as in upstream's trait `Function`; paths are this project's own.
 use Rattle.std.specs.Prelude.{ℕ, ◌≡◌, ◌+◌, ◌<◌, List, [], ◌∷◌, length, slice_index}
 use Rattle.regalloc2_function.specs.FunctionValue.{FunctionValue, block_at, inst_at, InstValue}
 
@@ -27,7 +27,7 @@ abbrev pub end_of : FunctionValue → List Way → Location
 end_of f [] = first_of f f.entry
 end_of f (w ∷ ws) = next_of f (end_of f ws) w
 
--- the function has that edge or fall-through
+-- the function has the edge or fall-through
 abbrev pub HasWay : FunctionValue → Location → Way → Type 0
 HasWay f l Onward = l.inst + 1 < (block_at f l.block).range.end
 HasWay f l (ToSuccessor k) = (l.inst + 1 ≡ (block_at f l.block).range.end) × (k < length (block_at f l.block).succs)

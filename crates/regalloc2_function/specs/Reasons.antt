@@ -4,7 +4,7 @@ use Rattle.std.specs.Prelude.{slice_index_or, Option, None, Some, if◌then◌el
 use Rattle.regalloc2_index.specs.Range.{numbers_from, numbers_of}
 use Rattle.regalloc2_names.specs.Register.{VirtualRegister}
 use Rattle.regalloc2_names.specs.Operand.{OperandValue, is_def, is_reading}
-use Rattle.regalloc2_names.specs.Point.{before, after}
+use Rattle.regalloc2_names.specs.Point.{before, after, invalid_inst}
 use Rattle.regalloc2_names.specs.declared.RegAllocError.{RegAllocError}
 use Rattle.regalloc2_names.specs.declared.RegAllocError.TheVariants.{BB, Branch, CritEdge, DisallowedBranchArg, EntryLivein, Memory, SSA}
 use Rattle.regalloc2_function.specs.FunctionValue.{FunctionValue, BlockValue, block_at, inst_at}
@@ -13,7 +13,7 @@ use Rattle.regalloc2_function.specs.WellFormed.{IsDefinedBy, IsFirstToFail, NoCr
 use Rattle.regalloc2_function.specs.WellFormed.{SuccessorsAreBlocks, UsesAreDefined, last_of, ArgumentsFitAt, NoOperandsAt, NotCriticalAt}
 use Rattle.regalloc2_function.specs.WellFormed.{PredecessorsAt}
 
--- the first of a list that fails: those before it pass
+-- the first of a list that fails: all before it pass
 pub record IsFirstIn {X : Type 0} (P : X → Type 0) (xs : List X) (x : X) : Type 0 where
   pub earlier : List X
   pub later : List X
@@ -23,7 +23,7 @@ pub record IsFirstIn {X : Type 0} (P : X → Type 0) (xs : List X) (x : X) : Typ
 
 -- the number that names no instruction
 abbrev pub no_instruction : ℕ
-no_instruction = 4294967295
+no_instruction = invalid_inst
 
 -- a definition of a vreg: the instruction that makes it, none for a parameter, and the point from which on it may be used
 pub record DefinitionSite : Type 0 where
@@ -43,7 +43,7 @@ operand_definition i o = if is_def o.kind then Some (record { vreg = o.vreg; ins
 abbrev pub inst_definitions : FunctionValue → ℕ → List DefinitionSite
 inst_definitions f i = filter_map (operand_definition i) (inst_at f i).operands
 
--- a block's definitions: its parameters, then those of its instructions
+-- a block's definitions: its parameters, then the definitions of its instructions
 abbrev pub block_definitions : FunctionValue → BlockValue → List DefinitionSite
 block_definitions f b = map (param_definition b.range.first) b.params ++ flat_map (inst_definitions f) (numbers_of b.range)
 
@@ -51,7 +51,7 @@ block_definitions f b = map (param_definition b.range.first) b.params ++ flat_ma
 abbrev pub definitions_in : FunctionValue → List DefinitionSite
 definitions_in f = flat_map (block_definitions f) f.blocks
 
--- how many of these define a vreg of that number
+-- how many of the definitions are of a vreg of a number
 abbrev pub definitions_among : List DefinitionSite → ℕ → ℕ
 definitions_among ds n = count_by (λ d. nat_eq d.vreg.number n) ds
 
@@ -146,7 +146,7 @@ pub record IsSound (f : FunctionValue) : Type 0 where
   pub defined_once : DefinedOnce f
   pub uses_defined : UsesAreDefined f
 
--- and why they reject a function: the first of them that fails, and where it fails first
+-- why the tests of soundness reject a function: the first test that fails, and where it fails first
 pub data IsSoundnessFault (f : FunctionValue) : RegAllocError → Type 0 where
   elsewhere : f.entry ≢ 0 → IsSoundnessFault f (BB f.entry)
   livein : f.entry ≡ 0 → (block_at f 0).params ≢ [] → IsSoundnessFault f EntryLivein

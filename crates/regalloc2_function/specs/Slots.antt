@@ -9,7 +9,7 @@ use Rattle.regalloc2_function.specs.FunctionValue.{FunctionValue, inst_at, slot_
 use Rattle.regalloc2_function.specs.OutputValue.{OutputValue, allocs_of, place_at}
 use Rattle.regalloc2_function.specs.WellFormed.{EachOperand}
 
--- whose values a slot holds: a vreg's, or those that a branch's moves of arguments save, the first or a later time for a class
+-- whose values a slot holds: a vreg's, or the values that a branch's moves of arguments save, the first or a later time for a class
 pub data Owner : Type 0 where
   OfVReg : VirtualRegister → Owner
   OfBranch : (branch : ℕ) (class : RegClass) (time : ℕ) → Owner
@@ -23,7 +23,7 @@ abbrev pub IsSlotOf : OutputValue → ℕ → Type 0
 IsSlotOf out n = SomeIn (λ p. p ≡ InSlot n) out.allocs ⊎ SomeIn (λ e. (e.1.from ≡ InSlot n) ⊎ (e.1.to ≡ InSlot n)) out.edits
     ⊎ SomeIn (λ d. d.place ≡ InSlot n) out.debug_locations
 
--- how many units an owner's slot takes, and the first of them if the slot has that name
+-- how many units an owner's slot takes, and the first of them if the slot has the number n
 abbrev pub units_of_owner : FunctionValue → Owner → ℕ
 units_of_owner f owner = slot_size f.slot_sizes (class_of_owner owner)
 

@@ -47,7 +47,7 @@ unfoldable pub source_before : FunctionValue → List Way → Source
 source_before f [] = λ v. None
 source_before f (w ∷ ws) = over_edge f (end_of f ws) w (after_defs (length ws) 0 (last_inst f ws).operands (source_before f ws))
 
--- and after its definitions
+-- the vregs after the definitions of the last instruction of a path
 abbrev pub source_after : FunctionValue → List Way → Source
 source_after f ws = after_defs (length ws) 0 (last_inst f ws).operands (source_before f ws)
 

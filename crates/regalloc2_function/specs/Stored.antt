@@ -10,7 +10,7 @@ use Rattle.regalloc2_function.specs.declared.serialize.StoredOutput.{StoredOutpu
 abbrev pub NamesMove : (ℕ × ℕ × ℕ) → Type 0
 NamesMove e = IsPointNumber e.0 × IsPlaceBits e.1 × IsPlaceBits e.2
 
--- those of a debug location, a label first, name two points and a place
+-- the numbers of a debug location, a label first, name two points and a place
 abbrev pub NamesLocation : (ℕ × ℕ × ℕ × ℕ) → Type 0
 NamesLocation d = IsPointNumber d.1 × IsPointNumber d.2 × IsPlaceBits d.3
 

@@ -5,11 +5,11 @@ use Rattle.regalloc2_names.specs.Operand.{OperandValue, is_def}
 use Rattle.regalloc2_function.specs.FunctionValue.{FunctionValue}
 use Rattle.regalloc2_function.specs.WellFormed.{IsDefinedBy}
 
--- a table of so many entries has one for each number that the function defines, of those below its count
+-- a table of `n` entries has one for each number that the function defines below its count
 abbrev pub HasRoom : FunctionValue → ℕ → Type 0
 HasRoom f n = (v : VirtualRegister) (point : ℕ) → IsDefinedBy f v point → v.number < f.num_vregs → v.number < n
 
--- and it has no more than some four for each instruction, or than some number that is defined needs
+-- a table of `n` entries has at most some four for each instruction, or at most as many as some defined number needs
 abbrev pub IsShort : FunctionValue → ℕ → Type 0
 IsShort f n = (n ≤ 4 * length f.insts + 3) ⊎ ((v : VirtualRegister) × (point : ℕ) × IsDefinedBy f v point × (n ≤ v.number + 1))
 
@@ -21,6 +21,6 @@ IsBelow n o = is_def o.kind ≡ true → o.vreg.number < n
 abbrev pub ReachedByParam : List VirtualRegister → ℕ → Type 0
 ReachedByParam ps n = (v : VirtualRegister) × Contains ps v × (n ≤ v.number + 1)
 
--- and so does some number that operands define
+-- some number that operands define reaches the length
 abbrev pub ReachedByDef : List OperandValue → ℕ → Type 0
 ReachedByDef os n = (o : OperandValue) × Contains os o × (is_def o.kind ≡ true) × (n ≤ o.vreg.number + 1)

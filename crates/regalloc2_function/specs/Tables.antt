@@ -28,7 +28,7 @@ pub record AreCFGTables {A : Type 0} (f : FunctionValue) (t : CFGInfo A) : Type 
   pub block_entry : t.block_entry.items ≡ map entry_point f.blocks
   pub block_exit : t.block_exit.items ≡ map exit_point f.blocks
 
--- and of a function that passes the tests of blocks and edges
+-- the tables of a function that passes the tests of blocks and edges
 pub record IsInfoOf {A : Type 0} (f : FunctionValue) (t : CFGInfo A) : Type 0 where
   pub shape : HasShape f
   pub tables : AreCFGTables f t

@@ -31,7 +31,7 @@ pub record Numbers : Type 0 where
   pub history : List (List (Option ℕ))
   pub written : Stamp → ℕ
 
--- those of a path whose steps read the given writes
+-- the numbers of a path whose steps read the given writes
 unfoldable pub numbers : FunctionValue → Meaning → (List Way → List (Option Stamp)) → List Way → Numbers
 numbers f meaning reads [] = record { history = map (option_map (λ s. 0)) (reads []) ∷ []; written = λ s. 0 }
 numbers f meaning reads (w ∷ ws) =

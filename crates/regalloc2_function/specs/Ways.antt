@@ -5,11 +5,11 @@ use Rattle.regalloc2_index.specs.Range.{numbers_from}
 use Rattle.regalloc2_function.specs.FunctionValue.{FunctionValue, block_at}
 use Rattle.regalloc2_function.specs.WellFormed.{EachBlock, times_in}
 
--- the list of that number; none past the end
+-- the list of a number; none past the end
 abbrev pub listed_of : {A : Type 0} → List (Vec ℕ A) → ℕ → List ℕ
 listed_of ways n = slice_index_or (map (λ w. w.items) ways) n []
 
--- those of the first b blocks that go on to block n, in their order, once for each position
+-- the blocks, of the first b, that go on to block n, in their order, once for each position
 abbrev pub ways_of_first : FunctionValue → ℕ → ℕ → List ℕ
 ways_of_first f b n = flat_map (λ p. replicate (times_in n (block_at f p).succs) p) (numbers_from 0 b)
 

@@ -1,5 +1,5 @@
 -- The preconditions on a function, in the order in which they are tested.
--- The tests are those of upstream's `CFGInfo::init` and `validate_ssa`, and what its allocators take for granted.
+-- The tests are as in upstream's `CFGInfo::init` and `validate_ssa`, and what its allocators take for granted.
 use Rattle.std.specs.Prelude.{ℕ, ◌≡◌, ◌+◌, ◌-◌, ◌<◌, ◌≤◌, ◌⊎◌, Bool, true, false, ◌&&◌, nat_eq, if◌then◌else◌, List, [], ◌∷◌, All, Contains, count_by}
 use Rattle.std.specs.Prelude.{length, map, slice_index, slice_index_or}
 use Rattle.regalloc2_names.specs.declared.OperandConstraint.{OperandConstraint}
@@ -65,7 +65,7 @@ NotCriticalAt f n b = 1 < ways_into f n → All (λ p. length (block_at f p).suc
 abbrev pub NoCriticalEdge : FunctionValue → Type 0
 NoCriticalEdge f = EachBlock f (NotCriticalAt f)
 
--- a block's branch into such a block has no operands
+-- a block's branch into a block with several incoming edges has no operands
 abbrev pub NoOperandsAt : FunctionValue → ℕ → BlockValue → Type 0
 NoOperandsAt f n b = All (λ s. 1 < ways_into f s → (inst_at f (last_of b)).operands ≡ []) b.succs
 
@@ -76,7 +76,7 @@ NoOperandsIntoJoins f = EachBlock f (NoOperandsAt f)
 abbrev pub EntryIsFirst : FunctionValue → Type 0
 EntryIsFirst f = (f.entry ≡ 0) × ((block_at f 0).params ≡ [])
 
--- an instruction that may end a block with so many successors
+-- an instruction that may end a block with `succs` successors
 abbrev pub EndsBlock : InstValue → ℕ → Type 0
 EndsBlock i succs = (i.is_branch ≡ true × i.is_ret ≡ false) ⊎ (i.is_branch ≡ false × i.is_ret ≡ true × succs ≡ 0)
 
@@ -95,7 +95,7 @@ CountedAt f n b = (k : ℕ) → k < length b.succs → length (slice_index_or b.
 abbrev pub ArgumentsCounted : FunctionValue → Type 0
 ArgumentsCounted f = EachBlock f (CountedAt f)
 
--- and of the same classes
+-- the arguments for each successor are of the classes of its parameters
 abbrev pub ArgumentsFitAt : FunctionValue → ℕ → BlockValue → Type 0
 ArgumentsFitAt f n b = (k : ℕ) → k < length b.succs → map (λ v. v.class) (slice_index_or b.arguments k []) ≡ map (λ v. v.class)
     (block_at f (slice_index b.succs k)).params

@@ -165,7 +165,7 @@ fn compare_ways<A: Allocator + Copy, F: Function>(
     Ok(())
 }
 
-// Whether each block that this one lists has it as its next predecessor, and counts those as met.
+// Whether each successor of `block` has it as its next predecessor. Counts it as met there.
 fn meets_in_order<F: Function>(counts: &mut [usize], f: &F, block: Block) -> bool
     requires block { block < length (F.function f.now).blocks }
     requires blocks { SuccessorsAreBlocks (F.function f.now) }
@@ -185,7 +185,7 @@ fn meets_in_order<F: Function>(counts: &mut [usize], f: &F, block: Block) -> boo
     true
 }
 
-// Whether of each block's predecessors as many were met as it lists.
+// Whether `counts` has, for each block, as many met predecessors as the block lists.
 fn are_all_met<F: Function>(counts: &[usize], f: &F) -> bool
     requires { length counts.now ≡ length (F.function f.now).blocks }
     ensures { IsTrue result ↔ EachBlock (F.function f.now) (λ n b. slice_index counts.now n ≡ length b.preds) }
@@ -212,7 +212,7 @@ fn pass_in_order<F: Function>(counts: &mut [usize], f: &F) -> bool
     are_all_met(counts, f)
 }
 
-// The same, with newly allocated counts.
+// Whether each block's predecessors are listed in the order of blocks and their successors.
 fn are_in_order<A: Allocator + Copy, F: Function>(alloc: A, f: &F) -> Result<bool, AllocError>
     requires { SuccessorsAreBlocks (F.function f.now) }
     ensures { IfOk result (λ yes. IsTrue yes ↔ ListedInOrder (F.function f.now)) }

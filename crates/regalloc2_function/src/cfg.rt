@@ -145,7 +145,7 @@ impl<A: Allocator + Copy> CFGInfo<A> {
     /// the four tables without entries.
     ///
     /// Linear in the function's blocks, edges and instructions. The tables' lists keep their own
-    /// allocators; other memory is allocated from that of `ctx`. Upstream tests ranges and
+    /// allocators; other memory is allocated from the allocator of `ctx`. Upstream tests ranges and
     /// predecessors nowhere, and the rest block by block.
     pub fn init<F: Function>(&mut self, f: &F, ctx: &mut CFGInfoCtx<A>) -> Result<(), RegAllocError>
         ensures ok { OnOk result (IsInfoOf (F.function f.now) self.new) }

@@ -72,8 +72,7 @@ pub fn test_blocks<F: Function>(f: &F) -> Result<(), RegAllocError>
     Ok(())
 }
 
-/// Whether an instruction may end a block with so many successors: a branch, or a return without
-/// any.
+/// Whether `inst` may end a block with `succs` successors: a branch, or a return if there are none.
 fn ends_block<F: Function>(f: &F, inst: Inst, succs: usize) -> bool
     requires { inst < length (F.function f.now).insts }
     ensures { IsTrue result ↔ EndsBlock (inst_at (F.function f.now) inst) succs }

@@ -83,7 +83,7 @@ impl Few {
         }
     }
 
-    /// The same words.
+    /// A copy of the words.
     fn copy(&self) -> Self
         ensures { result ≡ self.now }
     {
@@ -434,7 +434,7 @@ impl<A: Allocator + Copy> IndexSet<A> {
         Ok(())
     }
 
-    /// Replaces the set's members by those of `other`.
+    /// Replaces the set's members by the members of `other`.
     ///
     /// If memory runs out, the set is unchanged. It never does if `other`'s words are inline.
     pub fn assign(&mut self, other: &Self) -> Result<(), AllocError>

@@ -66,7 +66,7 @@ pub enum InstOrEdit<'a> {
 
 /// A block's listing, in order. Before its first instruction are the edits at the point before that
 /// instruction; before each later instruction, the edits at the point after the previous
-/// instruction and then those at the point before its own. The listing ends with the block's last
+/// instruction and then the edits at the point before its own. The listing ends with the block's last
 /// instruction.
 #[derive(Clone, Debug, Drop)]
 pub struct OutputIter<'a> {

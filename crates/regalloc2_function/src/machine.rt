@@ -215,15 +215,15 @@ fn insts_name<F: Function>(f: &F, class: RegClass) -> bool
     false
 }
 
-/// Whether one of these vregs is of a class.
+/// Whether one of `vregs` is of `class`.
 fn vregs_name(vregs: &[VReg], class: RegClass) -> bool
     ensures { IsTrue result ↔ Any (λ v. v.class ≡ class) vregs.now }
 {
     vregs.iter().any(|vreg| is_class(vreg.class(), class))
 }
 
-/// Whether a block's arguments name a vreg of a class. Those of a block that is empty or not within
-/// the instructions don't count, because nothing determines them.
+/// Whether the arguments of `block` name a vreg of `class`. The arguments of a block that is empty
+/// or not within the instructions don't count, because nothing determines them.
 fn arguments_name<F: Function>(f: &F, block: Block, class: RegClass) -> bool
     requires { block < length (F.function f.now).blocks }
     ensures { IsTrue result ↔ NamesByArgument (F.function f.now) block class }
@@ -284,7 +284,7 @@ fn test_class<F: Function, A: Allocator>(
 /// Tests that a machine fits a function, as an allocation requires, and returns the first condition
 /// that fails.
 ///
-/// Each class's registers, its scratch register too, are of that class; preferred, non-preferred
+/// Each class's registers, its scratch register too, are of the class; preferred, non-preferred
 /// and scratch registers and fixed stack slots are apart, and none is `PReg::invalid()`; and each
 /// class of which an operand, a parameter or an argument names a vreg has a register to allocate.
 /// The same slot may be listed twice among the fixed stack slots. Arguments of a block that is

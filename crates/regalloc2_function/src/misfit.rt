@@ -1,7 +1,9 @@
 //! Why a machine doesn't fit a function.
 
 ghost use Rattle.std.specs.Prelude.{◌≡◌};
+ghost use Rattle.std.specs.Fmt.{WritesOnOk};
 ghost use Rattle.regalloc2_names.specs.Text.{class_name};
+ghost use Rattle.regalloc2_function.specs.RoleText.{scratch_text, slot_text};
 
 use regalloc2_names::{PReg, RegClass};
 use std::error::Error;
@@ -44,6 +46,35 @@ fn class_name(class: RegClass) -> &'static str
     }
 }
 
+/// Writes what is wrong with the scratch register `reg` of `class`.
+fn write_scratch<W: fmt::Write>(
+    f: &mut fmt::Formatter<W>,
+    class: RegClass,
+    reg: PReg,
+    fault: &'static str,
+) -> fmt::Result
+    ensures { WritesOnOk W.write_str_gives f.old result (scratch_text class reg fault.now) f.new }
+{
+    let class = class_name(class);
+    write!(
+        f,
+        "{reg}, the scratch register of the class {class}, {fault}"
+    )
+}
+
+/// Writes which other role for `class` the fixed stack slot `reg` has.
+fn write_slot<W: fmt::Write>(
+    f: &mut fmt::Formatter<W>,
+    class: RegClass,
+    reg: PReg,
+    role: &'static str,
+) -> fmt::Result
+    ensures { WritesOnOk W.write_str_gives f.old result (slot_text class reg role.now) f.new }
+{
+    let class = class_name(class);
+    write!(f, "{reg}, a fixed stack slot, is {role} the class {class}")
+}
+
 /// As `p3f is listed for the class Int, and is of another class`.
 impl fmt::Display for MachineMisfit {
     ghost use Rattle.std.specs.Prelude.{Some};
@@ -54,69 +85,42 @@ impl fmt::Display for MachineMisfit {
     fn fmt<W: fmt::Write>(&self, f: &mut fmt::Formatter<W>) -> fmt::Result {
         match *self {
             Self::InvalidSlot => write!(f, "a fixed stack slot is the invalid register"),
-            Self::OtherClass(class, reg) => {
-                let class = class_name(class);
-                write!(
-                    f,
-                    "{reg} is listed for the class {class}, and is of another class"
-                )
-            }
-            Self::ListedTwice(class, reg) => {
-                let class = class_name(class);
-                write!(
-                    f,
-                    "{reg} is listed for the class {class} as preferred and as non-preferred"
-                )
-            }
+            Self::OtherClass(class, reg) => write!(
+                f,
+                "{reg} is listed for the class {}, and is of another class",
+                class_name(class)
+            ),
+            Self::ListedTwice(class, reg) => write!(
+                f,
+                "{reg} is listed for the class {} as preferred and as non-preferred",
+                class_name(class)
+            ),
             Self::InvalidRegister(class) => {
-                write!(
-                    f,
-                    "the invalid register is listed for the class {}",
-                    class_name(class)
-                )
+                let class = class_name(class);
+                write!(f, "the invalid register is listed for the class {class}")
             }
             Self::ScratchOfOtherClass(class, reg) => {
-                let class = class_name(class);
-                write!(
-                    f,
-                    "{reg}, the scratch register of the class {class}, is of another class"
-                )
+                write_scratch(f, class, reg, "is of another class")
             }
             Self::ScratchAllocatable(class, reg) => {
-                let class = class_name(class);
-                write!(
-                    f,
-                    "{reg}, the scratch register of the class {class}, is listed to be allocated"
-                )
+                write_scratch(f, class, reg, "is listed to be allocated")
             }
-            Self::InvalidScratch(class) => {
-                let class = class_name(class);
-                write!(
-                    f,
-                    "the scratch register of the class {class} is the invalid register"
-                )
-            }
+            Self::InvalidScratch(class) => write!(
+                f,
+                "the scratch register of the class {} is the invalid register",
+                class_name(class)
+            ),
             Self::SlotAllocatable(class, reg) => {
-                let class = class_name(class);
-                write!(
-                    f,
-                    "{reg}, a fixed stack slot, is listed to be allocated for the class {class}"
-                )
+                write_slot(f, class, reg, "listed to be allocated for")
             }
             Self::SlotIsScratch(class, reg) => {
-                let class = class_name(class);
-                write!(
-                    f,
-                    "{reg}, a fixed stack slot, is the scratch register of the class {class}"
-                )
+                write_slot(f, class, reg, "the scratch register of")
             }
-            Self::NoRegister(class) => {
-                let class = class_name(class);
-                write!(
-                    f,
-                    "the function has a virtual register of the class {class}, which has no register to allocate"
-                )
-            }
+            Self::NoRegister(class) => write!(
+                f,
+                "the function has a virtual register of the class {}, which has no register to allocate",
+                class_name(class)
+            ),
         }
     }
 }

@@ -1,6 +1,7 @@
 //! The order in which a depth-first walk leaves blocks.
 
 ghost use Rattle.std.specs.Prelude.{◌≡◌, ◌<◌, ◌≤◌, ◌↔◌, ◌⊎◌, ℕ, List, [], ◌∷◌, length, false, true, IfErr, OnErr, OnOk};
+ghost use Rattle.regalloc2_index.specs.Number.{number_limit};
 ghost use Rattle.regalloc2_function.specs.Reasons.{IsFirstIn};
 ghost use Rattle.regalloc2_function.specs.WellFormed.{SuccessorsAreBlocks};
 ghost use Rattle.regalloc2_function.specs.Leaves.{Leaves, ListsOnce, Reaches, met, succs_in};
@@ -27,13 +28,13 @@ fn succs_of<'a, F: Fn(Block) -> &'a [Block]>(succ_blocks: &F, block: Block) -> &
     succ_blocks(block)
 }
 
-// Tests that the entry and each successor is one of so many blocks.
+// Tests that `entry` and each successor is one of the `num_blocks` blocks.
 fn test_named<'a, F: Fn(Block) -> &'a [Block]>(
     num_blocks: usize,
     entry: Block,
     succ_blocks: &F,
 ) -> Result<(), RegAllocError>
-    requires few { num_blocks ≤ 4294967296 }
+    requires few { num_blocks ≤ number_limit }
     requires callable { (b : ℕ) → b < num_blocks → F.pre succ_blocks.now b }
     ensures ok { (succs : ℕ → List ℕ) → AreSuccessors (F.post succ_blocks.now) num_blocks succs → OnOk result (AreBlocks succs num_blocks entry) }
     ensures err { (succs : ℕ → List ℕ) → AreSuccessors (F.post succ_blocks.now) num_blocks succs →
@@ -111,7 +112,7 @@ pub fn calculate<'a, A: Allocator + Copy, F: Fn(Block) -> &'a [Block]>(
     out: &mut Vec<Block, A>,
     succ_blocks: F,
 ) -> Result<(), RegAllocError>
-    requires few { num_blocks ≤ 4294967296 }
+    requires few { num_blocks ≤ number_limit }
     requires callable { (b : ℕ) → b < num_blocks → F.pre succ_blocks b }
     requires same { (succs : ℕ → List ℕ) × AreSuccessors (F.post succ_blocks) num_blocks succs }
     ensures blocks { (succs : ℕ → List ℕ) → AreSuccessors (F.post succ_blocks) num_blocks succs → OnOk result (AreBlocks succs num_blocks entry) }

@@ -97,14 +97,14 @@ impl<A: Allocator> StoredOutput<A> {
     }
 }
 
-/// Whether a move's numbers are those of a point and two places.
+/// Whether the numbers of `edit` encode a point and two places.
 fn is_move(edit: (u32, u32, u32)) -> bool
     ensures { IsTrue result ↔ NamesMove edit }
 {
     ProgPoint::is_index(edit.0) && Allocation::is_bits(edit.1) && Allocation::is_bits(edit.2)
 }
 
-/// Whether a debug location's numbers are those of two points and a place.
+/// Whether the numbers of `location`, after its label, encode two points and a place.
 fn is_location(location: (u32, u32, u32, u32)) -> bool
     ensures { IsTrue result ↔ NamesLocation location }
 {
@@ -180,7 +180,7 @@ fn locations_from<A: Allocator>(
     Ok(locations)
 }
 
-/// The same numbers.
+/// A copy of `words`.
 fn numbers_from<A: Allocator>(alloc: A, words: &[u32]) -> Result<Vec<u32, A>, AllocError>
     ensures { IfOk result (λ numbers. numbers.items ≡ words.now) }
 {

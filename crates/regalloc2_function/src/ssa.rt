@@ -4,6 +4,7 @@ ghost use Rattle.std.specs.Prelude.{◌≡◌, ◌≢◌, ◌+◌, ◌<◌, ◌�
 ghost use Rattle.std.specs.Prelude.{IsTrue, None, OnOk, Some};
 ghost use Rattle.std.specs.Bool.{OnFalse, OnTrue};
 ghost use Rattle.regalloc2_index.specs.Range.{numbers_from, numbers_of};
+ghost use Rattle.regalloc2_names.specs.Point.{inst_limit};
 ghost use Rattle.regalloc2_function.specs.FunctionValue.{block_at};
 ghost use Rattle.regalloc2_function.specs.Reasons.{param_definition, operand_definition, inst_definitions, block_definitions, definitions_in};
 ghost use Rattle.regalloc2_function.specs.Reasons.{operand_read, inst_reads, argument_use, passed_at, block_uses, uses_in, IsDefinitionFault};
@@ -57,7 +58,7 @@ fn note_params(
     params: &[VReg],
     first: Inst,
 ) -> Result<(), RegAllocError>
-    requires { first < 1073741824 }
+    requires { first < inst_limit }
     ensures ok { OnOk result (NotesDefinitions defined.old (map (param_definition first) params.now) defined.new) }
     ensures err { IfErr result (NamesTaken defined.old (map (param_definition first) params.now)) }
 {
@@ -76,7 +77,7 @@ fn note_operands(
     operands: &[Operand],
     inst: Inst,
 ) -> Result<(), RegAllocError>
-    requires { inst < 1073741824 }
+    requires { inst < inst_limit }
     ensures ok { OnOk result (NotesDefinitions defined.old (filter_map (operand_definition inst) operands.now) defined.new) }
     ensures err { IfErr result (NamesTaken defined.old (filter_map (operand_definition inst) operands.now)) }
 {
@@ -156,7 +157,7 @@ fn test_operands(
     operands: &[Operand],
     inst: Inst,
 ) -> Result<(), RegAllocError>
-    requires { inst < 1073741824 }
+    requires { inst < inst_limit }
     ensures ok { OnOk result (All (IsUsable defined.now) (filter_map (operand_read inst) operands.now)) }
     ensures err { IfErr result (NamesUnusable defined.now (filter_map (operand_read inst) operands.now)) }
 {
@@ -175,7 +176,7 @@ fn test_arguments(
     arguments: &[VReg],
     inst: Inst,
 ) -> Result<(), RegAllocError>
-    requires { inst < 1073741824 }
+    requires { inst < inst_limit }
     ensures ok { OnOk result (All (IsUsable defined.now) (map (argument_use inst) arguments.now)) }
     ensures err { IfErr result (NamesUnusable defined.now (map (argument_use inst) arguments.now)) }
 {
@@ -280,8 +281,8 @@ fn test_over<F: Function>(defined: &mut [Option<Definition>], f: &F) -> Result<(
 ///
 /// The error is `SSA` with the first vreg that fails the first of the two tests that fails, and the
 /// instruction where it does: block by block, in each first its parameters, which are named with
-/// `Inst::invalid()`, then its instructions with their operands in order, and after those of the
-/// last the arguments by successor. It is `Memory` if the table of definitions, as long as
+/// `Inst::invalid()`, then its instructions with their operands in order, and after the operands of
+/// the last the arguments by successor. It is `Memory` if the table of definitions, as long as
 /// `table_length` says, could not be allocated.
 pub fn test_definitions<A: Allocator + Copy, F: Function>(
     alloc: A,

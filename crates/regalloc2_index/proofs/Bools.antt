@@ -2,7 +2,7 @@
 use Rattle.std.proofs.Common.{Bool, false, true, ◌≡◌, refl, sym, IsTrue}
 use Rattle.std.specs.Prelude.{◌&&◌, not}
 
--- no Boolean is both; `both_ways` of std has the two facts the other way round
+-- no Boolean is both true and false; `both_ways` of std has the two facts the other way round
 pub not_both : (b : Bool) → b ≡ true → b ≡ false → ⊥
 not_both b t f = cc
 
@@ -12,12 +12,12 @@ equal_tests true b f g = sym (f refl)
 equal_tests false true f g = g refl
 equal_tests false false f g = refl
 
--- anything follows from a Boolean that is both
+-- anything follows from a Boolean that is both true and false
 pub from_both : {P : Type 0} (b : Bool) → b ≡ true → b ≡ false → P
 from_both true h g = absurd cc
 from_both false h g = absurd cc
 
--- the same, with the conclusion given
+-- `from_both` with the conclusion as an argument
 pub from_both_at : (b : Bool) (P : Type 0) → b ≡ true → b ≡ false → P
 from_both_at b P a c = absurd cc
 

@@ -1,7 +1,7 @@
 -- Lemmas on numbers that std lacks.
 use Rattle.std.proofs.Common.{arith, ℕ, ◌+◌, ◌<◌, ◌≡◌, ◌⊎◌, eq-eqb, nat_eq, refl, true}
 
--- a number below the next of `n` is below `n` or is `n`
+-- a number below `m + 1` is below `m` or is `m`
 pub below_or_last : (k m : ℕ) → k < m + 1 → (k < m) ⊎ (k ≡ m)
 below_or_last k m lt = grind arith
 

@@ -1,6 +1,7 @@
 //! Numbers of blocks.
 
 ghost use Rattle.std.specs.Prelude.{◌≡◌, ◌≢◌, ℕ, ◌+◌, ◌-◌, ◌<◌, ◌↔◌, IsTrue};
+ghost use Rattle.regalloc2_index.specs.Number.{invalid_number, number_limit};
 
 use super::ContainerIndex;
 use std::marker::Model;
@@ -20,9 +21,9 @@ impl Model for Block {
 }
 
 impl Block {
-    /// The block with that number, which is below 2^32.
+    /// The block of the number `i`, which is below 2^32.
     pub fn new(i: usize) -> Self
-        requires { i < 4294967296 }
+        requires { i < number_limit }
         ensures { result ≡ i }
     {
         Block(i as u32)
@@ -37,34 +38,34 @@ impl Block {
 
     /// The block that stands for none: the greatest number.
     pub fn invalid() -> Self
-        ensures { result ≡ 4294967295 }
+        ensures { result ≡ invalid_number }
     {
         Block(u32::MAX)
     }
 
-    /// Whether it stands for none.
+    /// Whether the number is that of `Block::invalid()`.
     pub fn is_invalid(self) -> bool
-        ensures { IsTrue result ↔ (self ≡ 4294967295) }
+        ensures { IsTrue result ↔ (self ≡ invalid_number) }
     {
         self == Self::invalid()
     }
 
-    /// Whether it doesn't stand for none.
+    /// Whether the number is not that of `Block::invalid()`.
     pub fn is_valid(self) -> bool
-        ensures { IsTrue result ↔ (self ≢ 4294967295) }
+        ensures { IsTrue result ↔ (self ≢ invalid_number) }
     {
         self != Self::invalid()
     }
 
     /// The block after a valid one.
     pub fn next(self) -> Self
-        requires { self ≢ 4294967295 }
+        requires { self ≢ invalid_number }
         ensures { result ≡ self + 1 }
     {
         Block(self.0 + 1)
     }
 
-    /// The block before one that isn't the first.
+    /// The block before a block that isn't the first.
     pub fn prev(self) -> Self
         requires { 0 < self }
         ensures { result ≡ self - 1 }

@@ -1,6 +1,7 @@
 //! Numbers of instructions.
 
 ghost use Rattle.std.specs.Prelude.{◌≡◌, ◌≢◌, ℕ, ◌+◌, ◌-◌, ◌<◌, ◌↔◌, IsTrue};
+ghost use Rattle.regalloc2_index.specs.Number.{invalid_number, number_limit};
 
 use super::ContainerIndex;
 use std::marker::Model;
@@ -20,9 +21,9 @@ impl Model for Inst {
 }
 
 impl Inst {
-    /// The instruction with that number, which is below 2^32.
+    /// The instruction of the number `i`, which is below 2^32.
     pub fn new(i: usize) -> Self
-        requires { i < 4294967296 }
+        requires { i < number_limit }
         ensures { result ≡ i }
     {
         Inst(i as u32)
@@ -37,34 +38,34 @@ impl Inst {
 
     /// The instruction that stands for none: the greatest number.
     pub fn invalid() -> Self
-        ensures { result ≡ 4294967295 }
+        ensures { result ≡ invalid_number }
     {
         Inst(u32::MAX)
     }
 
-    /// Whether it stands for none.
+    /// Whether the number is that of `Inst::invalid()`.
     pub fn is_invalid(self) -> bool
-        ensures { IsTrue result ↔ (self ≡ 4294967295) }
+        ensures { IsTrue result ↔ (self ≡ invalid_number) }
     {
         self == Self::invalid()
     }
 
-    /// Whether it doesn't stand for none.
+    /// Whether the number is not that of `Inst::invalid()`.
     pub fn is_valid(self) -> bool
-        ensures { IsTrue result ↔ (self ≢ 4294967295) }
+        ensures { IsTrue result ↔ (self ≢ invalid_number) }
     {
         self != Self::invalid()
     }
 
     /// The instruction after a valid one.
     pub fn next(self) -> Self
-        requires { self ≢ 4294967295 }
+        requires { self ≢ invalid_number }
         ensures { result ≡ self + 1 }
     {
         Inst(self.0 + 1)
     }
 
-    /// The instruction before one that isn't the first.
+    /// The instruction before an instruction that isn't the first.
     pub fn prev(self) -> Self
         requires { 0 < self }
         ensures { result ≡ self - 1 }

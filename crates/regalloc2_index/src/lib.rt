@@ -1,7 +1,7 @@
 //! Numbers of instructions and blocks, and ranges of instructions.
 //!
-//! An `Inst` or a `Block` is a number, and a contract sees it as that. The greatest number of 32 bits is
-//! the invalid one, which stands for none.
+//! A contract sees an `Inst` or a `Block` as its number. The greatest number of 32 bits is invalid: it
+//! stands for no instruction and no block.
 #![tactic(auto)]
 
 mod blocks;

@@ -6,7 +6,7 @@ ghost use Rattle.regalloc2_index.specs.Range.{numbers_of};
 use super::{Inst, InstRangeIter};
 use std::marker::Model;
 
-/// The instructions from one on, up to but without another.
+/// The instructions from `from` on, up to but without `to`.
 #[derive(Clone, Copy, Debug, PartialEq, Eq)]
 pub struct InstRange {
     from: Inst,
@@ -52,7 +52,7 @@ impl InstRange {
         self.to.prev()
     }
 
-    /// The range without its first instruction, of one that isn't empty.
+    /// The range without its first instruction. The range isn't empty.
     pub fn rest(self) -> Self
         requires { self.first < self.end }
         ensures { result ≡ record { first = self.first + 1; end = self.end } }

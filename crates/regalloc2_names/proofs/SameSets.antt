@@ -1,6 +1,6 @@
 -- Sets with the same registers have the same words.
 use Rattle.std.proofs.Common.{ℕ, zero, suc, ◌≡◌, ◌<◌, ◌^◌, true, refl, sym, ap, ◌∙◌, arith, nat_eq, length}
-use Rattle.std.specs.Prelude.{List, [], ◌∷◌, slice_index, ◌↔◌, IsTrue}
+use Rattle.std.specs.Prelude.{slice_index, ◌↔◌, IsTrue}
 use Rattle.std.specs.Bool.{Decides}
 use Rattle.std.specs.Cmp.Lexicographic.{pointwise}
 use Rattle.std.proofs.lemmas.Bool.Decides.{Decides-eqb, same_from_decides}
@@ -23,14 +23,6 @@ bit_from_test (suc zero) zero hm hn h = absurd cc
 bit_from_test (suc zero) (suc zero) hm hn h = refl
 bit_from_test (suc (suc m)) n hm hn h = absurd (omega arith)
 bit_from_test m (suc (suc n)) hm hn h = absurd (omega arith)
-
--- three words, one by one
-pub spread : (ws : List ℕ) → length ws ≡ 3 → slice_index ws 0 ∷ slice_index ws 1 ∷ slice_index ws 2 ∷ [] ≡ ws
-spread [] h = absurd (omega arith)
-spread (a ∷ []) h = absurd (omega arith)
-spread (a ∷ (b ∷ [])) h = absurd (omega arith)
-spread (a ∷ (b ∷ (c ∷ []))) h = refl
-spread (a ∷ (b ∷ (c ∷ (d ∷ ws)))) h = absurd (omega arith)
 
 -- two sets with the same registers have the same words
 pub same_word : (s t : PRegSet) → ((i : ℕ) → slice_index s.bits i < 2 ^ 64) → ((i : ℕ) → slice_index t.bits i < 2 ^ 64) →

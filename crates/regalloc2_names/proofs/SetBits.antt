@@ -58,7 +58,7 @@ clears_sized w k j fits h (inr g) =
     let other : nat_eq k j ≡ false = grind (arith, nat_tests) in
     rw (bit_at_above w 64 j fits g, bit_at_above (bit_and w (18446744073709551615 - 1 * 2 ^ k % 18446744073709551616)) 64 j less g, other) refl
 
--- the same for any number, where the word has 64 bits
+-- clearing the bit k of a word of 64 bits leaves every other bit
 pub clears_any : (w k j : ℕ) → w < 18446744073709551616 → k < 64 → nat_eq (bit_at (bit_and w (18446744073709551615 - 1 * 2 ^ k % 18446744073709551616)) j)
     1 ≡ not (nat_eq k j) && nat_eq (bit_at w j) 1
 clears_any w k j fits h = clears_sized w k j fits h (cases_lt j 64)
@@ -169,7 +169,7 @@ words_up_int v t h Int n small =
 words_up_int v t h Float n small = let e : nat_lt (1 * 64 + n) (0 * 64 + t) ≡ false = grind (arith, nat_tests) in rw e refl
 words_up_int v t h Vector n small = let e : nat_lt (2 * 64 + n) (0 * 64 + t) ≡ false = grind (arith, nat_tests) in rw e refl
 
--- setting all Int bits and the Float bits below t adds exactly the registers whose index is below that of Float t
+-- setting all Int bits and the Float bits below t adds exactly the registers whose index is below the index of Float t
 pub words_up_float : (v : List ℕ) (t : ℕ) → t < 64 → (class : RegClass) (n : ℕ) → n < 64 →
     words_have (18446744073709551615 ∷ bit_or (slice_index v 1) (1 * 2 ^ t % 18446744073709551616 - 1) ∷ slice_index v 2 ∷ [])
     (record { number = n; class = class })
@@ -180,7 +180,7 @@ words_up_float v t h Float n small =
     rw e (low_bits (slice_index v 1) t n h)
 words_up_float v t h Vector n small = let e : nat_lt (2 * 64 + n) (1 * 64 + t) ≡ false = grind (arith, nat_tests) in rw e refl
 
--- setting all Int and Float bits and the Vector bits below t adds exactly the registers whose index is below that of Vector t
+-- setting all Int and Float bits and the Vector bits below t adds exactly the registers whose index is below the index of Vector t
 pub words_up_vector : (v : List ℕ) (t : ℕ) → t < 64 → (class : RegClass) (n : ℕ) → n < 64 →
     words_have (18446744073709551615 ∷ 18446744073709551615 ∷ bit_or (slice_index v 2) (1 * 2 ^ t % 18446744073709551616 - 1) ∷ [])
     (record { number = n; class = class })

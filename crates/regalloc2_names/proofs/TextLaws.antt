@@ -9,7 +9,7 @@ pub members_text-nil : members_text [] ≡ []
 unfolding members_text
 members_text-nil = refl
 
--- the text of registers with one more at the end is theirs, that register's, and a comma
+-- a register at the end of a list adds its text and a comma
 pub members_text-snoc : (rs : List Register) (r : Register) → members_text (rs ++ r ∷ []) ≡ members_text rs ++ (register_text r ++ codes ", ")
 unfolding members_text
 members_text-snoc [] r = simp append-nil refl

@@ -8,6 +8,7 @@ pub mod PlaceBits
 pub mod Point
 pub mod Operand
 pub mod Packing
+pub mod OperandUnion
 pub mod RegisterSet
 pub mod Same
 pub mod SameSet

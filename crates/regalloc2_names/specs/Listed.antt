@@ -13,7 +13,7 @@ use Rattle.regalloc2_names.specs.Register.{Register, class_code}
 use Rattle.regalloc2_names.specs.RegisterBits.{bits_of_register}
 use Rattle.regalloc2_names.specs.RegisterSet.{has_register, registers_of, registers_of_words, word_members}
 
--- each register of a list has a greater index than those before it
+-- each register of a list has a greater index than the registers before it
 abbrev pub IsRising : List Register → Type 0
 IsRising xs = (i j : ℕ) (d : Register) → i < j → j < length xs → bits_of_register (slice_index_or xs i d) < bits_of_register (slice_index_or xs j d)
 

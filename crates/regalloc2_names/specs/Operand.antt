@@ -28,12 +28,12 @@ fixed_register (Limit n) = None
 abbrev pub nonallocatable_register : OperandValue → Option Register
 nonallocatable_register o = if nat_eq o.vreg.number 1073741823 then fixed_register o.constraint else None
 
--- it is written, not read
+-- an operand of the kind is written, not read
 abbrev pub is_def : OperandKind → Bool
 is_def Def = true
 is_def Use = false
 
--- it is read or written at the end of its instruction
+-- an operand at the position is read or written at the end of its instruction
 abbrev pub is_late : OperandPos → Bool
 is_late Early = false
 is_late Late = true
@@ -45,7 +45,7 @@ is_position Early Late = false
 is_position Late Early = false
 is_position Late Late = true
 
--- it requires a fixed register
+-- the constraint requires a fixed register
 abbrev pub is_fixed : OperandConstraint → Bool
 is_fixed Any = false
 is_fixed Reg = false
@@ -53,6 +53,23 @@ is_fixed Stack = false
 is_fixed (FixedReg r) = true
 is_fixed (Reuse n) = false
 is_fixed (Limit n) = false
+
+-- the constraint requires a register whose number is below a bound
+abbrev pub is_limit : OperandConstraint → Bool
+is_limit Any = false
+is_limit Reg = false
+is_limit Stack = false
+is_limit (FixedReg r) = false
+is_limit (Reuse n) = false
+is_limit (Limit n) = true
+
+-- the operand requires a fixed register
+abbrev pub is_fixed_operand : OperandValue → Bool
+is_fixed_operand o = is_fixed o.constraint
+
+-- the operand has a limit
+abbrev pub is_limited_operand : OperandValue → Bool
+is_limited_operand o = is_limit o.constraint
 
 -- the operand has a fixed register, and the number that marks no vreg
 abbrev pub is_fixed_nonallocatable : OperandValue → Bool
@@ -62,6 +79,6 @@ is_fixed_nonallocatable o = is_fixed o.constraint && nat_eq o.vreg.number 107374
 abbrev pub is_reading : OperandValue → Bool
 is_reading o = not (is_def o.kind) && not (is_fixed_nonallocatable o)
 
--- and reads it at that position
+-- the operand reads its vreg at the position
 abbrev pub reads_at : OperandPos → OperandValue → Bool
 reads_at position o = is_reading o && is_position position o.position

@@ -134,7 +134,7 @@ IsConstraintOf class (FixedReg r) = (r.number < 64) × (r.class ≡ class)
 abbrev pub IsOperand : OperandValue → Type 0
 IsOperand o = (o.vreg.number < 1073741824) × IsConstraintOf o.vreg.class o.constraint
 
-limit_code-lt : (n : ℕ) → limit_code n < 7
+pub limit_code-lt : (n : ℕ) → limit_code n < 7
 limit_code-lt n = grind (arith, nat_tests)
 
 class_code-lt : (c : RegClass) → class_code c < 3

@@ -61,6 +61,10 @@ is_place (InRegister r) (InSlot n) = false
 is_place (InSlot m) NoPlace = false
 is_place (InSlot m) (InRegister s) = false
 
+-- spill slots' numbers are below
+abbrev pub slot_limit : ℕ
+slot_limit = 16777216
+
 -- the number of the invalid spill slot, and the numbers that a spill slot may have
 abbrev pub invalid_slot : ℕ
 invalid_slot = 4294967295

@@ -28,7 +28,7 @@ abbrev pub invalid_point : InstPosition → ℕ
 invalid_point Before = 4294967294
 invalid_point After = 4294967295
 
--- the numbers of points: those of instructions below 2^30, and those of the invalid instruction
+-- the numbers of points: below 2^31 the points of instructions, and the two points of the invalid instruction
 abbrev pub IsPointNumber : ℕ → Type 0
 IsPointNumber n = (n < 2147483648) ⊎ (n ≡ 4294967294) ⊎ (n ≡ 4294967295)
 
@@ -36,6 +36,6 @@ IsPointNumber n = (n < 2147483648) ⊎ (n ≡ 4294967294) ⊎ (n ≡ 4294967295)
 abbrev pub inst_of_point : ℕ → ℕ
 inst_of_point p = if nat_lt p 2147483648 then p / 2 else invalid_inst
 
--- its position there
+-- the position of a point, before or after its instruction
 abbrev pub position_of_point : ℕ → InstPosition
 position_of_point p = if nat_eq (p % 2) 0 then Before else After

@@ -37,7 +37,11 @@ is_vreg a b = nat_eq (class_code a.class) (class_code b.class) && nat_eq a.numbe
 abbrev pub IsRegister : Register → Type 0
 IsRegister r = r.number < 64
 
--- a vreg that has an encoding: 30 bits of number
+-- vregs' numbers are below: they have 30 bits
+abbrev pub vreg_limit : ℕ
+vreg_limit = 1073741824
+
+-- a vreg that has an encoding
 abbrev pub IsVirtualRegister : VirtualRegister → Type 0
 IsVirtualRegister v = v.number < 1073741824
 

@@ -24,7 +24,7 @@ bits_of_vreg v = v.number * 4 + class_code v.class
 abbrev pub IsVRegBits : ℕ → Type 0
 IsVRegBits b = b % 4 < 3
 
--- a code of a class is that of the class it decodes to
+-- encoding undoes decoding of a class's code
 pub class_code-class_of_code : (n : ℕ) → n < 3 → class_code (class_of_code n) ≡ n
 class_code-class_of_code zero h = refl
 class_code-class_of_code (suc zero) h = refl

@@ -17,6 +17,7 @@ mod points;
 mod registers;
 mod sets;
 mod texts;
+mod unions;
 mod virtual_registers;
 
 pub use operands::Operand;
@@ -25,6 +26,7 @@ pub use points::ProgPoint;
 pub use registers::PReg;
 pub use sets::{PRegSet, PRegSetIter};
 pub use texts::VRegText;
+pub use unions::OperandUnion;
 pub use virtual_registers::VReg;
 
 /// The class of a value and of the registers that may hold it. Classes have separate register
@@ -48,23 +50,23 @@ pub enum OperandConstraint {
     /// A place on the stack.
     Stack,
 
-    /// That register.
+    /// The named register.
     FixedReg(PReg),
 
-    /// The place of the operand with that index, which is a use of the same instruction.
+    /// The place of another operand of the instruction, a use, by its index.
     Reuse(usize),
 
-    /// A register whose hardware number is below that bound, a power of two.
+    /// A register whose hardware number is below the bound, a power of two.
     Limit(usize),
 }
 
 /// What an instruction does with an operand.
 #[derive(Clone, Copy, Debug, PartialEq, Eq)]
 pub enum OperandKind {
-    /// It writes the vreg.
+    /// Writes the vreg.
     Def = 0,
 
-    /// It reads the vreg.
+    /// Reads the vreg.
     Use = 1,
 }
 
@@ -102,7 +104,7 @@ pub enum RegAllocError {
     /// and the second several incoming edges (the function's start counts as one).
     CritEdge(Block, Block),
 
-    /// The vreg is defined twice or too late, or read before it is defined, at that instruction.
+    /// The vreg is defined twice or too late, or read before it is defined, at the instruction.
     SSA(VReg, Inst),
 
     /// The block is out of range, the entry but not block 0, or wrong in its range, its terminators

@@ -2,7 +2,7 @@
 
 ghost use Rattle.std.specs.Prelude.{None, Some, ◌≡◌, ℕ, ◌<◌, ◌↔◌, IsTrue};
 ghost use Rattle.regalloc2_names.specs.Operand.{is_def, is_late, is_position, is_reading, nonallocatable_register, reads_at};
-ghost use Rattle.regalloc2_names.specs.Packing.{IsConstraintOf, IsOperandBits, bits_of_operand, constraint_code, operand_of_bits};
+ghost use Rattle.regalloc2_names.specs.Packing.{IsConstraintCode, IsConstraintOf, IsOperandBits, bits_of_operand, constraint_code, operand_of_bits};
 
 use super::registers::CLASSES;
 use super::{OperandConstraint, OperandKind, OperandPos, PReg, RegClass, VReg};
@@ -11,8 +11,8 @@ use std::marker::Model;
 /// An operand of an instruction: the virtual register (vreg) that it reads or writes, when, and
 /// what it requires of its place.
 ///
-/// Packed into 64 bits: the number in bits 0 to 31, the class in 32 and 33, the position in 34, the
-/// kind in 35, and the constraint's code from 36 on.
+/// Packed into 64 bits: the vreg's number in the lower `VREG_BITS`, and above it the class, the
+/// position, the kind and the constraint's code, each from its own shift on.
 #[derive(Clone, Copy, PartialEq, Eq, PartialOrd, Ord, Hash)]
 pub struct Operand {
     bits: u64,
@@ -35,34 +35,91 @@ impl Model for Operand {
     ghost inverse_ok = { λ o h. ap (λ (b : ℕ). record { bits = b }) (bits_of_operand-operand_of_bits o.bits h) };
 }
 
-/// The code of a constraint.
+/// The codes of the constraints without a parameter.
+const ANY: u64 = 0;
+
+const REG: u64 = 1;
+
+const STACK: u64 = 2;
+
+/// The first code of a limit. The exponent of the limit, a power of two, is added.
+pub(crate) const LIMIT: u64 = 16;
+
+/// The first code of a reuse. The operand's index is added.
+const REUSE: u64 = 32;
+
+/// The first code of a fixed register. The register's number is added.
+pub(crate) const FIXED: u64 = 64;
+
+/// How many limits have a code: the powers of two up to 64.
+const LIMITS: u64 = 7;
+
+/// One more than the greatest code.
+const CODES: u64 = 128;
+
+/// Returns the code of `constraint`, which an operand of `class` may have.
 fn constraint_field(class: RegClass, constraint: OperandConstraint) -> u64
     requires { IsConstraintOf class constraint }
     ensures code { result ≡ constraint_code constraint }
     ensures small { result < 128 }
 {
     match constraint {
-        OperandConstraint::Any => 0,
-        OperandConstraint::Reg => 1,
-        OperandConstraint::Stack => 2,
-        OperandConstraint::FixedReg(preg) => 64 | preg.hw_enc() as u64,
-        OperandConstraint::Reuse(which) => 32 | which as u64,
+        OperandConstraint::Any => ANY,
+        OperandConstraint::Reg => REG,
+        OperandConstraint::Stack => STACK,
+        OperandConstraint::FixedReg(preg) => FIXED | preg.hw_enc() as u64,
+        OperandConstraint::Reuse(index) => REUSE | index as u64,
         OperandConstraint::Limit(max) => {
-            16 + match max {
-                1 => 0,
-                2 => 1,
-                4 => 2,
-                8 => 3,
-                16 => 4,
-                32 => 5,
-                _ => 6,
-            }
+            LIMIT
+                + match max {
+                    1 => 0,
+                    2 => 1,
+                    4 => 2,
+                    8 => 3,
+                    16 => 4,
+                    32 => 5,
+                    _ => 6,
+                }
         }
     }
 }
 
+/// Whether `field` is the code of a constraint.
+#[inline(always)]
+fn is_constraint_field(field: u64) -> bool
+    ensures { IsTrue result ↔ IsConstraintCode field }
+{
+    field <= STACK
+        || (field >= LIMIT && field < LIMIT + LIMITS)
+        || (field >= REUSE && field < CODES)
+}
+
 impl Operand {
-    /// The operand with those parts. A fixed register is of the vreg's class, the index of a reuse
+    const VREG_BITS: usize = 32;
+
+    const VREG_MASK: u64 = (1 << Self::VREG_BITS) - 1;
+
+    const CLASS_BITS: usize = 2;
+
+    const CLASS_SHIFT: usize = Self::VREG_BITS;
+
+    const CLASS_MASK: u64 = (1 << Self::CLASS_BITS) - 1;
+
+    const POS_BITS: usize = 1;
+
+    const POS_SHIFT: usize = Self::CLASS_SHIFT + Self::CLASS_BITS;
+
+    const POS_MASK: u64 = (1 << Self::POS_BITS) - 1;
+
+    const KIND_BITS: usize = 1;
+
+    const KIND_SHIFT: usize = Self::POS_SHIFT + Self::POS_BITS;
+
+    const KIND_MASK: u64 = (1 << Self::KIND_BITS) - 1;
+
+    pub(crate) const CONSTRAINT_SHIFT: usize = Self::KIND_SHIFT + Self::KIND_BITS;
+
+    /// The operand of these parts. A fixed register is of the class of `vreg`, the index of a reuse
     /// at most 31, a limit a power of two up to 64.
     pub fn new(
         vreg: VReg,
@@ -79,10 +136,10 @@ impl Operand {
         let constraint_field = constraint_field(vreg.class(), constraint);
         Operand {
             bits: (vreg.vreg() as u64)
-                | (class_field << 32)
-                | (pos_field << 34)
-                | (kind_field << 35)
-                | (constraint_field << 36),
+                | (class_field << Self::CLASS_SHIFT)
+                | (pos_field << Self::POS_SHIFT)
+                | (kind_field << Self::KIND_SHIFT)
+                | (constraint_field << Self::CONSTRAINT_SHIFT),
         }
     }
 
@@ -141,8 +198,8 @@ impl Operand {
         Operand::reg_def_at_start(vreg)
     }
 
-    /// A definition at the end of the instruction in the register of the use with that index, at
-    /// most 31.
+    /// A definition at the end of the instruction in the register of the use with the index `idx`,
+    /// at most 31.
     pub fn reg_reuse_def(vreg: VReg, idx: usize) -> Self
         requires { idx < 32 }
         ensures { result ≡ record { vreg = vreg; constraint = OperandConstraint.Reuse idx; kind = OperandKind.Def; position = OperandPos.Late } }
@@ -155,8 +212,7 @@ impl Operand {
         )
     }
 
-    /// A use in that register, which is of the class of `vreg`, at the beginning of the
-    /// instruction.
+    /// A use in `preg`, which is of the class of `vreg`, at the beginning of the instruction.
     pub fn reg_fixed_use(vreg: VReg, preg: PReg) -> Self
         requires { preg.class ≡ vreg.class }
         ensures { result ≡ record { vreg = vreg; constraint = OperandConstraint.FixedReg preg; kind = OperandKind.Use; position = OperandPos.Early } }
@@ -164,7 +220,7 @@ impl Operand {
         Operand::in_that_reg(vreg, preg, OperandKind::Use, OperandPos::Early)
     }
 
-    /// A use in that register, which is of the class of `vreg`, at the end of the instruction.
+    /// A use in `preg`, which is of the class of `vreg`, at the end of the instruction.
     pub fn reg_fixed_use_at_end(vreg: VReg, preg: PReg) -> Self
         requires { preg.class ≡ vreg.class }
         ensures { result ≡ record { vreg = vreg; constraint = OperandConstraint.FixedReg preg; kind = OperandKind.Use; position = OperandPos.Late } }
@@ -172,8 +228,7 @@ impl Operand {
         Operand::in_that_reg(vreg, preg, OperandKind::Use, OperandPos::Late)
     }
 
-    /// A definition in that register, which is of the class of `vreg`, at the end of the
-    /// instruction.
+    /// A definition in `preg`, which is of the class of `vreg`, at the end of the instruction.
     pub fn reg_fixed_def(vreg: VReg, preg: PReg) -> Self
         requires { preg.class ≡ vreg.class }
         ensures { result ≡ record { vreg = vreg; constraint = OperandConstraint.FixedReg preg; kind = OperandKind.Def; position = OperandPos.Late } }
@@ -181,7 +236,7 @@ impl Operand {
         Operand::in_that_reg(vreg, preg, OperandKind::Def, OperandPos::Late)
     }
 
-    /// A definition in that register, which is of the class of `vreg`, at the beginning of the
+    /// A definition in `preg`, which is of the class of `vreg`, at the beginning of the
     /// instruction.
     pub fn reg_fixed_def_at_start(vreg: VReg, preg: PReg) -> Self
         requires { preg.class ≡ vreg.class }
@@ -204,7 +259,7 @@ impl Operand {
         Operand::anywhere(vreg, OperandKind::Def, OperandPos::Late)
     }
 
-    /// A use of that register, which needn't be allocatable. It reads no vreg: its number is
+    /// A use of `preg`, which needn't be allocatable. The operand reads no vreg: its number is
     /// `VReg::MAX`.
     pub fn fixed_nonallocatable(preg: PReg) -> Self
         ensures operand { result ≡ record {
@@ -228,7 +283,7 @@ impl Operand {
     pub fn class(self) -> RegClass
         ensures { result ≡ self.vreg.class }
     {
-        CLASSES[((self.bits >> 32) & 3) as usize]
+        CLASSES[((self.bits >> Self::CLASS_SHIFT) & Self::CLASS_MASK) as usize]
     }
 
     /// The vreg.
@@ -236,8 +291,9 @@ impl Operand {
     pub fn vreg(self) -> VReg
         ensures { result ≡ self.vreg }
     {
-        // its word: the number's thirty bits, and below them the class's two
-        VReg::from_bits(((self.bits & 0x3fff_ffff) << 2) as u32 | ((self.bits >> 32) & 3) as u32)
+        let number = self.bits & VReg::MAX as u64;
+        let class_field = (self.bits >> Self::CLASS_SHIFT) & Self::CLASS_MASK;
+        VReg::from_bits((number << VReg::CLASS_BITS) as u32 | class_field as u32)
     }
 
     /// Whether the operand is read or written.
@@ -245,7 +301,7 @@ impl Operand {
     pub fn kind(self) -> OperandKind
         ensures { result ≡ self.kind }
     {
-        match (self.bits >> 35) & 1 {
+        match (self.bits >> Self::KIND_SHIFT) & Self::KIND_MASK {
             0 => OperandKind::Def,
             1 => OperandKind::Use,
             _ => unreachable!(),
@@ -257,7 +313,7 @@ impl Operand {
     pub fn pos(self) -> OperandPos
         ensures { result ≡ self.position }
     {
-        match (self.bits >> 34) & 1 {
+        match (self.bits >> Self::POS_SHIFT) & Self::POS_MASK {
             0 => OperandPos::Early,
             1 => OperandPos::Late,
             _ => unreachable!(),
@@ -270,21 +326,22 @@ impl Operand {
         ensures constraint { result ≡ self.constraint }
         ensures of_class { IsConstraintOf self.vreg.class self.constraint }
     {
-        let field = (self.bits >> 36) as usize;
-        if field < 16 {
+        let field = self.bits >> Self::CONSTRAINT_SHIFT;
+        if field < LIMIT {
             match field {
-                0 => OperandConstraint::Any,
-                1 => OperandConstraint::Reg,
+                ANY => OperandConstraint::Any,
+                REG => OperandConstraint::Reg,
                 _ => OperandConstraint::Stack,
             }
-        } else if field < 32 {
-            OperandConstraint::Limit(1 << (field - 16))
-        } else if field < 64 {
-            OperandConstraint::Reuse(field - 32)
+        } else if field < REUSE {
+            OperandConstraint::Limit(1 << (field - LIMIT))
+        } else if field < FIXED {
+            OperandConstraint::Reuse((field - REUSE) as usize)
         } else {
-            OperandConstraint::FixedReg(PReg::from_index(
-                (((self.bits >> 32) & 3) << 6) as usize | (field - 64),
-            ))
+            let class_field = (self.bits >> Self::CLASS_SHIFT) & Self::CLASS_MASK;
+            let hw_enc = field - FIXED;
+            let index = (class_field << PReg::MAX_BITS) | hw_enc;
+            OperandConstraint::FixedReg(PReg::from_index(index as usize))
         }
     }
 
@@ -293,7 +350,7 @@ impl Operand {
     pub fn is_any_reg(self) -> bool
         ensures { IsTrue result ↔ (self.constraint ≡ OperandConstraint.Reg) }
     {
-        self.bits >> 36 == 1
+        self.bits >> Self::CONSTRAINT_SHIFT == REG
     }
 
     /// The fixed register of an operand that names no vreg, marked by the number `VReg::MAX`. The
@@ -334,7 +391,7 @@ impl Operand {
         self.is_at(OperandPos::Late)
     }
 
-    /// Whether the operand is read or written at that position.
+    /// Whether the operand is read or written at `pos`.
     pub fn is_at(self, pos: OperandPos) -> bool
         ensures test { result ≡ is_position pos self.position }
         ensures same { IsTrue result ↔ (self.position ≡ pos) }
@@ -342,7 +399,7 @@ impl Operand {
         self.pos() == pos
     }
 
-    /// Whether the operand reads its vreg at that position.
+    /// Whether the operand reads its vreg at `pos`.
     pub fn reads_at(self, pos: OperandPos) -> bool
         ensures { result ≡ reads_at pos self }
     {
@@ -359,16 +416,19 @@ impl Operand {
         bits
     }
 
-    /// Whether the bits encode an operand.
+    /// Whether `bits` encode an operand.
+    #[inline(always)]
     pub fn is_bits(bits: u64) -> bool
         ensures { IsTrue result ↔ IsOperandBits bits }
     {
-        let code = bits >> 36;
-        let is_code = code < 3 || (code >= 16 && code < 23) || (code >= 32 && code < 128);
-        bits & 0xffff_ffff < 1 << 30 && (bits >> 32) & 0b11 != 0b11 && is_code
+        let number = bits & Self::VREG_MASK;
+        let class_field = (bits >> Self::CLASS_SHIFT) & Self::CLASS_MASK;
+        number <= VReg::MAX as u64
+            && class_field < CLASSES.len() as u64
+            && is_constraint_field(bits >> Self::CONSTRAINT_SHIFT)
     }
 
-    /// The operand that the bits encode; `is_bits` accepts them.
+    /// The operand that `bits` encode; `is_bits` accepts them.
     pub fn from_bits(bits: u64) -> Self
         requires { IsOperandBits bits }
         ensures operand { result ≡ operand_of_bits bits }

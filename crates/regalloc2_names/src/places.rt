@@ -3,7 +3,7 @@
 ghost use Rattle.std.specs.Prelude.{None, Some, false, ◌≡◌, ℕ, ◌+◌, ◌%◌, ◌<◌, ◌≤◌, ◌↔◌, IsTrue};
 ghost use Rattle.regalloc2_names.specs.PlaceBits.{IsPlaceBits, bits_of_place, index_of_place, place_of_bits};
 ghost use Rattle.regalloc2_names.specs.Place.{NoPlace, InRegister, InSlot, invalid_slot, is_in_register, is_in_slot, is_memory, is_no_place, is_place};
-ghost use Rattle.regalloc2_names.specs.Place.{kind_of_place, register_of_place, slot_of_place};
+ghost use Rattle.regalloc2_names.specs.Place.{kind_of_place, register_of_place, slot_limit, slot_of_place};
 
 use super::{AllocationKind, PReg, PRegSet};
 use std::marker::Model;
@@ -30,9 +30,13 @@ impl Model for SpillSlot {
 
 impl SpillSlot {
     /// The greatest number of a slot.
-    pub const MAX: usize = (1 << 24) - 1;
+    pub const MAX: usize = (1 << Self::MAX_BITS) - 1;
 
-    /// The slot of that number.
+    const MAX_BITS: usize = 24;
+
+    const INDEX_MASK: u32 = (1 << Self::MAX_BITS) - 1;
+
+    /// The slot of the number `slot`.
     pub fn new(slot: usize) -> Self
         requires { slot ≤ SpillSlot.MAX }
         ensures { result ≡ slot }
@@ -42,11 +46,11 @@ impl SpillSlot {
 
     /// The number of the slot, its lower 24 bits: the greatest number for the invalid slot.
     pub fn index(self) -> usize
-        ensures low { result ≡ self % 16777216 }
+        ensures low { result ≡ self % slot_limit }
         ensures number { self ≤ SpillSlot.MAX → result ≡ self }
         ensures small { result ≤ SpillSlot.MAX }
     {
-        (self.bits & 0x00ff_ffff) as usize
+        (self.bits & Self::INDEX_MASK) as usize
     }
 
     /// The slot `offset` numbers further on.
@@ -64,14 +68,14 @@ impl SpillSlot {
         SpillSlot { bits: u32::MAX }
     }
 
-    /// Whether it stands for none.
+    /// Whether the slot stands for none.
     pub fn is_invalid(self) -> bool
         ensures { IsTrue result ↔ (self ≡ invalid_slot) }
     {
         self == Self::invalid()
     }
 
-    /// Whether it is a slot.
+    /// Whether the slot doesn't stand for none.
     pub fn is_valid(self) -> bool
         ensures { IsTrue result ↔ (self ≤ SpillSlot.MAX) }
     {
@@ -81,8 +85,8 @@ impl SpillSlot {
 
 /// A place: none, a register or a spill slot.
 ///
-/// Packed into 32 bits, the form in the top three, the register's or the slot's index in the lower
-/// 28.
+/// Packed into 32 bits: the register's or the slot's index in the lower `INDEX_BITS`, the form from
+/// `KIND_SHIFT` on. The bit between them is 0.
 #[derive(Clone, Copy, PartialEq, Eq, PartialOrd, Ord, Hash)]
 pub struct Allocation {
     bits: u32,
@@ -107,6 +111,20 @@ impl Model for Allocation {
 
 #[tactic(auto, unfolding(crate::specs::PlaceBits::place_of_bits))]
 impl Allocation {
+    const INDEX_BITS: usize = 28;
+
+    const INDEX_MASK: u32 = (1 << Self::INDEX_BITS) - 1;
+
+    const KIND_SHIFT: usize = 29;
+
+    const BELOW_KIND: u32 = (1 << Self::KIND_SHIFT) - 1;
+
+    const NONE: u32 = 0;
+
+    const REG: u32 = 1;
+
+    const STACK: u32 = 2;
+
     /// No place.
     pub fn none() -> Self
         ensures { result ≡ NoPlace }
@@ -114,22 +132,22 @@ impl Allocation {
         Allocation { bits: 0 }
     }
 
-    /// That register.
+    /// The place `preg`.
     pub fn reg(preg: PReg) -> Self
         ensures { result ≡ InRegister preg }
     {
         Allocation {
-            bits: (1 << 29) | preg.index() as u32,
+            bits: (Self::REG << Self::KIND_SHIFT) | preg.index() as u32,
         }
     }
 
-    /// That spill slot, which is a valid one.
+    /// The place `slot`, which is valid.
     pub fn stack(slot: SpillSlot) -> Self
         requires { slot ≤ SpillSlot.MAX }
         ensures { result ≡ InSlot slot }
     {
         Allocation {
-            bits: (2 << 29) | slot.bits,
+            bits: (Self::STACK << Self::KIND_SHIFT) | slot.bits,
         }
     }
 
@@ -137,9 +155,9 @@ impl Allocation {
     pub fn kind(self) -> AllocationKind
         ensures { result ≡ kind_of_place self }
     {
-        match self.bits >> 29 {
-            0 => AllocationKind::None,
-            1 => AllocationKind::Reg,
+        match self.bits >> Self::KIND_SHIFT {
+            Self::NONE => AllocationKind::None,
+            Self::REG => AllocationKind::Reg,
             _ => AllocationKind::Stack,
         }
     }
@@ -166,22 +184,22 @@ impl Allocation {
         self == other
     }
 
-    /// Whether it is a register.
+    /// Whether the place is a register.
     pub fn is_reg(self) -> bool
         ensures { result ≡ is_in_register self }
     {
         self.kind() == AllocationKind::Reg
     }
 
-    /// Whether it is a spill slot.
+    /// Whether the place is a spill slot.
     pub fn is_stack(self) -> bool
         ensures { result ≡ is_in_slot self }
     {
         self.kind() == AllocationKind::Stack
     }
 
-    /// Whether it is a stack place: a spill slot, or one of the registers that name fixed stack
-    /// slots.
+    /// Whether the place is on the stack: a spill slot, or a register of `fixed_stack`, which names a
+    /// fixed stack slot.
     pub fn is_memory(self, fixed_stack: PRegSet) -> bool
         ensures { result ≡ is_memory fixed_stack self }
     {
@@ -195,27 +213,27 @@ impl Allocation {
     pub fn index(self) -> usize
         ensures { result ≡ index_of_place self }
     {
-        (self.bits & 0x0fff_ffff) as usize
+        (self.bits & Self::INDEX_MASK) as usize
     }
 
-    /// The register, if it is one.
+    /// The register, if the place is a register.
     pub fn as_reg(self) -> Option<PReg>
         ensures { result ≡ register_of_place self }
     {
-        if self.bits >> 29 == 1 {
+        if self.bits >> Self::KIND_SHIFT == Self::REG {
             Some(PReg::from_index(self.index()))
         } else {
             None
         }
     }
 
-    /// The spill slot, if it is one.
+    /// The spill slot, if the place is a slot.
     pub fn as_stack(self) -> Option<SpillSlot>
         ensures { result ≡ slot_of_place self }
     {
-        if self.bits >> 29 == 2 {
+        if self.bits >> Self::KIND_SHIFT == Self::STACK {
             Some(SpillSlot {
-                bits: self.bits & 0x0fff_ffff,
+                bits: self.bits & Self::INDEX_MASK,
             })
         } else {
             None
@@ -232,20 +250,20 @@ impl Allocation {
         bits
     }
 
-    /// Whether the bits encode a place.
+    /// Whether `bits` encode a place.
     pub fn is_bits(bits: u32) -> bool
         ensures { IsTrue result ↔ IsPlaceBits bits }
     {
-        let index = bits & 0x1fff_ffff;
-        match bits >> 29 {
-            0 => index == 0,
-            1 => index < 192,
-            2 => index <= 0x00ff_ffff,
+        let index = (bits & Self::BELOW_KIND) as usize;
+        match bits >> Self::KIND_SHIFT {
+            Self::NONE => index == 0,
+            Self::REG => PReg::is_index(index),
+            Self::STACK => index <= SpillSlot::MAX,
             _ => false,
         }
     }
 
-    /// The place that the bits encode; `is_bits` accepts them.
+    /// The place that `bits` encode; `is_bits` accepts them.
     pub fn from_bits(bits: u32) -> Self
         requires { IsPlaceBits bits }
         ensures place { result ≡ place_of_bits bits }

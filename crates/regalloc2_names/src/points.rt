@@ -31,8 +31,15 @@ impl Model for ProgPoint {
 }
 
 impl ProgPoint {
-    /// The point at that position of that instruction, whose number is below `inst_limit`, 2^30, or
-    /// that of `Inst::invalid()`.
+    const POS_BITS: usize = 1;
+
+    const POS_MASK: u32 = (1 << Self::POS_BITS) - 1;
+
+    /// The first number past the points of instructions.
+    const END: u32 = 1 << 31;
+
+    /// The point at `pos` of `inst`, whose number is below `inst_limit`, 2^30, or is the number of
+    /// `Inst::invalid()`.
     pub fn new(inst: Inst, pos: InstPosition) -> Self
         requires { inst ≢ invalid_inst → inst < inst_limit }
         ensures point { inst ≢ invalid_inst → result ≡ point_at inst pos }
@@ -44,16 +51,18 @@ impl ProgPoint {
         }
     }
 
-    /// The point before that instruction.
+    /// The point before `inst`.
     pub fn before(inst: Inst) -> Self
         requires { inst ≢ invalid_inst → inst < inst_limit }
         ensures point { inst ≢ invalid_inst → result ≡ before inst }
         ensures invalid { inst ≡ invalid_inst → result ≡ 4294967294 }
     {
-        ProgPoint { bits: inst.0 << 1 }
+        ProgPoint {
+            bits: inst.0 << Self::POS_BITS,
+        }
     }
 
-    /// The point after that instruction.
+    /// The point after `inst`.
     #[tactic(auto, using(crate::proofs::Words::odd_word))]
     pub fn after(inst: Inst) -> Self
         requires { inst ≢ invalid_inst → inst < inst_limit }
@@ -61,7 +70,7 @@ impl ProgPoint {
         ensures invalid { inst ≡ invalid_inst → result ≡ 4294967295 }
     {
         ProgPoint {
-            bits: (inst.0 << 1) | 1,
+            bits: (inst.0 << Self::POS_BITS) | 1,
         }
     }
 
@@ -70,18 +79,18 @@ impl ProgPoint {
         ensures inst { result ≡ inst_of_point self }
         ensures valid { result ≢ invalid_inst → result < inst_limit }
     {
-        if self.bits < 1 << 31 {
-            Inst(self.bits >> 1)
+        if self.bits < Self::END {
+            Inst(self.bits >> Self::POS_BITS)
         } else {
             Inst::invalid()
         }
     }
 
-    /// Before or after that instruction.
+    /// Whether the point is before or after its instruction.
     pub fn pos(self) -> InstPosition
         ensures { result ≡ position_of_point self }
     {
-        if self.bits & 1 == 0 {
+        if self.bits & Self::POS_MASK == 0 {
             InstPosition::Before
         } else {
             InstPosition::After
@@ -97,14 +106,14 @@ impl ProgPoint {
         bits
     }
 
-    /// Whether a number is that of a point.
+    /// Whether `index` is the number of a point.
     pub fn is_index(index: u32) -> bool
         ensures { IsTrue result ↔ IsPointNumber index }
     {
-        index < 1 << 31 || index >= u32::MAX - 1
+        index < Self::END || index >= u32::MAX - 1
     }
 
-    /// The point of that number, which `is_index` accepts.
+    /// The point of the number `index`, which `is_index` accepts.
     pub fn from_index(index: u32) -> Self
         requires { IsPointNumber index }
         ensures { result ≡ index }
@@ -112,8 +121,8 @@ impl ProgPoint {
         ProgPoint { bits: index }
     }
 
-    /// The next point, if there is one: the point before the next instruction follows the point
-    /// after this one.
+    /// The next point, if there is one. The point after an instruction precedes the point before the
+    /// next instruction.
     pub fn next(self) -> Self
         requires { IsPointNumber (self + 1) }
         ensures { result ≡ self + 1 }

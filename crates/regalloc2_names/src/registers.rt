@@ -22,8 +22,8 @@ impl RegClass {
 
 /// A hardware register: a number from 0 to 63 in the register file of a class.
 ///
-/// Packed into one byte, the class in the top two bits, which is also its index among all
-/// registers.
+/// Packed into one byte, the class in the top two bits and the number below. The byte is also the
+/// register's index among all registers.
 #[derive(Clone, Copy, PartialEq, Eq, PartialOrd, Ord, Hash)]
 pub struct PReg {
     bits: u8,
@@ -51,21 +51,24 @@ impl PReg {
     pub const MAX_BITS: usize = 6;
 
     /// The greatest hardware number.
-    pub const MAX: usize = 63;
+    pub const MAX: usize = (1 << Self::MAX_BITS) - 1;
 
     /// The number of indexes, including the unused ones of a fourth class.
-    pub const NUM_INDEX: usize = 256;
+    pub const NUM_INDEX: usize = 1 << (Self::MAX_BITS + 2);
 
     /// The index of the invalid register.
-    pub const INVALID: u8 = 63;
+    pub const INVALID: u8 = (1 << Self::MAX_BITS) - 1;
 
-    /// The register with that number in the register file of that class.
+    /// The first number past the indexes of registers.
+    const INDEX_END: usize = 3 << Self::MAX_BITS;
+
+    /// The register of the number `hw_enc` in the register file of `class`.
     pub const fn new(hw_enc: usize, class: RegClass) -> Self
         requires { hw_enc ≤ PReg.MAX }
         ensures { result ≡ record { number = hw_enc; class = class } }
     {
         PReg {
-            bits: ((class as u8) << 6) | (hw_enc as u8),
+            bits: ((class as u8) << Self::MAX_BITS) | (hw_enc as u8),
         }
     }
 
@@ -81,10 +84,10 @@ impl PReg {
     pub const fn class(self) -> RegClass
         ensures { result ≡ self.class }
     {
-        CLASSES[(self.bits >> 6) as usize]
+        CLASSES[(self.bits >> Self::MAX_BITS) as usize]
     }
 
-    /// The index among all registers: those of the class `Int` first, then `Float`, then `Vector`.
+    /// The index among all registers: the class `Int` first, then `Float`, then `Vector`.
     pub const fn index(self) -> usize
         ensures index { result ≡ bits_of_register self }
         ensures small { result < 192 }
@@ -93,14 +96,14 @@ impl PReg {
         self.bits as usize
     }
 
-    /// Whether a number is the index of a register.
+    /// Whether `index` is the index of a register.
     pub fn is_index(index: usize) -> bool
         ensures { IsTrue result ↔ IsRegisterIndex index }
     {
-        index < 192
+        index < Self::INDEX_END
     }
 
-    /// The register of that index, which `is_index` accepts.
+    /// The register of `index`, which `is_index` accepts.
     pub const fn from_index(index: usize) -> Self
         requires { IsRegisterIndex index }
         ensures register { result ≡ register_of_bits index }
@@ -118,7 +121,7 @@ impl PReg {
         }
     }
 
-    /// The register itself, or `None` for the invalid one.
+    /// The register itself, or `None` for the invalid register.
     pub const fn as_valid(self) -> Option<PReg>
         ensures { MatchOption result (self ≡ invalid_register) (λ r. (r ≡ self) × (self ≢ invalid_register)) }
     {

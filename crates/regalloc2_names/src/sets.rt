@@ -1,6 +1,6 @@
 //! Sets of registers.
 
-ghost use Rattle.std.specs.Prelude.{◌≢◌, ◌∷◌, List, Contains, ◌≡◌, ◌≤◌, ℕ, ◌<◌, ◌↔◌, ◌||◌, ◌&&◌, not, false, true, IsTrue, IfSome, IsNone, length, nat_lt};
+ghost use Rattle.std.specs.Prelude.{◌≢◌, ◌∷◌, ◌^◌, slice_index, List, Contains, ◌≡◌, ◌≤◌, ℕ, ◌<◌, ◌↔◌, ◌||◌, ◌&&◌, not, false, true, IsTrue, IfSome, IsNone, length, nat_lt};
 ghost use Rattle.regalloc2_names.specs.Register.{IsRegister, Register, class_code, is_register};
 ghost use Rattle.regalloc2_names.specs.RegisterBits.{bits_of_register};
 ghost use Rattle.std.specs.Int.{bit_at};
@@ -28,12 +28,19 @@ impl PRegSet {
         PRegSet { bits: [0; 3] }
     }
 
-    /// The set of the registers whose bits are 1 in three words, one for each class. Upstream has no
-    /// such call.
+    /// The set of the registers whose bits are 1 in `words`, one for each class. Upstream: none.
     pub const fn from_words(words: [u64; 3]) -> Self
         ensures { (r : Register) → has_register result r ≡ words_have words r }
     {
         PRegSet { bits: words }
+    }
+
+    /// The set's three words, one for each class.
+    const fn words(self) -> [u64; 3]
+        ensures words { result ≡ self.bits }
+        ensures fits { (i : ℕ) → slice_index result i < 2 ^ 64 }
+    {
+        self.bits
     }
 
     const fn split_index(reg: PReg) -> (usize, usize)
@@ -45,7 +52,7 @@ impl PRegSet {
         (reg.index() / 64, reg.hw_enc())
     }
 
-    /// Whether the register is in the set.
+    /// Whether `reg` is in the set.
     pub fn contains(&self, reg: PReg) -> bool
         ensures member { result ≡ has_register self.now reg }
         ensures in_range { reg.number ≤ PReg.MAX }
@@ -54,7 +61,7 @@ impl PRegSet {
         self.bits[index] & (1 << bit) != 0
     }
 
-    /// Puts the register into the set.
+    /// Puts `reg` into the set.
     pub const fn add(&mut self, reg: PReg)
         ensures members { (r : Register) → has_register self.new r ≡ is_register reg r || has_register self.old r }
         ensures in_range { reg.number ≤ PReg.MAX }
@@ -63,7 +70,7 @@ impl PRegSet {
         self.bits[index] |= 1 << bit;
     }
 
-    /// The set with that register added.
+    /// The set with `reg` added.
     pub const fn with(self, reg: PReg) -> Self
         ensures members { (r : Register) → has_register result r ≡ is_register reg r || has_register self r }
         ensures in_range { reg.number ≤ PReg.MAX }
@@ -73,7 +80,7 @@ impl PRegSet {
         out
     }
 
-    /// Removes the register from the set.
+    /// Removes `reg` from the set.
     pub fn remove(&mut self, reg: PReg)
         ensures members { (r : Register) → has_register self.new r ≡ not (is_register reg r) && has_register self.old r }
         ensures in_range { reg.number ≤ PReg.MAX }
@@ -82,7 +89,7 @@ impl PRegSet {
         self.bits[index] &= !(1 << bit);
     }
 
-    /// Puts the other set's registers into the set.
+    /// Puts the registers of `other` into the set.
     pub fn union_from(&mut self, other: PRegSet)
         ensures { (r : Register) → has_register self.new r ≡ has_register self.old r || has_register other r }
     {
@@ -91,7 +98,7 @@ impl PRegSet {
         self.bits = [a | d, b | e, c | f];
     }
 
-    /// Removes the registers that aren't in the other set.
+    /// Removes the registers that aren't in `other`.
     pub fn intersect_from(&mut self, other: PRegSet)
         ensures { (r : Register) → has_register self.new r ≡ has_register self.old r && has_register other r }
     {
@@ -108,7 +115,7 @@ impl PRegSet {
         PRegSet { bits: [!a, !b, !c] }
     }
 
-    /// The registers of the set that the other doesn't have. Upstream has no such call.
+    /// The registers of the set that aren't in `other`. Upstream: none.
     #[inline(always)]
     pub fn difference(self, other: PRegSet) -> PRegSet
         ensures { (r : Register) → has_register result r ≡ not (has_register other r) && has_register self r }
@@ -120,7 +127,7 @@ impl PRegSet {
         }
     }
 
-    /// Whether the set has no register of that class.
+    /// Whether the set has no register of `regclass`.
     pub fn is_empty(&self, regclass: RegClass) -> bool
         ensures { IsTrue result ↔ ((r : Register) → r.class ≡ regclass → has_register self.now r ≡ false) }
     {
@@ -154,7 +161,7 @@ impl PRegSet {
         }
     }
 
-    /// Puts every register of a lower index than that one into the set.
+    /// Puts every register of a lower index than `reg` into the set.
     pub fn add_up_to(&mut self, reg: PReg)
         ensures { (r : Register) → IsRegister r → has_register self.new r ≡ nat_lt (bits_of_register r) (bits_of_register reg) || has_register self.old r }
     {
@@ -193,9 +200,7 @@ impl PartialEq for PRegSet {
         ensures listed { result ≡ is_same_set self.now other.now }
         ensures members { IsTrue result ↔ ((r : Register) → has_register self.now r ≡ has_register other.now r) }
     {
-        let [a, b, c] = self.bits;
-        let [d, e, f] = other.bits;
-        [a, b, c] == [d, e, f]
+        self.words() == other.words()
     }
 }
 

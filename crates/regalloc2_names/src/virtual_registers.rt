@@ -10,7 +10,7 @@ use std::marker::Model;
 
 /// A virtual register (vreg): a number below 2^30 and the class of its values.
 ///
-/// Packed into 32 bits, the class in the lower two.
+/// Packed into 32 bits, the class in the lower `CLASS_BITS` and the number above.
 #[derive(Clone, Copy, PartialEq, Eq, PartialOrd, Ord, Hash)]
 pub struct VReg {
     bits: u32,
@@ -38,15 +38,19 @@ impl VReg {
     pub const MAX_BITS: usize = 30;
 
     /// The greatest number.
-    pub const MAX: usize = (1 << 30) - 1;
+    pub const MAX: usize = (1 << Self::MAX_BITS) - 1;
 
-    /// The vreg with that number and class.
+    pub(crate) const CLASS_BITS: usize = 2;
+
+    const CLASS_MASK: u32 = (1 << Self::CLASS_BITS) - 1;
+
+    /// The vreg of the number `virt_reg` and of `class`.
     pub const fn new(virt_reg: usize, class: RegClass) -> Self
         requires { virt_reg ≤ VReg.MAX }
         ensures { result ≡ record { number = virt_reg; class = class } }
     {
         VReg {
-            bits: ((virt_reg as u32) << 2) | (class as u8 as u32),
+            bits: ((virt_reg as u32) << Self::CLASS_BITS) | (class as u8 as u32),
         }
     }
 
@@ -55,14 +59,14 @@ impl VReg {
         ensures number { result ≡ self.number }
         ensures small { result ≤ VReg.MAX }
     {
-        (self.bits >> 2) as usize
+        (self.bits >> Self::CLASS_BITS) as usize
     }
 
     /// The class of the values.
     pub const fn class(self) -> RegClass
         ensures { result ≡ self.class }
     {
-        CLASSES[(self.bits & 3) as usize]
+        CLASSES[(self.bits & Self::CLASS_MASK) as usize]
     }
 
     /// The vreg that stands for none: the greatest number, of the class `Int`.
@@ -72,7 +76,7 @@ impl VReg {
         VReg::new(Self::MAX, RegClass::Int)
     }
 
-    /// The encoding of the number and, in the lower two bits, the class; `from_bits` decodes it.
+    /// The encoding of the vreg, which `from_bits` decodes.
     pub const fn bits(self) -> usize
         ensures bits { result ≡ bits_of_vreg self }
         ensures word { IsVRegBits result }
@@ -83,14 +87,14 @@ impl VReg {
         self.bits as usize
     }
 
-    /// Whether the bits encode a vreg.
+    /// Whether `bits` encode a vreg.
     pub fn is_bits(bits: u32) -> bool
         ensures { IsTrue result ↔ IsVRegBits bits }
     {
-        bits & 0b11 != 0b11
+        bits & Self::CLASS_MASK < CLASSES.len() as u32
     }
 
-    /// The vreg that the bits encode; `is_bits` accepts them.
+    /// The vreg that `bits` encode; `is_bits` accepts them.
     pub const fn from_bits(bits: u32) -> Self
         requires { IsVRegBits bits }
         ensures vreg { result ≡ vreg_of_bits bits }

@@ -1,4 +1,4 @@
--- Lemmas on chains of moves, each followed by the one that writes what it reads.
+-- Lemmas on chains of moves, each followed by its next.
 use Rattle.std.proofs.Common.{◌≡◌, ℕ, ◌+◌, ◌<◌, Bool, true, false, List, [], ◌∷◌, ◌++◌, length, set, ◌⊎◌, get_or-set_same, get_or-set_other, refl}
 use Rattle.std.proofs.Common.{sym, ap, ◌∙◌, subst, inl, inr, ⊎_elim, arith}
 use Rattle.std.proofs.lemmas.Grind.{common_steps}
@@ -7,7 +7,7 @@ use Rattle.std.proofs.lemmas.List.{get_or_append_left}
 use Rattle.regalloc2_parts.specs.AtOnce.{Ends}
 use Rattle.regalloc2_parts.specs.declared.moves.order.State.{State}
 use Rattle.regalloc2_parts.specs.declared.moves.order.State.TheVariants.{Todo, Pending, Done}
-use Rattle.regalloc2_parts.specs.Giving.{from_at, to_at, state_at, number_at, AreMovesApart, AreNexts, IsNextDone, LeadsTo, IsMoveChain, HasGoneOn, IsSettled}
+use Rattle.regalloc2_parts.specs.Giving.{from_at, to_at, state_at, number_at, AreMovesApart, AreNexts, IsNextDone, LeadsTo, IsMoveChain, HasGoneOn, HasNonePending}
 
 -- whether a move is in the state `Todo`, neither on the chain nor emitted
 unfoldable pub is_todo : State → Bool
@@ -175,7 +175,7 @@ last_leads nexts chain k stop leads =
     ap (λ x. number_at nexts x) (sym (at_end chain k)) ∙ leads (length chain) (omega arith)
 
 -- with an empty chain no move is `Pending`
-pub ends_settled : (nexts : List ℕ) (st : List State) (chain : List ℕ) → IsMoveChain nexts st chain → length chain ≡ 0 → length st ≡ length nexts → IsSettled st
-ends_settled nexts st chain is empty same k r pends =
+pub ends_none_pending : (nexts : List ℕ) (st : List State) (chain : List ℕ) → IsMoveChain nexts st chain → length chain ≡ 0 → length st ≡ length nexts → HasNonePending st
+ends_none_pending nexts st chain is empty same k r pends =
     let at : (i : ℕ) × (i < length chain) × (number_at chain i ≡ k) = is.only k (omega arith) pends in
     let low : at.0 < length chain = at.1 in omega arith

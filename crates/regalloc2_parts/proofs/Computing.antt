@@ -13,9 +13,9 @@ use Rattle.regalloc2_parts.specs.declared.moves.resolved.MoveVecWithScratch.{Mov
 use Rattle.regalloc2_parts.specs.declared.moves.resolved.MoveVecWithScratch.TheVariants.{NoScratch, Scratch}
 use Rattle.regalloc2_parts.specs.AtOnce.{ends_of, own_names, in_turn, WritesNoneFirst}
 use Rattle.regalloc2_parts.specs.Resolved.{moves_listed, has_scratch, with_place, place_or, filled, IsRunnable, IsUnnamed, AreBetweenPlaces}
-use Rattle.regalloc2_steps.specs.declared.borrowed.Held.{Held}
-use Rattle.regalloc2_steps.specs.declared.borrowed.Held.TheVariants.{Free, InRegister}
-use Rattle.regalloc2_steps.specs.declared.borrowed.ScratchReg.{ScratchReg}
+use Rattle.regalloc2_parts.specs.declared.moves.passing.Held.{Held}
+use Rattle.regalloc2_parts.specs.declared.moves.passing.Held.TheVariants.{Free, InRegister}
+use Rattle.regalloc2_parts.specs.declared.moves.passing.ScratchReg.{ScratchReg}
 use Rattle.regalloc2_parts.specs.Tracking.{CanExpand, IsExpanded, IsMade, IsEither, IsUnused}
 use Rattle.regalloc2_parts.specs.Computed.{Asked, MayBeAskedTwice, Owes, IsHanding, IsRefusing, IsVia, IsPlaceChosen, IsAnswer, IsComputed}
 use Rattle.regalloc2_parts.specs.Computed.{AreApartInMemory, AreSeenApart, handed_place}
@@ -201,7 +201,7 @@ module _ {F G T : Type 0} (registers : F → Option Place → F → Type 0) (slo
             (free.0, subst (λ x. IsUnnamed r x) (sym e) (fills_unnamed s r given (λ h. owes.slots_differ s r g' t step next (sym h)) free.1));
       }
 
-  -- so it is with each choice of the scratch place for moves that can be run
+  -- with each choice of the scratch place, moves that can be run are chosen for
   pub chosen : {A : Type 0} (moves : MoveVecWithScratch T A) (made : List (Place × Place × T)) (f f' : F) (g g' : G) →
       Owes registers slots stack borrowed (moves_listed moves) f g → IsRunnable moves → IsChoice registers slots f f' g g' moves made →
       Chosen (moves_listed moves) (has_scratch moves) f f' g g' made

@@ -5,7 +5,7 @@ use Rattle.std.proofs.lemmas.List.Sums.{sum_by-set}
 use Rattle.std.specs.List.{count_by}
 use Rattle.regalloc2_parts.specs.declared.moves.order.State.{State}
 use Rattle.regalloc2_parts.specs.declared.moves.order.State.TheVariants.{Todo, Pending}
-use Rattle.regalloc2_parts.specs.Giving.{state_at, number_at, IsMoveChain, IsSettled, LeadsTo, HasGoneOn, AreSameDone}
+use Rattle.regalloc2_parts.specs.Giving.{state_at, number_at, IsMoveChain, HasNonePending, LeadsTo, HasGoneOn, AreSameDone}
 use Rattle.regalloc2_parts.proofs.Chains.{is_todo, set_here, set_there, at_last, length_push, chain_push, goes_on, todo_pending, todo_done, pending_done}
 
 -- how many moves are still to be done
@@ -30,9 +30,9 @@ pub record IsFollowing (nexts : List ℕ) (old st : List State) (chain : List �
   pub begun : (at ≡ start) ⊎ (state_at st start ≡ Todo → ⊥)
 
 -- nothing is followed yet
-pub follows_none : (nexts : List ℕ) (st : List State) (chain : List ℕ) (start : ℕ) → chain ≡ [] → IsSettled st → length st ≡ length nexts →
+pub follows_none : (nexts : List ℕ) (st : List State) (chain : List ℕ) (start : ℕ) → chain ≡ [] → HasNonePending st → length st ≡ length nexts →
     IsFollowing nexts st st chain start start
-follows_none nexts st chain start empty settled many =
+follows_none nexts st chain start empty none_pending many =
     let none : length chain ≡ 0 = ap length empty in
     record {
       is_chain = record {
@@ -40,7 +40,7 @@ follows_none nexts st chain start empty settled many =
         pending = λ i less. absurd (omega (arith, less, none));
         differ = λ i j before less. absurd (omega (arith, less, none));
         linked = λ i less. absurd (omega (arith, less, none));
-        only = λ k less e. absurd (settled k (omega (arith, less, many)) e);
+        only = λ k less e. absurd (none_pending k (omega (arith, less, many)) e);
       };
       link = λ i e. absurd (omega (arith, e, none));
       same = record { stays = λ k e. e; was = λ k e. e };
@@ -48,7 +48,7 @@ follows_none nexts st chain start empty settled many =
       begun = inl refl;
     }
 
--- a chain followed to a `Todo` move goes on: that move is pushed, and the one that writes its source comes next
+-- a chain followed to a `Todo` move goes on: the move is pushed, and its next follows
 pub follows_more : (nexts : List ℕ) (old st : List State) (chain : List ℕ) (start at : ℕ) → IsFollowing nexts old st chain start at → length st ≡ length nexts →
     at < length nexts → state_at st at ≡ Todo → IsFollowing nexts old (set st at Pending) (chain ++ at ∷ []) start (number_at nexts at)
 follows_more nexts old st chain start at had many within todo =

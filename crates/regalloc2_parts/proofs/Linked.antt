@@ -102,7 +102,7 @@ removed_first ns ps a p (y ∷ ys) b r h la d lb er fa fr =
       prev_kept (slice_set ns a y) ps y ys b y a (next_kept ns ps y ys b a y h.2.2 la.1.0 la.1.1) (IsDistinct-head nat_eq y ys d) (flip b y lb.0),
     )
 
--- links that lead over a list lead over it without one of its numbers, once this one's two neighbours are linked
+-- links that lead over a list lead over it without one of its numbers, once the two neighbours of the number are linked
 pub removed : (ns ps : List ℕ) (a : ℕ) (xs : List ℕ) (b p l r : ℕ) → Leads ns ps a xs b → IsDistinct nat_eq (a ∷ xs) → LacksNumber b xs → Contains xs p →
     slice_index ps p ≡ l → slice_index ns p ≡ r → l < length ns → r < length ps → Leads (slice_set ns l r) (slice_set ps r l) a (without p xs) b
 unfolding Leads

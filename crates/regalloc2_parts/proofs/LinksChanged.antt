@@ -29,7 +29,7 @@ one_apart a b c true true e f =
 one_apart a b c true false e f = let h : cond (nat_eq a c) 0 1 ≤ 1 = at_most_one (nat_eq a c) in omega arith
 one_apart a b c false q e f = let h : cond (nat_eq a c) 0 1 ≤ 1 = at_most_one (nat_eq a c) in omega arith
 
--- and two changes after each other at most as many as both
+-- two changes after each other change at most as many as both
 pub changed-trans : (xs ys zs : List ℕ) → length xs ≡ length ys → length ys ≡ length zs → changed xs zs ≤ changed xs ys + changed ys zs
 unfolding changed
 changed-trans [] [] zs e f = omega arith

@@ -8,7 +8,7 @@ use Rattle.regalloc2_parts.specs.AtOnce.{Ends, ends, ends_of, IsOfMoves, no_move
 use Rattle.regalloc2_parts.specs.Giving.{from_at, to_at}
 
 module _ {T : Type 0} where
-  -- there are as many pairs of ends as moves
+  -- a list of moves has as many pairs of ends as moves
   pub length_ends : (ms : List (Place × Place × T)) → length (ends_of ms) ≡ length ms
   length_ends ms = length-map ms ends
 
@@ -16,7 +16,7 @@ module _ {T : Type 0} where
   pub ends_push : (ms : List (Place × Place × T)) (m : Place × Place × T) → ends_of (ms ++ m ∷ []) ≡ ends_of ms ++ ends m ∷ []
   ends_push ms m = map-append ends ms (m ∷ [])
 
-  -- the ends at an index are those of the move there
+  -- the ends at an index are the ends of the move there
   pub read_ends : (ms : List (Place × Place × T)) (k : ℕ) (m : Place × Place × T) → k < length ms → m ≡ get_or ms k m → get_or (ends_of ms) k no_move ≡ ends m
   read_ends ms k m r e = get_or-map ends ms k m no_move r ∙ ap ends (sym e)
 

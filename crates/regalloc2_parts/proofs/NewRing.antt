@@ -105,7 +105,7 @@ new_ring class regs xs regs_are rise same =
       distinct = rising_differ xs rise;
     }
 
--- and are named by their numbers
+-- the registers of a walk over a set are named by their numbers
 pub by_numbers : (class : RegClass) (xs : List Register) → All (λ r. r.class ≡ class) xs → map (named class) (map (λ r. r.number) xs) ≡ xs
 by_numbers class [] h = refl
 by_numbers class (x ∷ xs) h =

@@ -29,7 +29,7 @@ differs m n d = by_answer (nat_eq m n) refl
 pub lacks : (p : ℕ) (xs : List ℕ) → All (λ n. n ≢ p) xs → LacksNumber p xs
 lacks p xs h = recursion_from_All (λ (n : ℕ). nat_eq p n ≡ false) xs (All-weaker (λ (n : ℕ). n ≢ p) (λ (n : ℕ). nat_eq p n ≡ false) (λ n d. differs p n d) xs h)
 
--- and the numbers of a list that lacks one differ from it
+-- the numbers of a list that lacks a number differ from it
 pub all_differ : (p : ℕ) (xs : List ℕ) → LacksNumber p xs → All (λ n. n ≢ p) xs
 all_differ p xs l = All-weaker (λ (n : ℕ). nat_eq p n ≡ false) (λ (n : ℕ). n ≢ p) other xs (All-from_recursion (λ (n : ℕ). nat_eq p n ≡ false) xs l)
   where
@@ -51,7 +51,7 @@ of_member P [] p l (i, less, at) = absurd (omega arith)
 of_member P (x ∷ xs) p l (zero, less, at) = subst P at l.0
 of_member P (x ∷ xs) p l (suc i, less, at) = of_member P xs p l.1 (i, omega arith, at)
 
--- and of what is left without a number
+-- what holds of all of a list holds of what is left without a number
 pub each_without : (P : ℕ → Type 0) (p : ℕ) (xs : List ℕ) → AllByRecursion P xs → AllByRecursion P (without p xs)
 each_without P p xs h = recursion_from_All P (without p xs) (All-filter (λ n. not (nat_eq p n)) P xs (All-from_recursion P xs h))
 
@@ -88,7 +88,7 @@ distinct_ended (x ∷ xs) p d l =
     IsDistinct-cons nat_eq x (xs ++ p ∷ []) (each_ended (λ (n : ℕ). nat_eq x n ≡ false) xs p (IsDistinct-head nat_eq x xs d) (flip p x l.0))
     (distinct_ended xs p (IsDistinct-tail nat_eq x xs d) l.1)
 
--- without the end: the others are distinct, and none of them is it
+-- in a list without repeats, the numbers before the end are distinct and differ from it
 pub distinct_before : (xs : List ℕ) (p : ℕ) → IsDistinct nat_eq (xs ++ p ∷ []) → IsDistinct nat_eq xs × LacksNumber p xs
 unfolding IsDistinct
 distinct_before [] p d = (tt, tt)

@@ -106,7 +106,7 @@ pub if_found : (test : Register → Bool) (ring : List Register) (res : Option R
 if_found test ring None e = tt
 if_found test ring (Some r) e = (found_last test ring (Some r) e).1
 
--- and passes the test
+-- what is found passes the test
 pub if_passes : (test : Register → Bool) (ring : List Register) (res : Option Register) → res ≡ find test (reverse ring) → IfSome res (λ r. IsTrue (test r))
 if_passes test ring None e = tt
 if_passes test ring (Some r) e = (found_last test ring (Some r) e).0
@@ -139,7 +139,7 @@ first_passes ring it next (Some r) e steps = λ test t.
     let turned : reverse ring ≡ r ∷ next = sym e ∙ steps in
     rw (turned, t) refl
 
--- and is in the ring
+-- what comes first is in the ring
 pub first_there : (ring it next : List Register) (res : Option Register) → it ≡ reverse ring → YieldsFirst (λ rest. rest) it res next →
     IfSome res (λ r. Contains ring r)
 first_there ring it next None e steps = tt
@@ -147,7 +147,7 @@ first_there ring it next (Some r) e steps =
     Contains-permutation (reverse ring) ring r (IsPermutation-sym ring (reverse ring) (IsPermutation-reverse ring))
     (rw (sym e ∙ steps) (0, omega arith, refl))
 
--- those that a closure was called for
+-- what holds of the registers behind r in a list holds from the index after r's on
 within : (P : Register → Type 0) (us : List Register) (r : Register) (vs : List Register) → All P vs →
     AllWithin P (us ++ r ∷ vs) (length us + 1) (length (us ++ r ∷ vs))
 within P [] r vs all zero d low high = absurd (omega arith)
@@ -166,7 +166,7 @@ none_accepted answers ring done rest e none all =
     let back : ring ≡ reverse done = sym (reverse-reverse ring) ∙ ap (λ l. reverse l) whole in
     rw back (all_reversed (λ (r : Register). answers r false) done all)
 
--- where it returned false for those from the ring's end up to a register and true for this one, this is the least recently used accepted one
+-- where a closure returned false for the registers from the ring's end up to r and true for r, r is the least recently used accepted one
 pub one_accepted : (answers : Register → Bool → Type 0) (ring done rest : List Register) (r : Register) → reverse ring ≡ done ++ r ∷ rest →
     All (λ q. answers q false) done → answers r true → IsOldestAccepted answers ring (Some r)
 one_accepted answers ring done rest r e all here =

@@ -47,7 +47,7 @@ pub done_before : (st : List State) (k j : ℕ) → state_at (set st k Done) j �
 done_before st k j h =
     ⊎_elim (λ e. inl e) (λ n. inr (sym (get_or-set_other st k j Done Todo n) ∙ h)) (cases_eq j k)
 
--- setting a move to `Done` leaves those that were `Done` so
+-- setting a move to `Done` leaves the moves that were `Done` so
 pub done_after : (st : List State) (k j : ℕ) → k < length st → state_at st j ≡ Done → state_at (set st k Done) j ≡ Done
 done_after st k j r h =
     ⊎_elim (λ e. ap (λ i. state_at (set st k Done) i) e ∙ get_or-set_same st k Done Todo r) (λ n. get_or-set_other st k j Done Todo n ∙ h) (cases_eq j k)

@@ -33,6 +33,6 @@ same_word p q hp hq e = sym hp ∙ ap place_of_bits e ∙ hq
 pub register_is_a_place : {r : Register} → InRegister r ≢ NoPlace
 register_is_a_place {r = r} e = (let no : InRegister r ≡ NoPlace = e in cc)
 
--- that memory is out isn't that a slot is missing
+-- the error of memory isn't the error of a missing slot
 pub memory_is_no_slot : Memory ≡ NoSlot → ⊥
 memory_is_no_slot e = (let no : Memory ≡ NoSlot = e in cc)

@@ -36,7 +36,7 @@ same_members p xs there r = (onward, back (is_register p r) refl)
     back true e h = (0, omega arith, is_register-true p r e)
     back false e h = past true p r (filter (λ r. not (is_register p r)) xs) (kept (λ r. not (is_register p r)) xs r h (rw e refl))
 
--- and still no two alike
+-- with its member in front a list without repeats still has none
 pub still_distinct : (p : Register) (xs : List Register) → IsDistinct is_register xs → IsDistinct is_register (p ∷ filter (λ r. not (is_register p r)) xs)
 still_distinct p xs d =
     IsDistinct-cons is_register p (filter (λ r. not (is_register p r)) xs)

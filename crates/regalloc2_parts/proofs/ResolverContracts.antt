@@ -20,14 +20,14 @@ split_head : {X : Type 0} (a : X) (xs : List X) (x : X) → Contains (a ∷ xs) 
 split_head a xs x (zero, lt, e) = inl (sym e)
 split_head a xs x (suc k, lt, e) = inr (k, (omega arith), e)
 
-nothing_in : {X : Type 0} (x : X) → Contains [] x → ⊥
-nothing_in x (k, lt, e) = omega arith
+none_in_empty : {X : Type 0} (x : X) → Contains [] x → ⊥
+none_in_empty x (k, lt, e) = omega arith
 
 -- an option is none or some
 some_other : {X : Type 0} (o : Option X) (x : X) → o ≡ Some x → o ≡ None → ⊥
 some_other o x e n = let h : Some x ≡ None = sym e ∙ n in cc
 
--- so many places of a pair are taken, as the one that comes next shows
+-- the places of a pair that are taken, as the place that comes next shows
 pub record CountsTaken (pair : ScratchPair) (next : Option Place) (taken : ℕ) : Type 0 where
   pub none : taken ≡ 0 → (pair.first ≡ None) ⊎ (next ≡ pair.first)
   pub one : taken ≡ 1 → (pair.second ≡ None) ⊎ (next ≡ pair.second)
@@ -43,10 +43,10 @@ module _ {F : Type 0} (g : Mut F (Unit {0}) (Option Place)) (f : F) (pair : Scra
   -- each of at most two returned places is one of the two
   which : (answers : List (Option Place)) (f' : F) → length answers ≤ 2 → FoldsTo (λ s a t. Called g s tt a t) f answers f' → (x : Option Place) →
       Contains answers x → (x ≡ pair.first) ⊎ (x ≡ pair.second)
-  which [] f' few calls x c = absurd (nothing_in x c)
-  which (a ∷ []) f' few (j, k, e) x c = ⊎_elim (λ is. inl (is ∙ (h a j k).0)) (λ rest. absurd (nothing_in x rest)) (split_head a [] x c)
+  which [] f' few calls x c = absurd (none_in_empty x c)
+  which (a ∷ []) f' few (j, k, e) x c = ⊎_elim (λ is. inl (is ∙ (h a j k).0)) (λ rest. absurd (none_in_empty x rest)) (split_head a [] x c)
   which (a ∷ b ∷ []) f' few (j, k, (i, l, e)) x c =
-      ⊎_elim (λ is. inl (is ∙ (h a j k).0)) (λ rest. ⊎_elim (λ is. inr (is ∙ ((h a j k).1 b i l).0)) (λ none. absurd (nothing_in x none))
+      ⊎_elim (λ is. inl (is ∙ (h a j k).0)) (λ rest. ⊎_elim (λ is. inr (is ∙ ((h a j k).1 b i l).0)) (λ none. absurd (none_in_empty x none))
       (split_head b [] x rest)) (split_head a (b ∷ []) x c)
   which (a ∷ b ∷ d ∷ rest) f' few calls x c = absurd (omega arith)
 
@@ -54,7 +54,7 @@ module _ {F : Type 0} (g : Mut F (Unit {0}) (Option Place)) (f : F) (pair : Scra
   pub is_short : (f' : F) (asked : Asked (λ s a t. Called g s tt a t) f f') → Contains asked.answers None → HasTooFewSlots pair
   is_short f' asked c = ⊎_elim (λ e. inl (sym e)) (λ e. inr (sym e)) (which asked.answers f' asked.few asked.calls None c)
 
-  -- one that was handed out is among those that are counted, by the one that comes next
+  -- a place that was handed out is counted, by the place that comes next
   module _ (next : Option Place) (taken : ℕ) (d : DoDiffer pair) (ordered : pair.first ≡ None → pair.second ≡ None) (counts : CountsTaken pair next taken) where
     open counts use {none, one}
 
@@ -77,13 +77,13 @@ module _ {F : Type 0} (g : Mut F (Unit {0}) (Option Place)) (f : F) (pair : Scra
 
     was_taken : (answers : List (Option Place)) (f' f'' : F) → length answers ≤ 2 → FoldsTo (λ s a t. Called g s tt a t) f answers f' →
         Called g f' tt next f'' → (p : Place) → Contains answers (Some p) → IsScratchTaken pair taken p
-    was_taken [] f' f'' few calls after p c = absurd (nothing_in (Some p) c)
+    was_taken [] f' f'' few calls after p c = absurd (none_in_empty (Some p) c)
     was_taken (a ∷ []) f' f'' few (j, k, e) after p c = ⊎_elim
         (λ is.
         let first : pair.first ≡ Some p = sym (is ∙ (h a j k).0) in
         let later : next ≡ pair.second = ((h a j k).1 next f'' (subst (λ s. Called g s tt next f'') (sym e) after)).0 in
         inl (first, first_taken p first (λ same. d p p first (sym later ∙ same ∙ first) refl)))
-        (λ rest. absurd (nothing_in (Some p) rest))
+        (λ rest. absurd (none_in_empty (Some p) rest))
         (split_head a [] (Some p) c)
     was_taken (a ∷ b ∷ []) f' f'' few (j, k, (i, l, e)) after p c =
         let last : next ≡ None = ((h a j k).1 b i l).1 next f'' (subst (λ s. Called g s tt next f'') (sym e) after) in
@@ -92,7 +92,7 @@ module _ {F : Type 0} (g : Mut F (Unit {0}) (Option Place)) (f : F) (pair : Scra
         inl (first, first_taken p first (λ same. some_other pair.first p first (sym same ∙ last))))
         (λ rest. ⊎_elim
         (λ is. let second : pair.second ≡ Some p = sym (is ∙ ((h a j k).1 b i l).0) in inr (second, second_taken p second last))
-        (λ nil. absurd (nothing_in (Some p) nil))
+        (λ nil. absurd (none_in_empty (Some p) nil))
         (split_head b [] (Some p) rest))
         (split_head a (b ∷ []) (Some p) c)
     was_taken (a ∷ b ∷ x ∷ rest) f' f'' few calls after p c = absurd (omega arith)
@@ -114,7 +114,7 @@ pub record LendPool {F G H : Type 0} (r : Mut F (Unit {0}) (Option Place)) (s : 
   pub tells : DecidesStack m h l.fixed_stack
   pub serves : IsUsableFor l given
 
--- what such closures returned, and how many slots were taken, as the next one shows
+-- what the closures of a pool returned, and how many slots were taken, as the slot that comes next shows
 pub record HaveTaken {F G : Type 0} (r : Mut F (Unit {0}) (Option Place)) (s : Mut G (Unit {0}) (Option Place)) (f : F) (g : G) (slots : ScratchPair)
     (taken : ℕ) : Type 0 where
   pub registers_left : F
@@ -170,7 +170,7 @@ module _ {F G H : Type 0} {r : Mut F (Unit {0}) (Option Place)} {s : Mut G (Unit
     lent_end borrowed is p (inl (inr c)) = inr (inl (slots_handed p c))
     lent_end borrowed is p (inr e) = inr (inr (e ∙ ap InRegister is))
 
-    -- what the resolver computed with such closures is ordered with the registers and the slots that were taken
+    -- what the resolver computed with the closures of a pool is ordered with the registers and the slots that were taken
     pub made_with : (borrowed : Register) → borrowed ≡ l.borrowed → (scratch : Bool) (made : Moves) →
         IsComputed (λ p b. m.post h (p, tt) b) (InRegister borrowed) (IsAnswer asked.answers slots_asked.answers) scratch given made
         → IsOrderedWith l taken given made

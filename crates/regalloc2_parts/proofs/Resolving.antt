@@ -13,7 +13,7 @@ use Rattle.regalloc2_parts.specs.Resolved.{IsResolution, AreBetweenPlaces}
 use Rattle.regalloc2_parts.specs.Giving.{number_at, AreMovesApart, AreFair, AreProper, AreNexts, AreBetween, IsTidied, IsOrder}
 use Rattle.regalloc2_parts.proofs.Lists.{length_ends, of_itself}
 use Rattle.regalloc2_parts.proofs.Tidying.{tidied_apart}
-use Rattle.regalloc2_parts.proofs.Runs.{apart_at_once, tidied_at_once, short_alone, free_alone, ordered_at_once, written_first}
+use Rattle.regalloc2_parts.proofs.Runs.{apart_at_once, tidied_at_once, short_apart, free_apart, ordered_at_once, written_first}
 use Rattle.regalloc2_parts.proofs.Counting.{order_counted, more_cycle, no_more_cycle, free_no_cycle, free_counted, short_no_cycle}
 
 some_of : {M : Type 0} (ms : List M) (k : ℕ) → k < length ms → M
@@ -89,7 +89,7 @@ module _ {T : Type 0} where
       let many : length (ends_of ms) ≡ length ms = length_ends ms in
       let fair : AreFair (ends_of ms) = real_fair ms one real in
       record {
-        at_once = apart_at_once (ends_of ms) own_names (short_alone (ends_of ms) (omega arith));
+        at_once = apart_at_once (ends_of ms) own_names (short_apart (ends_of ms) (omega arith));
         cyclic = (λ e. absurd cc, λ has. absurd (short_no_cycle (ends_of ms) (omega arith) has));
         counted = λ long. absurd (omega arith);
         short = λ s. refl;
@@ -108,7 +108,7 @@ module _ {T : Type 0} where
       let many : length (ends_of new) ≡ length new = length_ends new in
       record {
         at_once = tidied_at_once (ends_of old) (ends_of new) own_names (in_turn (ends_of new) own_names) fair tidied
-            (apart_at_once (ends_of new) own_names (free_alone (ends_of new) nexts apart ns free));
+            (apart_at_once (ends_of new) own_names (free_apart (ends_of new) nexts apart ns free));
         cyclic = (λ e. absurd cc, λ has. absurd (free_no_cycle (ends_of old) (ends_of new) nexts fair tidied apart ns free has));
         counted = λ l. subst (λ n. IsCounted (ends_of old) n) many (free_counted (ends_of old) (ends_of new) nexts fair tidied apart ns free);
         short = λ s. absurd (omega arith);

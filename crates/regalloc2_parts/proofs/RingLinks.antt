@@ -25,7 +25,7 @@ stands_for nodes h xs ring =
 pub next_at : (nodes : List LruNode) (k : ℕ) (d : LruNode) → k < length nodes → slice_index (lru_nexts nodes) k ≡ (slice_index_or nodes k d).next
 next_at nodes k d less = get_or-map (λ (n : LruNode). n.next) nodes k d 0 less
 
--- and its link to the one before
+-- the link of a node to the one before, in the lists of links
 pub prev_at : (nodes : List LruNode) (k : ℕ) (d : LruNode) → k < length nodes → slice_index (lru_prevs nodes) k ≡ (slice_index_or nodes k d).prev
 prev_at nodes k d less = get_or-map (λ (n : LruNode). n.prev) nodes k d 0 less
 
@@ -46,7 +46,7 @@ nexts-linked nodes a b d =
     map-set_same (λ (n : LruNode). n.next) first b (record { prev = a; next = (slice_index_or first b d).next }) d refl
     ∙ map-set (λ (n : LruNode). n.next) nodes a (record { prev = (slice_index_or nodes a d).prev; next = b })
 
--- and b's link to the one before
+-- linking a before b sets b's link to the one before
 pub prevs-linked : (nodes : List LruNode) (a b : ℕ) (d : LruNode) → lru_prevs (linked nodes a b d) ≡ slice_set (lru_prevs nodes) b a
 prevs-linked nodes a b d =
     let first : List LruNode = slice_set nodes a (record { prev = (slice_index_or nodes a d).prev; next = b }) in
@@ -54,10 +54,10 @@ prevs-linked nodes a b d =
     ∙ ap (λ l. slice_set l b a) (map-set_same (λ (n : LruNode). n.prev) nodes a (record { prev = (slice_index_or nodes a d).prev; next = b }) d refl)
 
 -- a number alone
-pub node_alone : (old new : List LruNode) (h : ℕ) → h < length old → lru_nexts new ≡ slice_set (lru_nexts old) h h →
+pub one_node_ring : (old new : List LruNode) (h : ℕ) → h < length old → lru_nexts new ≡ slice_set (lru_nexts old) h h →
     lru_prevs new ≡ slice_set (lru_prevs old) h h →
     IsRingOfNumbers new h (h ∷ [])
-node_alone old new h fits e f =
+one_node_ring old new h fits e f =
     let ring = IsRing-one (lru_nexts old) (lru_prevs old) h (rw (length-map old (λ (n : LruNode). n.next)) fits)
     (length-map old (λ (n : LruNode). n.prev) ∙ sym (length-map old (λ (n : LruNode). n.next))) in
     stands_for new h [] (rw (e, f) ring)
@@ -126,7 +126,7 @@ taken_out p ns xs e = rw e (all_differ p (without p xs) (gone p xs))
 pub absent_before : (xs : List ℕ) (p : ℕ) (ys all : List ℕ) → xs ++ p ∷ ys ≡ all → IsDistinct nat_eq all → All (λ n. n ≢ p) xs
 absent_before xs p ys all e d = all_differ p xs (lacks_before xs p ys (rw e d))
 
--- the others stay, without the head and with it
+-- all other numbers stay, without the head and with it
 pub head_out : (nodes : List LruNode) (h p : ℕ) → IsNodeRing nodes h → p ≡ h → IsRingOfNumbers nodes h (p ∷ without p (ring_numbers nodes h))
 head_out nodes h p ring same =
     let e : nat_eq h h ≡ true = eq-eqb h h refl in

@@ -58,7 +58,7 @@ pub has_nodes : (nodes : List LruNode) (h : ℕ) (class : RegClass) (r : Registe
 has_nodes [] h class r (k, less, at) = absurd (omega arith)
 has_nodes (node ∷ nodes) h class r mem = omega arith
 
--- a ring's registers are those of its numbers, where there are nodes
+-- a ring's registers are the registers of its numbers, where there are nodes
 pub registers_are : (nodes : List LruNode) (h : ℕ) (class : RegClass) → 0 < length nodes →
     ring_registers nodes h class ≡ map (named class) (ring_numbers nodes h)
 registers_are [] h class some = absurd (omega arith)

@@ -9,7 +9,7 @@ use Rattle.std.specs.List.{count_by}
 use Rattle.regalloc2_parts.specs.declared.moves.order.State.{State}
 use Rattle.regalloc2_parts.specs.declared.moves.order.State.TheVariants.{Todo, Pending, Done}
 use Rattle.regalloc2_parts.specs.Giving.{state_at, number_at, is_done, ring_at, IsRingOfMoves, StandsIn, HasRings, AreRingsDone, IsMoveChain, IsNextDone}
-use Rattle.regalloc2_parts.specs.Giving.{AreSameDone, HasGoneOn, IsSettled}
+use Rattle.regalloc2_parts.specs.Giving.{AreSameDone, HasGoneOn, HasNonePending}
 use Rattle.regalloc2_parts.proofs.Chains.{set_here, set_there, length_push, at_end, at_left, at_last, todo_done, pending_done, todo_pending, is_done_else}
 use Rattle.regalloc2_parts.proofs.Orders.{done_before, done_after}
 
@@ -174,7 +174,7 @@ stands_cases rings ring k s =
     inr (s.1, subst (λ x. s.1 < length x) same s.3, ap (λ x. number_at x s.1) (sym same) ∙ s.4))
     (cases_lt s.0 (length rings))
 
--- the moves of a chain from the one that its last leads back to are a ring
+-- the moves of a chain, from the move that its last leads back to on, are a ring
 pub chain_ring : (nexts : List ℕ) (st : List State) (chain : List ℕ) (k next i : ℕ) → IsMoveChain nexts st (chain ++ k ∷ []) → number_at nexts k ≡ next →
     i < length chain → number_at chain i ≡ next → IsRingOfMoves nexts (drop i (chain ++ k ∷ []))
 chain_ring nexts st chain k next i is next_is low at_i =
@@ -272,19 +272,19 @@ rings_same nexts old st count had same on counts =
     }
 
 -- where no move is pending, what stands in a ring is done
-pub rings_settled : (nexts : List ℕ) (st : List State) (count : ℕ) (had : HasRings nexts st count) → IsSettled st → length st ≡ length nexts →
+pub rings_all_done : (nexts : List ℕ) (st : List State) (count : ℕ) (had : HasRings nexts st count) → HasNonePending st → length st ≡ length nexts →
     AreRingsDone st had.rings
-rings_settled nexts st count had settled many k s =
+rings_all_done nexts st count had none_pending many k s =
     let e : number_at (ring_at had.rings s.0) s.1 ≡ k = s.4 in
     let within : k < length nexts = subst (λ x. x < length nexts) e ((had.each s.0 s.2).inside s.1 s.3) in
-    is_done_else (state_at st k) (had.reached k s) (settled k (omega arith))
+    is_done_else (state_at st k) (had.reached k s) (none_pending k (omega arith))
 
--- the same rings, all done, after a chain was followed from a state in which no move was pending
-pub rings_follow : (nexts : List ℕ) (old st : List State) (count : ℕ) → HasRings nexts old count → IsSettled old → length old ≡ length nexts →
+-- following a chain from a state in which no move was pending leaves the rings that were met, all done
+pub rings_follow : (nexts : List ℕ) (old st : List State) (count : ℕ) → HasRings nexts old count → HasNonePending old → length old ≡ length nexts →
     AreSameDone old st → HasGoneOn old st → length st ≡ length old → (had : HasRings nexts st count) × AreRingsDone st had.rings
 unfolding rings_same
-rings_follow nexts old st count had settled many same on long =
-    (rings_same nexts old st count had same on (count_same old st long same), λ k s. same.stays k (rings_settled nexts old count had settled many k s))
+rings_follow nexts old st count had none_pending many same on long =
+    (rings_same nexts old st count had same on (count_same old st long same), λ k s. same.stays k (rings_all_done nexts old count had none_pending many k s))
 
 -- no move is done
 pub rings_none : (nexts : List ℕ) (n : ℕ) → ((k : ℕ) → state_at (replicate n Todo) k ≡ Todo) → HasRings nexts (replicate n Todo) 0

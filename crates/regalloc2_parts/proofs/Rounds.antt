@@ -19,7 +19,7 @@ written_push : (given : List Ends) (m : Ends) → (m.from ≡ NoPlace → ⊥) �
 unfolding WritesNoneFirst
 written_push given m real had = subst (λ x. WritesNoneFirst x) (sym (reverse-append given (m ∷ []))) (real, λ n. had)
 
--- nor one that writes `none`
+-- a move that writes `none` comes before all emitted moves
 written_close : (given : List Ends) (m : Ends) → (m.from ≡ NoPlace → ⊥) → m.to ≡ NoPlace → HasWrittenFirst (given ++ m ∷ [])
 unfolding WritesNoneFirst
 written_close given m real into = subst (λ x. WritesNoneFirst x) (sym (reverse-append given (m ∷ []))) (real, λ n. absurd (n into))
@@ -121,7 +121,7 @@ module _ (ms : List Ends) (nexts : List ℕ) (apart : AreMovesApart ms) (ns : Ar
       (λ j r e. writers_done ms nexts st k apart ns within ready j r (e ∙ from_same))
       goes.to_is (goes.from_is ∙ sym from_same)
 
-  -- it is not the first of a ring
+  -- the emitted move is not the first of a ring
   pub gives_plain : (st : List State) (chain : List ℕ) (given : List Ends) (k cut first : ℕ) {m : Ends} →
       IsGiving ms nexts st (chain ++ k ∷ []) given cut first → length st ≡ length ms → (k ≡ first → ⊥) → IsFromTo m (from_at ms k) (to_at ms k) →
       IsGiving ms nexts (set st k Done) chain (given ++ m ∷ []) cut first
@@ -163,7 +163,7 @@ module _ (ms : List Ends) (nexts : List ℕ) (apart : AreMovesApart ms) (ns : Ar
         })) is.ring;
       }
 
-  -- it is the first of a ring, which is closed
+  -- the emitted move is the first of a ring, which is closed
   pub gives_first : (st : List State) (chain : List ℕ) (given : List Ends) (k cut first : ℕ) {m last : Ends} →
       IsGiving ms nexts st (chain ++ k ∷ []) given cut first → length st ≡ length ms → k ≡ first → IsFromTo m (from_at ms k) (to_at ms k) →
       IsFromTo last (from_at ms cut) NoPlace → IsGiving ms nexts (set st k Done) chain ((given ++ m ∷ []) ++ last ∷ []) (length ms) (length ms)

@@ -27,9 +27,9 @@ unfolding in_turn
 runs_assign [] c m apart (k, r, e) = absurd (omega arith)
 runs_assign (x ∷ ms) c m apart h = ⊎_elim
     (λ same.
-    let alone : (n : Ends) → Contains ms n → n.to ≡ x.to → ⊥ =
+    let unwritten : (n : Ends) → Contains ms n → n.to ≡ x.to → ⊥ =
     λ n inside e. let a : LeavesAlone x n = All-contains (LeavesAlone x) ms n (λ k d r. apart 0 (suc k) d (omega arith) (omega arith)) inside in a.1 e in
-    ap (λ z. in_turn ms (moved c x.to (c x.from)) z.to) (sym same) ∙ runs_keep ms (moved c x.to (c x.from)) x.to alone ∙
+    ap (λ z. in_turn ms (moved c x.to (c x.from)) z.to) (sym same) ∙ runs_keep ms (moved c x.to (c x.from)) x.to unwritten ∙
     moved_here c x.to x.to (c x.from) refl ∙ ap (λ z. c z.from) same)
     (λ later.
     let a : LeavesAlone x m = All-contains (LeavesAlone x) ms m (λ k d r. apart 0 (suc k) d (omega arith) (omega arith)) later in
@@ -37,7 +37,7 @@ runs_assign (x ∷ ms) c m apart h = ⊎_elim
     moved_other c x.to m.from (c x.from) (λ e. a.0 (sym e)))
     (contains_cases x m ms h)
 
--- moves of which no source is a destination, in any order
+-- moves of which none touches what an earlier one wrote do one after another what they do in parallel
 pub apart_at_once : {X : Type 0} (ms : List Ends) (c : CellsOf X) → AllPairs LeavesAlone ms → AreAtOnce ms c (in_turn ms c)
 apart_at_once ms c apart = record {
   assigned = λ m h. runs_assign ms c m apart h;
@@ -69,14 +69,14 @@ tidied_at_once old new c d fair is had = record {
   kept = λ q real n. had.kept q real (λ m inside e. n m (is.of_old m inside) e);
 }
 
--- a single move
-pub short_alone : (ms : List Ends) → length ms ≤ 1 → AllPairs LeavesAlone ms
-short_alone ms short i j d o r = absurd (omega arith)
+-- no move, or one, touches nothing that an earlier one wrote
+pub short_apart : (ms : List Ends) → length ms ≤ 1 → AllPairs LeavesAlone ms
+short_apart ms short i j d o r = absurd (omega arith)
 
--- no source is a destination
-pub free_alone : (ms : List Ends) (nexts : List ℕ) → AreMovesApart ms → AreNexts ms nexts → ((k : ℕ) → k < length nexts → length nexts ≤ get_or nexts k 0) →
+-- where no source is a destination, no move touches what an earlier one wrote
+pub free_apart : (ms : List Ends) (nexts : List ℕ) → AreMovesApart ms → AreNexts ms nexts → ((k : ℕ) → k < length nexts → length nexts ≤ get_or nexts k 0) →
     AllPairs LeavesAlone ms
-free_alone ms nexts apart ns past i j d o r =
+free_apart ms nexts apart ns past i j d o r =
     let many : length nexts ≡ length ms = ns.as_many in
     let low : i < length ms = omega arith in
     let at_i : get_or ms i d ≡ get_or ms i no_move = get_or_default ms i d no_move low in

@@ -158,13 +158,6 @@ pub record IsTidyTo (ms : List Ends) (last k : ℕ) : Type 0 where
   pub below : (i : ℕ) → i < k → bits_of_place (to_at ms i) ≤ last
   pub away : (i : ℕ) → i < k → bits_of_place (from_at ms i) ≡ bits_of_place (to_at ms i) → ⊥
 
-pub tidy_none : (ms : List Ends) → IsTidyTo ms 0 0
-tidy_none ms = record {
-  rising = λ i j o r. absurd (omega arith);
-  below = λ i r. absurd (omega arith);
-  away = λ i r. absurd (omega arith);
-}
-
 pub tidy_more : (ms : List Ends) (last k : ℕ) → IsTidyTo ms last k → last < bits_of_place (to_at ms k) →
     (bits_of_place (from_at ms k) ≡ bits_of_place (to_at ms k) → ⊥) → IsTidyTo ms (bits_of_place (to_at ms k)) (k + 1)
 tidy_more ms last k had high other = record {
@@ -209,7 +202,7 @@ tidied_permuted old new perm is = record {
   of_new = λ m h n. Contains-permutation old new m perm h;
 }
 
--- after such a clean-up each place has one writer, and no move goes from a place to itself or names none
+-- in a tidied list each place has one writer, and no move goes from a place to itself or names `none`
 pub tidied_apart : (old new : List Ends) → AreFair old → IsTidied old new → AreMovesApart new
 tidied_apart old new fair is = record {
   one_writer = λ j k rj rk e. ⊎_elim
@@ -262,7 +255,7 @@ module _ {T : Type 0} where
       let p : Place × Place × T → Bool = λ m. not (bits_of_place m.0 == bits_of_place m.1) in
       cond_ends (p x) (x ∷ filter p xs) (filter p xs) ∙ rw (filter_ends xs) refl
 
-  -- moves that are sorted by destinations, freed of repeats and of those from a place to itself, are the tidied ones
+  -- moves sorted by destination, without repeats and without moves from a place to itself, are the tidied ones
   pub tidies_ends : (old sorted new : List (Place × Place × T)) → AreProper (ends_of old) → AreFair (ends_of old) → IsPermutation old sorted →
       IsNonDecreasingBy (λ (m : Place × Place × T). bits_of_place m.1) sorted →
       new ≡ filter (λ (m : Place × Place × T). not (bits_of_place m.0 == bits_of_place m.1))

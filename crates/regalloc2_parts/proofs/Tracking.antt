@@ -1,12 +1,12 @@
 -- Lemmas on moves by way of a register.
 use Rattle.std.proofs.Common.{◌≡◌, ◌≢◌, ℕ, List, [], ◌∷◌, ◌++◌, length, get_or, take, ◌+◌, ◌<◌, ◌≤◌, ◌⊎◌, inl, inr, refl, sym, ap, ◌∙◌, subst, ⊎_elim}
-use Rattle.std.specs.Prelude.{Contains, Bool, true, false, Some, None}
+use Rattle.std.specs.Prelude.{Contains, Bool, true, false}
 use Rattle.std.proofs.lemmas.List.Elements.{All-contains, Contains-get_or, Contains-push_cases}
 use Rattle.std.specs.List.{All}
 use Rattle.std.proofs.lemmas.List.{take_more, take_all}
 use Rattle.regalloc2_names.specs.Place.{Place, NoPlace}
-use Rattle.regalloc2_steps.specs.declared.borrowed.Held.{Held}
-use Rattle.regalloc2_steps.specs.declared.borrowed.Held.TheVariants.{Free, InRegister, InBoth, InSave}
+use Rattle.regalloc2_parts.specs.declared.moves.passing.Held.{Held}
+use Rattle.regalloc2_parts.specs.declared.moves.passing.Held.TheVariants.{Free, InRegister, InBoth, InSave}
 use Rattle.regalloc2_parts.specs.AtOnce.{Ends, ends, ends_of, no_move, CellsOf, moved, in_turn}
 use Rattle.regalloc2_parts.specs.Giving.{from_at, to_at}
 use Rattle.regalloc2_parts.specs.Tracking.{Tracks, FreeNeedsNoSave, CanPass, IsUnused, SavesOrRestores, GoesThrough, IsMadeFor, IsMade, stands_where}
@@ -33,7 +33,7 @@ module _ (r s : Place) where
     borrowed = λ differ. moved_here d s s (d r) refl ∙ had.borrowed differ;
   }
 
-  -- so it is once a move from the register to the save slot is pushed
+  -- the register is saved once a move from it to the save slot is pushed
   pub saves_pushed : {T : Type 0} (c d : CellsOf Place) (old new : List (Place × Place × T)) (m : Place × Place × T) → m.0 ≡ r → m.1 ≡ s → new ≡ old ++ m ∷ [] →
       Tracks r s InRegister c (in_turn (ends_of old) d) → Tracks r s InSave c (in_turn (ends_of new) d)
   saves_pushed c d old new m from to e had =
@@ -49,21 +49,13 @@ module _ (r s : Place) where
     borrowed = λ differ. (moved_here d r r (d s) refl ∙ had.borrowed differ, moved_other d r s (d s) differ ∙ had.borrowed differ);
   }
 
-  -- so it is once a move from the save slot to the register is pushed
+  -- the register is restored once a move from the save slot to it is pushed
   pub restores_pushed : {T : Type 0} (c d : CellsOf Place) (old new : List (Place × Place × T)) (m : Place × Place × T) → m.0 ≡ s → m.1 ≡ r → new ≡ old
       ++ m ∷ [] → Tracks r s InSave c (in_turn (ends_of old) d) → Tracks r s InBoth c (in_turn (ends_of new) d)
   restores_pushed c d old new m from to e had =
       subst (λ x. Tracks r s InBoth c x) (sym (pushed old new m e d ∙ ap (λ p. moved (in_turn (ends_of old) d) m.1 (in_turn (ends_of old) d p)) from
       ∙ ap (λ p. moved (in_turn (ends_of old) d) p (in_turn (ends_of old) d s)) to))
       (restores c (in_turn (ends_of old) d) had)
-
-  -- where a move brings the value back, it was in the save slot only
-  pub brought_back : (ends : Place × Place) (h : Held) → (h ≡ InSave → Some ends ≡ Some (s, r)) → (h ≢ InSave → Some ends ≡ None) →
-      (h ≡ InSave) × (ends.0 ≡ s) × (ends.1 ≡ r)
-  brought_back ends Free back other = let no : Some ends ≡ None = other (λ e. cc) in absurd cc
-  brought_back ends InRegister back other = let no : Some ends ≡ None = other (λ e. cc) in absurd cc
-  brought_back ends InBoth back other = let no : Some ends ≡ None = other (λ e. cc) in absurd cc
-  brought_back ends InSave back other = let same : ends ≡ (s, r) = let e = back refl in cc in (refl, ap (λ p. p.0) same, ap (λ p. p.1) same)
 
   -- the register is filled with what passes through it
   fills : (h : Held) (c d : CellsOf Place) (v : Place) → CanPass h → Tracks r s h c d → Tracks r s h c (moved d r v)
@@ -191,17 +183,17 @@ pub added_one : {T : Type 0} (x : Place × Place × T) (old new : List (Place ×
     Contains old x ⊎ (x ≡ m)
 added_one x old new m e h = ⊎_elim (λ l. inl l) (λ r. inr (sym r)) (Contains-push_cases old m x (subst (λ xs. Contains xs x) e h))
 
--- a move that saves the register or restores it is one of those
+-- where a move that saves the register or restores it is pushed, each move is an old one, or saves or restores the register
 pub added_aside : {T : Type 0} (r s : Place) (x : Place × Place × T) (old new : List (Place × Place × T)) (m : Place × Place × T) → SavesOrRestores r s m →
     new ≡ old
     ++ m ∷ [] → Contains new x → Contains old x ⊎ SavesOrRestores r s x
 added_aside r s x old new m aside e h = ⊎_elim (λ l. inl l) (λ is. inr (subst (λ y. SavesOrRestores r s y) (sym is) aside)) (added_one x old new m e h)
 
--- so are the two that make a move by way of the register
-pub added_through : {T : Type 0} (r s : Place) (x m : Place × Place × T) (old one two three : List (Place × Place × T)) →
+-- where the two moves that make a move by way of the register are pushed, each move is an old one, saves or restores the register, or is one of them
+pub added_by_way : {T : Type 0} (r s : Place) (x m : Place × Place × T) (old one two three : List (Place × Place × T)) →
     (Contains one x → Contains old x ⊎ SavesOrRestores r s x) → two ≡ one ++ (m.0, r, m.2) ∷ [] → three ≡ two ++ (r, m.1, m.2) ∷ [] → Contains three x →
     (Contains old x ⊎ SavesOrRestores r s x) ⊎ GoesThrough r m x
-added_through {T} r s x m old one two three was e f h =
+added_by_way {T} r s x m old one two three was e f h =
     let y : Place × Place × T = (m.0, r, m.2) in
     let z : Place × Place × T = (r, m.1, m.2) in
     ⊎_elim
@@ -227,14 +219,14 @@ module _ {T : Type 0} (stack : Place → Bool → Type 0) (r s : Place) (no_stac
     target = inl (inl h.1);
   }
 
-  made_through : (m x : Place × Place × T) → Contains ms m → (m.0 ≢ NoPlace) × (m.1 ≢ NoPlace) → GoesThrough r m x → IsMade stack r s ms x
-  made_through m x inside ends (inl h) = record {
+  made_by_way : (m x : Place × Place × T) → Contains ms m → (m.0 ≢ NoPlace) × (m.1 ≢ NoPlace) → GoesThrough r m x → IsMade stack r s ms x
+  made_by_way m x inside ends (inl h) = record {
     apart = inr (inr (λ a. no_stack (subst (λ p. stack p true) h.1 a)));
     between = ((λ e. ends.0 (sym h.0 ∙ e)), (λ e. real.0 (sym h.1 ∙ e)));
     source = inr (m, inside, h.0);
     target = inl (inl h.1);
   }
-  made_through m x inside ends (inr h) = record {
+  made_by_way m x inside ends (inr h) = record {
     apart = inl (inr (λ a. no_stack (subst (λ p. stack p true) h.0 a)));
     between = ((λ e. real.0 (sym h.0 ∙ e)), (λ e. ends.1 (sym h.1 ∙ e)));
     source = inl (inl h.0);
@@ -252,10 +244,10 @@ module _ {T : Type 0} (stack : Place → Bool → Type 0) (r s : Place) (no_stac
 
   made_step : (passing : Bool) (m x : Place × Place × T) → Contains ms m → (m.0 ≢ NoPlace) × (m.1 ≢ NoPlace) →
       (passing ≡ false → stack m.0 false ⊎ stack m.1 false) → IsMadeFor r passing m x → IsMade stack r s ms x
-  made_step true m x inside ends apart h = made_through m x inside ends h
+  made_step true m x inside ends apart h = made_by_way m x inside ends h
   made_step false m x inside ends apart h = made_itself m x inside ends (apart refl) h
 
-  -- moves that save or restore the register may be added to those that are made for the moves
+  -- moves that save or restore the register may be added to what is made for the moves
   pub made_last : (old new : List (Place × Place × T)) → All (IsMade stack r s ms) old →
       ((x : Place × Place × T) → Contains new x → Contains old x ⊎ SavesOrRestores r s x) → All (IsMade stack r s ms) new
   made_last old new had added k d low = ⊎_elim
@@ -263,7 +255,7 @@ module _ {T : Type 0} (stack : Place → Bool → Type 0) (r s : Place) (no_stac
       (λ a. made_aside (get_or new k d) a)
       (added (get_or new k d) (Contains-get_or new k d low))
 
-  -- and so may be what is made of one more of the moves
+  -- what is made of one more of the moves may be added to what is made for the moves
   pub made_more : (passing : Bool) (m : Place × Place × T) (old new : List (Place × Place × T)) → Contains ms m → (m.0 ≢ NoPlace) × (m.1 ≢ NoPlace) →
       (passing ≡ false → stack m.0 false ⊎ stack m.1 false) → All (IsMade stack r s ms) old →
       ((x : Place × Place × T) → Contains new x → (Contains old x ⊎ SavesOrRestores r s x) ⊎ IsMadeFor r passing m x) → All (IsMade stack r s ms) new

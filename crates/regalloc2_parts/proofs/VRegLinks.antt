@@ -12,7 +12,7 @@ use Rattle.regalloc2_names.specs.Register.{VirtualRegister, invalid_vreg}
 use Rattle.regalloc2_parts.specs.declared.vregset.VRegNode.{VRegNode}
 use Rattle.regalloc2_parts.specs.LiveList.{NamesEachOnce}
 use Rattle.regalloc2_parts.specs.Links.{IsFewLinksApart, IsRing, IsWalk, LacksNumber, Leads, changed, walked_links}
-use Rattle.regalloc2_parts.specs.VRegNodes.{IsVRegList, Lists, vreg_changed_links, members_of, nexts, vreg_ring_numbers, prevs, rest_from, vregs, vregs_at}
+use Rattle.regalloc2_parts.specs.VRegNodes.{IsVRegList, Lists, vreg_changed_links, vreg_limit, members_of, nexts, vreg_ring_numbers, prevs, rest_from, vregs, vregs_at}
 use Rattle.regalloc2_parts.proofs.Numbers.{differs, each_without, flip, lacks, of_member, without}
 use Rattle.regalloc2_parts.proofs.Linked.{next_of_member, prev_of_member}
 use Rattle.regalloc2_parts.proofs.LinkRings.{IsRing-inserted, IsRing-removed, around, head_links, ring_walked, step, walked-end}
@@ -26,7 +26,7 @@ vreg_at nodes n = slice_index_or (vregs nodes) n invalid_vreg
 abbrev pub AreNamed : List VRegNode → List ℕ → Type 0
 AreNamed nodes ns = AllByRecursion (λ n. (slice_index_or (vregs nodes) n invalid_vreg).number ≡ n) ns
 
-lists : (nodes : List VRegNode) (h : ℕ) (xs : List ℕ) (members : List VirtualRegister) → h ≤ 1073741824 → length nodes ≡ h + 1 →
+lists : (nodes : List VRegNode) (h : ℕ) (xs : List ℕ) (members : List VirtualRegister) → h ≤ vreg_limit → length nodes ≡ h + 1 →
     IsRing (nexts nodes) (prevs nodes) h xs →
     AreNamed nodes xs → vregs_at nodes xs ≡ members → Lists nodes h members
 lists nodes h xs members small long ring named e =
@@ -41,7 +41,7 @@ lists nodes h xs members small long ring named e =
       are = ap (λ l. vregs_at nodes l) same ∙ e;
     }
 
--- a written node tells nothing of the others
+-- writing a node leaves all other nodes
 vregs_kept : (old new : List VRegNode) (v : ℕ) (vreg : VirtualRegister) (xs : List ℕ) → vregs new ≡ slice_set (vregs old) v vreg → LacksNumber v xs →
     vregs_at new xs ≡ vregs_at old xs
 vregs_kept old new v vreg [] e l = refl
@@ -75,7 +75,7 @@ nexts-linked nodes a b d e =
     map-set_same (λ (n : VRegNode). n.next) first b (record { prev = a; next = y.next; vreg = y.vreg }) e refl
     ∙ map-set (λ (n : VRegNode). n.next) nodes a (record { prev = x.prev; next = b; vreg = x.vreg })
 
--- and b's link to the one before
+-- linking a before b sets b's link to the one before
 pub prevs-linked : (nodes : List VRegNode) (a b : ℕ) (d e : VRegNode) → prevs (linked nodes a b d e) ≡ slice_set (prevs nodes) b a
 prevs-linked nodes a b d e =
     let x : VRegNode = slice_index_or nodes a d in
@@ -84,7 +84,7 @@ prevs-linked nodes a b d e =
     map-set (λ (n : VRegNode). n.prev) first b (record { prev = a; next = y.next; vreg = y.vreg })
     ∙ ap (λ l. slice_set l b a) (map-set_same (λ (n : VRegNode). n.prev) nodes a (record { prev = x.prev; next = b; vreg = x.vreg }) d refl)
 
--- and leaves the vregs as they are
+-- linking two nodes leaves the vregs as they are
 pub vregs-linked : (nodes : List VRegNode) (a b : ℕ) (d e : VRegNode) → vregs (linked nodes a b d e) ≡ vregs nodes
 vregs-linked nodes a b d e =
     let x : VRegNode = slice_index_or nodes a d in
@@ -114,7 +114,7 @@ written nodes v vreg d =
 pub next_at : (nodes : List VRegNode) (k : ℕ) (x : VRegNode) → k < length nodes → x ≡ slice_index_or nodes k x → slice_index (nexts nodes) k ≡ x.next
 next_at nodes k x less is = get_or-map (λ (n : VRegNode). n.next) nodes k x 0 less ∙ ap (λ (n : VRegNode). n.next) (sym is)
 
--- and its link to the one before
+-- the link of a node to the one before, in the lists of links
 pub prev_at : (nodes : List VRegNode) (k : ℕ) (x : VRegNode) → k < length nodes → x ≡ slice_index_or nodes k x → slice_index (prevs nodes) k ≡ x.prev
 prev_at nodes k x less is = get_or-map (λ (n : VRegNode). n.prev) nodes k x 0 less ∙ ap (λ (n : VRegNode). n.prev) (sym is)
 
@@ -219,7 +219,7 @@ vregs_without nodes p (x ∷ xs) n =
     by_test true e = ap (λ l. vreg_at nodes x ∷ l) e
     by_test false e = e
 
--- once a member's two neighbours are linked, the list has all members but this one
+-- once a member's two neighbours are linked, the list has all other members
 pub node_removed : (old new : List VRegNode) (h p : ℕ) (x : VRegNode) → IsVRegList old h → Contains (vreg_ring_numbers old h) p → x ≡ slice_index_or old p x →
     nexts new ≡ slice_set (nexts old) x.prev x.next → prevs new ≡ slice_set (prevs old) x.next x.prev → vregs new ≡ vregs old →
     Lists new h (filter (λ v. not (nat_eq v.number p)) (members_of old h))
@@ -303,7 +303,7 @@ member_number nodes h k list (i, v, less, at, e) = there (vreg_ring_numbers node
     there (y ∷ ys) n (suc i) v less at e = let m = there ys n.1 i v (omega arith) at e in (suc m.0, omega (arith, m.1), m.2)
 
 -- a new list
-pub new_list : (nodes : List VRegNode) (h : ℕ) (node : VRegNode) → h ≤ 1073741824 → nodes ≡ replicate (h + 1) node → node.prev ≡ h → node.next ≡ h →
+pub new_list : (nodes : List VRegNode) (h : ℕ) (node : VRegNode) → h ≤ vreg_limit → nodes ≡ replicate (h + 1) node → node.prev ≡ h → node.next ≡ h →
     Lists nodes h []
 unfolding Leads IsDistinct
 new_list nodes h node small e prev next =

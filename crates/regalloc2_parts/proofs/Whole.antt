@@ -9,7 +9,7 @@ use Rattle.regalloc2_parts.specs.AtOnce.{Ends, WritesNoneFirst}
 use Rattle.regalloc2_parts.specs.declared.moves.order.State.{State}
 use Rattle.regalloc2_parts.specs.declared.moves.order.State.TheVariants.{Todo, Pending, Done}
 use Rattle.regalloc2_parts.specs.Giving.{state_at, number_at, origin, HasGiven, HasGivenWhole, HasRings, IsOrder, is_done, IsNextDone, LeadsTo}
-use Rattle.regalloc2_parts.specs.Giving.{HasGoneOn, IsGivenOut, AreSameDone, IsSettled, TakesFrom}
+use Rattle.regalloc2_parts.specs.Giving.{HasGoneOn, IsGivenOut, AreSameDone, HasNonePending, TakesFrom}
 use Rattle.regalloc2_parts.proofs.Orders.{source_other, gives_none}
 use Rattle.regalloc2_parts.proofs.Chains.{todo_done, todo_pending, is_done_else}
 use Rattle.regalloc2_parts.proofs.Rings.{rings_same, rings_none, count_same, count_all}
@@ -22,7 +22,7 @@ had_along cut ms old st given had same = record {
   closed = λ k j r inside done is. same.stays j (had.closed k j r inside (same.was k done) is);
 }
 
--- so does the whole invariant of emission, where moves that aren't `Todo` stay so
+-- the whole invariant of emission depends on which moves are `Done` alone, where moves that aren't `Todo` stay so
 pub whole_along : (ms : List Ends) (nexts : List ℕ) (old st : List State) (given : List Ends) → HasGivenWhole ms nexts old given → AreSameDone old st →
     HasGoneOn old st → length st ≡ length old → HasGivenWhole ms nexts st given
 whole_along ms nexts old st given had same on many = record {
@@ -59,15 +59,15 @@ begins ms nexts = record {
 }
 
 -- before anything is emitted no move is `Pending`
-pub begins_settled : (n : ℕ) → IsSettled (replicate n Todo)
-begins_settled n k r e = todo_pending (state_at (replicate n Todo) k) (all_todo n k) e
+pub begins_none_pending : (n : ℕ) → HasNonePending (replicate n Todo)
+begins_none_pending n k r e = todo_pending (state_at (replicate n Todo) k) (all_todo n k) e
 
 -- all moves are given out
-pub gives_all : (ms : List Ends) (st : List State) (given : List Ends) → HasGiven (length ms) ms st given → length st ≡ length ms → IsSettled st →
+pub gives_all : (ms : List Ends) (st : List State) (given : List Ends) → HasGiven (length ms) ms st given → length st ≡ length ms → HasNonePending st →
     ((k : ℕ) → k < length ms → state_at st k ≡ Todo → ⊥) → (q : Place) → (q ≡ NoPlace → ⊥) → TakesFrom ms q (origin given q)
-gives_all ms st given had same settled none_todo q real =
+gives_all ms st given had same none_pending none_todo q real =
     record {
-      written = λ k r e. ap (origin given) (sym e) ∙ had.gave k r (is_done_else (state_at st k) (none_todo k r) (settled k (omega arith))) ∙
+      written = λ k r e. ap (origin given) (sym e) ∙ had.gave k r (is_done_else (state_at st k) (none_todo k r) (none_pending k (omega arith))) ∙
           source_other (length ms) ms k (λ f. absurd (omega arith));
       unwritten = λ n. had.kept q real (λ k r done e. n k r e);
     }
@@ -84,7 +84,7 @@ none_todo_more st new start before on here k r e = ⊎_elim
 pub record HasGivenTo (ms : List Ends) (nexts : List ℕ) (st : List State) (given : List Ends) (chain : List ℕ) (start : ℕ) : Type 0 where
   pub as_many : length st ≡ length ms
   pub had : HasGivenWhole ms nexts st given
-  pub settled : IsSettled st
+  pub none_pending : HasNonePending st
   pub empty : chain ≡ []
   pub passed : (k : ℕ) → k < start → state_at st k ≡ Todo → ⊥
 
@@ -94,19 +94,19 @@ pub given_none : (ms : List Ends) (nexts : List ℕ) (st : List State) (given : 
 given_none ms nexts st given chain e f g = record {
   as_many = ap length e ∙ length-replicate (length ms) Todo;
   had = subst (λ x. HasGivenWhole ms nexts x given) (sym e) (subst (λ x. HasGivenWhole ms nexts (replicate (length ms) Todo) x) (sym f) (begins ms nexts));
-  settled = subst (λ x. IsSettled x) (sym e) (begins_settled (length ms));
+  none_pending = subst (λ x. HasNonePending x) (sym e) (begins_none_pending (length ms));
   empty = g;
   passed = λ k r. absurd (omega arith);
 }
 
--- the loop's invariant goes on to the next move once the chain that begins at this one is emitted
+-- the loop's invariant goes on to the next move once the chain that begins at `start` is emitted
 pub given_more : (ms : List Ends) (nexts : List ℕ) (st new : List State) (given : List Ends) (chain old : List ℕ) (start : ℕ) (more : List Ends) →
-    HasGivenTo ms nexts st given old start → length new ≡ length ms → HasGivenWhole ms nexts new more → IsSettled new → chain ≡ [] → HasGoneOn st new →
+    HasGivenTo ms nexts st given old start → length new ≡ length ms → HasGivenWhole ms nexts new more → HasNonePending new → chain ≡ [] → HasGoneOn st new →
     (state_at new start ≡ Todo → ⊥) → HasGivenTo ms nexts new more chain (start + 1)
-given_more ms nexts st new given chain old start more was many had settled empty on here = record {
+given_more ms nexts st new given chain old start more was many had none_pending empty on here = record {
   as_many = many;
   had = had;
-  settled = settled;
+  none_pending = none_pending;
   empty = empty;
   passed = none_todo_more st new start was.passed on here;
 }
@@ -115,7 +115,7 @@ given_more ms nexts st new given chain old start more was many had settled empty
 pub given_passed : (ms : List Ends) (nexts : List ℕ) (st : List State) (given : List Ends) (chain : List ℕ) (start : ℕ) →
     HasGivenTo ms nexts st given chain start → (state_at st start ≡ Todo → ⊥) → HasGivenTo ms nexts st given chain (start + 1)
 given_passed ms nexts st given chain start was here =
-    given_more ms nexts st st given chain chain start given was was.as_many was.had was.settled was.empty (λ k n. n) here
+    given_more ms nexts st st given chain chain start given was was.as_many was.had was.none_pending was.empty (λ k n. n) here
 
 -- all moves are given out
 pub given_whole : (ms : List Ends) (nexts : List ℕ) (st : List State) (given : List Ends) (chain : List ℕ) → length nexts ≡ length ms →
@@ -123,13 +123,13 @@ pub given_whole : (ms : List Ends) (nexts : List ℕ) (st : List State) (given :
 given_whole ms nexts st given chain many was =
     let all_done : (k : ℕ) → k < length st → state_at st k ≡ Done = λ k r.
     let same : length st ≡ length ms = was.as_many in
-    is_done_else (state_at st k) (was.passed k (omega arith)) (was.settled k r) in
+    is_done_else (state_at st k) (was.passed k (omega arith)) (was.none_pending k r) in
     let counts : count_by is_done st ≡ length st = count_all st all_done in
     let r : HasRings nexts st (length given) = was.had.rings in
     let counted : length given ≡ count_by is_done st + length r.rings = r.counted in
     let same : length st ≡ length ms = was.as_many in
     record {
-      takes = gives_all ms st given was.had.had was.as_many was.settled was.passed;
+      takes = gives_all ms st given was.had.had was.as_many was.none_pending was.passed;
       rings = r.rings;
       each = r.each;
       apart = r.apart;
@@ -144,6 +144,6 @@ pub given_on : {T : Type 0} (moves : List (Place × Place × T)) (nexts : List �
     (start : ℕ) → HasGoneOn old mid → (state_at mid start ≡ Todo → ⊥) → IsGivenOut moves nexts mid new chain given → IsGivenOut moves nexts old new chain given
     × (state_at new start ≡ Todo → ⊥)
 given_on moves nexts old mid new chain given start on begun h = (
-  record { had = h.had; settled = h.settled; empty = h.empty; goes_on = λ k n. h.goes_on k (on k n); of_moves = h.of_moves },
+  record { had = h.had; none_pending = h.none_pending; empty = h.empty; goes_on = λ k n. h.goes_on k (on k n); of_moves = h.of_moves },
   h.goes_on start begun,
 )

@@ -47,8 +47,8 @@ own_names q = q
 abbrev pub HasOneSourceEach : List Ends → Type 0
 HasOneSourceEach ms = (a b : Ends) → Contains ms a → Contains ms b → a.to ≡ b.to → a.from ≡ b.from
 
--- A move of a list that was made of the moves ms: one of them, or one with `none` as an end. It carries the value of the one that has its
--- destination.
+-- A move of a list that was made of the moves ms: one of them, or a move with `none` as an end. It carries the value of the move of ms that has
+-- its destination.
 abbrev pub IsOfMoves : {T : Type 0} → List (Place × Place × T) → Place × Place × T → Type 0
 IsOfMoves {T} ms m =
     ((m.1 ≡ NoPlace) × (n : Place × Place × T) × Contains ms n × (m.0 ≡ n.0))

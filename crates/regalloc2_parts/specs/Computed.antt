@@ -7,9 +7,9 @@ use Rattle.regalloc2_parts.specs.declared.moves.MoveFault.{MoveFault}
 use Rattle.regalloc2_parts.specs.declared.moves.MoveFault.TheVariants.{NoSlot}
 use Rattle.regalloc2_parts.specs.declared.moves.scratch.Handed.{Handed}
 use Rattle.regalloc2_parts.specs.declared.moves.scratch.Handed.TheVariants.{Register, Slot}
-use Rattle.regalloc2_steps.specs.declared.borrowed.Held.{Held}
-use Rattle.regalloc2_steps.specs.declared.borrowed.Held.TheVariants.{Free, InRegister as Borrowed}
-use Rattle.regalloc2_steps.specs.declared.borrowed.ScratchReg.{ScratchReg}
+use Rattle.regalloc2_parts.specs.declared.moves.passing.Held.{Held}
+use Rattle.regalloc2_parts.specs.declared.moves.passing.Held.TheVariants.{Free, InRegister as Borrowed}
+use Rattle.regalloc2_parts.specs.declared.moves.passing.ScratchReg.{ScratchReg}
 use Rattle.regalloc2_parts.specs.declared.moves.scratch.MoveAndScratchResolver.{MoveAndScratchResolver}
 use Rattle.regalloc2_parts.specs.declared.moves.resolved.MoveVecWithScratch.{MoveVecWithScratch}
 use Rattle.regalloc2_parts.specs.AtOnce.{ends_of, own_names, in_turn}
@@ -22,7 +22,7 @@ module _ {G : Type 0} (step : G → Option Place → G → Type 0) where
     pub few : length answers ≤ 2
     pub calls : FoldsTo step old answers new
 
-  -- it may be called in the state s, and once more after that, where pre says in which states it may be called
+  -- the closure may be called in the state s, and once more after that, where pre says in which states it may be called
   abbrev pub MayBeAskedTwice : (G → Type 0) → G → Type 0
   MayBeAskedTwice pre s = pre s × ((a : Option Place) (t : G) → step s a t → pre t)
 
@@ -50,7 +50,7 @@ pub record Owes {F G T : Type 0} (registers : F → Option Place → F → Type 
   pub no_memory : (p : Place) → MayAnswer registers f p → stack p true → ⊥
   pub borrowed_no_memory : stack borrowed true → ⊥
 
--- What a resolver requires: its closures may be called, those that hand out places twice each, and serve the moves, and the moves can be made.
+-- What a resolver requires: its closures may be called, twice if they hand out places, and serve the moves, and the moves can be made.
 pub record CanCompute {F G H T A : Type 0} (register_step : F → Option Place → F → Type 0) (register_pre : F → Type 0)
     (slot_step : G → Option Place → G → Type 0) (slot_pre : G → Type 0) (stack_post : H → Place → Bool → Type 0) (is_callable : H → Type 0)
     (resolver : MoveAndScratchResolver F G H) (moves : MoveVecWithScratch T A) : Type 0 where
@@ -105,10 +105,10 @@ IsEitherAway stack p q = IsAway stack p ⊎ IsAway stack q
 -- A move made of the given ones.
 pub record IsComputedMove {T : Type 0} (are_apart : Place → Place → Type 0) (lent : Place → Type 0) (given : List (Place × Place × T))
     (m : Place × Place × T) : Type 0 where
-  -- it is from a place to a place, one of them no stack place
+  -- from a place to a place, one of them no stack place
   pub apart : are_apart m.0 m.1
   pub between : (m.0 ≢ NoPlace) × (m.1 ≢ NoPlace)
-  -- its ends are those of given moves, or scratch places; where it ends as a given move does, it carries that one's value
+  -- each of its ends is an end of a given move or a scratch place; with the destination of a given move it carries that move's value
   pub source : lent m.0 ⊎ ((n : Place × Place × T) × Contains given n × (m.0 ≡ n.0))
   pub target : lent m.1 ⊎ ((n : Place × Place × T) × Contains given n × (m.1 ≡ n.1) × (m.2 ≡ n.2))
 

@@ -46,7 +46,7 @@ pub record IsWriterOf (ms : List Ends) (place : Place) (found : ℕ) : Type 0 wh
   pub writes : found < length ms → to_at ms found ≡ place
   pub absent : (found < length ms → ⊥) → (j : ℕ) → j < length ms → to_at ms j ≡ place → ⊥
 
--- for each move, the one that writes what it reads, or past the end if there is none
+-- the next of each move: the move that writes what it reads, or past the end if there is none
 pub record AreNexts (ms : List Ends) (nexts : List ℕ) : Type 0 where
   pub as_many : length nexts ≡ length ms
   pub found : (k : ℕ) → k < length ms → number_at nexts k < length ms → to_at ms (number_at nexts k) ≡ from_at ms k
@@ -62,7 +62,7 @@ pub record HasGiven (cut : ℕ) (ms : List Ends) (st : List State) (given : List
 abbrev pub IsNextDone : List ℕ → List State → ℕ → Type 0
 IsNextDone nexts st k = number_at nexts k < length nexts → state_at st (number_at nexts k) ≡ Done
 
--- each of the moves is followed by the one that writes what it reads, and they are those that are pending
+-- a chain of moves: each is followed by its next, and the pending moves are just the moves of the chain
 pub record IsMoveChain (nexts : List ℕ) (st : List State) (chain : List ℕ) : Type 0 where
   pub inside : (i : ℕ) → i < length chain → number_at chain i < length nexts
   pub pending : (i : ℕ) → i < length chain → state_at st (number_at chain i) ≡ Pending
@@ -80,7 +80,7 @@ is_done Todo = false
 is_done Pending = false
 is_done Done = true
 
--- a ring of moves, by their indexes: each is followed by the one that writes what it reads, and the last by the first
+-- a ring of moves, by their indexes: each is followed by its next, and the first is the next of the last
 pub record IsRingOfMoves (nexts ring : List ℕ) : Type 0 where
   pub many : 2 ≤ length ring
   pub inside : (i : ℕ) → i < length ring → number_at ring i < length nexts
@@ -157,14 +157,14 @@ pub record HasGivenWhole (ms : List Ends) (nexts : List ℕ) (st : List State) (
   pub plain : IsPlain st given
 
 -- no move is pending
-abbrev pub IsSettled : List State → Type 0
-IsSettled st = (k : ℕ) → k < length st → state_at st k ≡ Pending → ⊥
+abbrev pub HasNonePending : List State → Type 0
+HasNonePending st = (k : ℕ) → k < length st → state_at st k ≡ Pending → ⊥
 
 -- what was not `Todo` at first isn't now
 abbrev pub HasGoneOn : List State → List State → Type 0
 HasGoneOn old new = (k : ℕ) → (state_at old k ≡ Todo → ⊥) → state_at new k ≡ Todo → ⊥
 
--- the same moves are done
+-- just the moves that were done before are done now
 pub record AreSameDone (old new : List State) : Type 0 where
   pub stays : (k : ℕ) → state_at old k ≡ Done → state_at new k ≡ Done
   pub was : (k : ℕ) → state_at new k ≡ Done → state_at old k ≡ Done
@@ -173,7 +173,7 @@ pub record AreSameDone (old new : List State) : Type 0 where
 pub record IsGivenOut {T : Type 0} (moves : List (Place × Place × T)) (nexts : List ℕ) (old new : List State) (chain : List ℕ)
     (given : List (Place × Place × T)) : Type 0 where
   pub had : HasGivenWhole (ends_of moves) nexts new (ends_of given)
-  pub settled : IsSettled new
+  pub none_pending : HasNonePending new
   pub empty : chain ≡ []
   pub goes_on : HasGoneOn old new
   pub of_moves : All (IsOfMoves moves) given
@@ -181,7 +181,7 @@ pub record IsGivenOut {T : Type 0} (moves : List (Place × Place × T)) (nexts :
 -- a chain can be followed from the move `at` on
 pub record CanFollow (nexts : List ℕ) (st : List State) (chain : List ℕ) (at : ℕ) : Type 0 where
   pub as_many : length st ≡ length nexts
-  pub settled : IsSettled st
+  pub none_pending : HasNonePending st
   pub empty : chain ≡ []
   pub start : state_at st at ≡ Todo
   pub within : at < length nexts
@@ -218,7 +218,7 @@ pub record CanBegin {T : Type 0} (moves : List (Place × Place × T)) (ks : List
   pub as_many : length st ≡ length moves
   pub indexed : length ks ≡ length moves
   pub had : HasGivenWhole (ends_of moves) ks st (ends_of given)
-  pub settled : IsSettled st
+  pub none_pending : HasNonePending st
   pub empty : chain ≡ []
   pub start : state_at st at ≡ Todo
   pub within : at < length moves
@@ -229,7 +229,7 @@ pub record TakesFrom (ms : List Ends) (q p : Place) : Type 0 where
   pub written : (k : ℕ) → k < length ms → to_at ms k ≡ q → p ≡ from_at ms k
   pub unwritten : ((k : ℕ) → k < length ms → to_at ms k ≡ q → ⊥) → p ≡ q
 
--- all moves were emitted, and the rings among them are those that were met
+-- all moves were emitted, and `rings` are all rings among them
 pub record IsOrder (ms : List Ends) (nexts : List ℕ) (given : List Ends) : Type 0 where
   pub takes : (q : Place) → (q ≡ NoPlace → ⊥) → TakesFrom ms q (origin given q)
   pub rings : List (List ℕ)
@@ -249,7 +249,7 @@ AreProper ms = (m : Ends) → Contains ms m → IsPlace m.from × IsPlace m.to
 abbrev pub Below : Ends → Ends → Type 0
 Below x y = bits_of_place x.to < bits_of_place y.to
 
--- the same moves once each, in order of their destinations, without those that change nothing
+-- a list of moves with each move once, in order of their destinations, without the moves that change nothing
 pub record IsTidied (old new : List Ends) : Type 0 where
   pub strict : AllPairs Below new
   pub away : (m : Ends) → Contains new m → m.from ≡ m.to → ⊥

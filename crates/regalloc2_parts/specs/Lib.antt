@@ -1,7 +1,6 @@
 -- Operand filters, the LRU list, the list of live vregs, and resolvers of parallel moves.
 -- Read first: `AtOnce`, parallel moves; their resolvers, `Resolved` and `Computed`; `Ring`, `LiveList`, `Picked`.
--- Depends on regalloc2_names and on `Frame`, a call's registers, of regalloc2_steps. `IsFewLinksApart`
--- in `Links` bounds the links that change. `Giving`, `Tracking`, `Steps`, `RingNodes` and `VRegNodes` are private steps of these.
+-- Depends on regalloc2_names. `IsFewLinksApart` in `Links` bounds the links that change. `Giving`, `Tracking`, `Steps`, `RingNodes` and `VRegNodes` are private steps of these.
 pub mod AtOnce
 pub mod Callmoves
 pub mod Computed

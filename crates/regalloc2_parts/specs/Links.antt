@@ -2,23 +2,23 @@
 use Rattle.std.specs.Prelude.{ℕ, zero, suc, ◌≡◌, ◌+◌, ◌<◌, ◌≤◌, cond, nat_eq, false, List, [], ◌∷◌, length, slice_index}
 use Rattle.std.specs.List.{AllByRecursion, IsDistinct}
 
--- from one number the links lead over those of a list, in its order, to another, and from each back to the one before it
+-- from one number the links lead over the numbers of a list, in its order, to another, and from each number back to the number before it
 unfoldable pub Leads : List ℕ → List ℕ → ℕ → List ℕ → ℕ → Type 0
 Leads nexts prevs from [] to = (slice_index nexts from ≡ to) × (slice_index prevs to ≡ from)
 Leads nexts prevs from (x ∷ xs) to = (slice_index nexts from ≡ x) × (slice_index prevs x ≡ from) × Leads nexts prevs x xs to
 
--- none of a list's numbers is this one
+-- the list lacks the number n
 abbrev pub LacksNumber : ℕ → List ℕ → Type 0
 LacksNumber n xs = AllByRecursion (λ x. nat_eq n x ≡ false) xs
 
--- the links stand for a ring: the head, then the others, none of them twice, and the head again
+-- the links represent a ring: the head, then `others`, none of them twice, and the head again
 pub record IsRing (nexts prevs : List ℕ) (head : ℕ) (others : List ℕ) : Type 0 where
   pub leads : Leads nexts prevs head others head
   pub distinct : IsDistinct nat_eq (head ∷ others)
   pub below : AllByRecursion (λ n. n < length nexts) (head ∷ others)
   pub long : length prevs ≡ length nexts
 
--- the numbers from one on, each followed by the one that its link names, up to another that isn't among them; at most so many
+-- the numbers from `at` on, each followed by the number that its link names, up to `stop`, which isn't among them; at most `most`
 unfoldable pub walked_at_most : ℕ → List ℕ → ℕ → ℕ → List ℕ
 walked_at_most zero links stop at = []
 walked_at_most (suc most) links stop at = cond (nat_eq stop at) [] (at ∷ walked_at_most most links stop (slice_index links at))
@@ -26,7 +26,7 @@ walked_at_most (suc most) links stop at = cond (nat_eq stop at) [] (at ∷ walke
 abbrev pub walked_links : List ℕ → ℕ → ℕ → List ℕ
 walked_links links stop at = walked_at_most (length links) links stop at
 
--- the links of one direction lead from a number over those of a list to another
+-- the links of one direction lead from the number `at` over the numbers of a list to `stop`
 unfoldable pub LeadsOneWay : List ℕ → ℕ → List ℕ → ℕ → Type 0
 LeadsOneWay links at [] stop = at ≡ stop
 LeadsOneWay links at (x ∷ xs) stop = (at ≡ x) × LeadsOneWay links (slice_index links x) xs stop

@@ -3,7 +3,7 @@ use Rattle.std.specs.Prelude.{ℕ, ◌<◌, List, All, map, nat_eq}
 use Rattle.std.specs.List.{IsDistinct}
 use Rattle.regalloc2_names.specs.Register.{VirtualRegister}
 
--- its members, the last inserted first, and the bound of their numbers
+-- the members, the last inserted first, and the bound of their numbers
 pub record LiveList : Type 0 where
   pub members : List VirtualRegister
   pub capacity : ℕ

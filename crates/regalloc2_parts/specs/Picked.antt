@@ -15,7 +15,7 @@ abbrev pub is_def_kind : OperandKind → Bool
 is_def_kind kinds.Def = true
 is_def_kind kinds.Use = false
 
--- it writes its vreg
+-- an operand that writes its vreg
 abbrev pub is_def_operand : OperandValue → Bool
 is_def_operand o = is_def_kind o.kind
 
@@ -23,7 +23,7 @@ abbrev pub is_use_kind : OperandKind → Bool
 is_use_kind kinds.Def = false
 is_use_kind kinds.Use = true
 
--- it reads its vreg
+-- an operand that reads its vreg
 abbrev pub is_use_operand : OperandValue → Bool
 is_use_operand o = is_use_kind o.kind
 
@@ -31,7 +31,7 @@ abbrev pub stands_late : OperandPos → Bool
 stands_late positions.Early = false
 stands_late positions.Late = true
 
--- it holds its place after the instruction's early part
+-- an operand that holds its place after the instruction's early part
 abbrev pub is_late_operand : OperandValue → Bool
 is_late_operand o = stands_late o.position
 
@@ -39,7 +39,7 @@ abbrev pub stands_early : OperandPos → Bool
 stands_early positions.Early = true
 stands_early positions.Late = false
 
--- it holds its place in the instruction's early part
+-- an operand that holds its place in the instruction's early part
 abbrev pub is_early_operand : OperandValue → Bool
 is_early_operand o = stands_early o.position
 
@@ -51,7 +51,7 @@ asks_reuse (FixedReg r) = false
 asks_reuse (Reuse i) = true
 asks_reuse (Limit n) = false
 
--- it takes the place of another operand
+-- an operand that takes the place of another operand
 abbrev pub is_reuse_operand : OperandValue → Bool
 is_reuse_operand o = asks_reuse o.constraint
 
@@ -63,7 +63,7 @@ asks_by_name (FixedReg r) = true
 asks_by_name (Reuse i) = false
 asks_by_name (Limit n) = false
 
--- it is fixed to a register
+-- an operand that is fixed to a register
 abbrev pub is_fixed_operand : OperandValue → Bool
 is_fixed_operand o = asks_by_name o.constraint
 
@@ -75,7 +75,7 @@ asks_any_reg (FixedReg r) = false
 asks_any_reg (Reuse i) = false
 asks_any_reg (Limit n) = false
 
--- it requires a register, any one
+-- an operand that requires a register, any one
 abbrev pub is_any_reg_operand : OperandValue → Bool
 is_any_reg_operand o = asks_any_reg o.constraint
 
@@ -89,9 +89,10 @@ accepts picks.AnyReg o = is_any_reg_operand o
 accepts picks.Late o = is_late_operand o
 accepts picks.Early o = is_early_operand o
 
--- the operands that pass a test, each with its index, in order: those from an index on, and all
+-- the operands that pass a test, each with its index, in order: from the index i on
 abbrev pub left_from : (OperandValue → Bool) → ℕ → List OperandValue → List (ℕ × OperandValue)
 left_from test i operands = filter (λ x. test x.1) (enumerate_from i (drop i operands))
 
+-- the operands that pass a test, each with its index, in order
 abbrev pub picked : (OperandValue → Bool) → List OperandValue → List (ℕ × OperandValue)
 picked test operands = filter (λ x. test x.1) (enumerate_from 0 operands)

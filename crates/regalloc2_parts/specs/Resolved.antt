@@ -22,7 +22,7 @@ pub record IsResolution {T : Type 0} (ms : List (Place × Place × T)) (scratch 
   pub counted : 2 ≤ length ms → IsCounted (ends_of ms) (length made)
   -- no move, or one, comes back as it is
   pub short : length ms ≤ 1 → made ≡ ms
-  -- which move and which value each of them has
+  -- where each move that is made, and its value, come from
   pub of_moves : All (IsOfMoves ms) made
   -- no move names `none`, or `none` is written before it is read
   pub plain : scratch ≡ false → AreBetweenPlaces made

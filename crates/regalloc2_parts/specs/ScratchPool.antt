@@ -23,7 +23,7 @@ Moves = List (Place × Place × Unit {0})
 abbrev pub IsOfScratchPair : ScratchPair → Place → Type 0
 IsOfScratchPair pair p = (pair.first ≡ Some p) ⊎ (pair.second ≡ Some p)
 
--- and one of the first so many
+-- the place is one of the first `taken` of the two
 abbrev pub IsScratchTaken : ScratchPair → ℕ → Place → Type 0
 IsScratchTaken pair taken p = ((pair.first ≡ Some p) × (1 ≤ taken)) ⊎ ((pair.second ≡ Some p) × (2 ≤ taken))
 
@@ -58,7 +58,7 @@ pub record IsUsableFor (l : ScratchPool) (ms : Moves) : Type 0 where
   pub slots_in_order : l.slots.first ≡ None → l.slots.second ≡ None
   pub borrowed : has_register l.fixed_stack l.borrowed ≡ false
 
--- The moves `made`, one after another, do what the given ones do, except in scratch places: all registers, and the first so many slots.
+-- The moves `made`, one after another, do what the given ones do, except in scratch places: all registers, and the first `taken` slots.
 pub record IsOrderedWith (l : ScratchPool) (taken : ℕ) (given made : Moves) : Type 0 where
   pub same : (q : Place) → q ≢ NoPlace → (IsOfScratchPair l.registers q → ⊥) → (IsScratchTaken l.slots taken q → ⊥) →
       in_turn (ends_of made) own_names q ≡ in_turn (ends_of given) own_names q
@@ -70,7 +70,7 @@ pub record IsOrderedWith (l : ScratchPool) (taken : ℕ) (given made : Moves) : 
 abbrev pub HasTooFewSlots : ScratchPair → Type 0
 HasTooFewSlots pair = (pair.first ≡ None) ⊎ (pair.second ≡ None)
 
--- so many exist
+-- the pair has the first `taken` places
 abbrev pub AreThere : ScratchPair → ℕ → Type 0
 AreThere pair taken = (taken ≤ 2) × (1 ≤ taken → (p : Place) × (pair.first ≡ Some p)) × (2 ≤ taken → (p : Place) × (pair.second ≡ Some p))
 

@@ -26,7 +26,7 @@ pub record CanReorder {T : Type 0} (ms : List (Place × Place × T)) (ks : List 
   pub nexts : AreNexts (ends_of ms) ks
   pub indexed : length ks ≡ length ms
 
--- they are in that order, and as many as before where no cycle was opened
+-- moves r are the moves ms in the order that their nexts ask for, and as many where no cycle was opened
 pub record IsTurned {T A : Type 0} (ms : List (Place × Place × T)) (nexts : List ℕ) (r : MoveVecWithScratch T A) : Type 0 where
   pub given : List (Place × Place × T)
   pub order : IsOrder (ends_of ms) nexts (ends_of given)
@@ -35,7 +35,7 @@ pub record IsTurned {T A : Type 0} (ms : List (Place × Place × T)) (nexts : Li
   pub more : has_scratch r ≡ true → length ms < length (moves_listed r)
   pub few : has_scratch r ≡ false → length (moves_listed r) ≤ length ms
 
--- or they may stay as they are
+-- the moves in the order that their nexts ask for; none where no move has a next, and they may stay as they are
 abbrev pub IsReordered : {T A : Type 0} → List (Place × Place × T) → List ℕ → Option (MoveVecWithScratch T A) → Type 0
 IsReordered ms nexts None = (k : ℕ) → k < length nexts → length nexts ≤ slice_index_or nexts k 0
 IsReordered ms nexts (Some r) = IsTurned ms nexts r

@@ -2,9 +2,9 @@
 use Rattle.std.specs.Prelude.{◌≡◌, ◌≢◌, ◌⊎◌, Bool, true, false, List, Contains}
 use Rattle.std.specs.List.{All}
 use Rattle.regalloc2_names.specs.Place.{Place, NoPlace}
-use Rattle.regalloc2_steps.specs.declared.borrowed.Held.{Held}
-use Rattle.regalloc2_steps.specs.declared.borrowed.Held.TheVariants.{Free, InRegister, InBoth, InSave}
-use Rattle.regalloc2_steps.specs.declared.borrowed.ScratchReg.{ScratchReg}
+use Rattle.regalloc2_parts.specs.declared.moves.passing.Held.{Held}
+use Rattle.regalloc2_parts.specs.declared.moves.passing.Held.TheVariants.{Free, InRegister, InBoth, InSave}
+use Rattle.regalloc2_parts.specs.declared.moves.passing.ScratchReg.{ScratchReg}
 use Rattle.regalloc2_parts.specs.AtOnce.{CellsOf, ends_of, own_names, in_turn}
 use Rattle.regalloc2_parts.specs.Resolved.{IsUnnamed, AreBetweenPlaces}
 use Rattle.regalloc2_parts.specs.Computed.{IsEitherAway}

@@ -5,6 +5,10 @@ use Rattle.regalloc2_names.specs.Register.{VirtualRegister, invalid_vreg}
 use Rattle.regalloc2_parts.specs.declared.vregset.VRegNode.{VRegNode}
 use Rattle.regalloc2_parts.specs.Links.{IsRing, changed, walked_links}
 
+-- vregs have numbers below 2^30
+abbrev pub vreg_limit : ℕ
+vreg_limit = 1073741824
+
 abbrev pub nexts : List VRegNode → List ℕ
 nexts nodes = map (λ n. n.next) nodes
 
@@ -30,14 +34,14 @@ members_of nodes head = vregs_at nodes (vreg_ring_numbers nodes head)
 abbrev pub rest_from : List VRegNode → ℕ → ℕ → List VirtualRegister
 rest_from nodes head at = vregs_at nodes (walked_links (nexts nodes) head at)
 
--- the head is the last of 2^30 nodes and one at most, the links from it on form a ring, and each of the others there has its own number
+-- the head is the last of at most 2^30 + 1 nodes, the links from it on form a ring, and each other node of the ring has its own number
 pub record IsVRegList (nodes : List VRegNode) (head : ℕ) : Type 0 where
-  pub small : head ≤ 1073741824
+  pub small : head ≤ vreg_limit
   pub last : length nodes ≡ head + 1
   pub ring : IsRing (nexts nodes) (prevs nodes) head (vreg_ring_numbers nodes head)
   pub named : AllByRecursion (λ n. (slice_index_or (vregs nodes) n invalid_vreg).number ≡ n) (vreg_ring_numbers nodes head)
 
--- such a list of these members
+-- the nodes are a list of vregs, with these members
 pub record Lists (nodes : List VRegNode) (head : ℕ) (members : List VirtualRegister) : Type 0 where
   pub list : IsVRegList nodes head
   pub are : members_of nodes head ≡ members

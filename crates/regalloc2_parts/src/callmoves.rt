@@ -6,18 +6,32 @@
 
 ghost use Rattle.std.specs.Prelude.{◌≡◌, ◌≤◌, length, IfOk, IfErr, MatchResult};
 ghost use Rattle.regalloc2_parts.specs.Callmoves.CallMoves.{fault_of, with_units, HasNone, NamesNoPlace, IsCallFault, IsProper, IsScheduled};
+ghost use Rattle.regalloc2_parts.specs.Callmoves.Frame.{slot_limit};
 
 mod fault;
 mod frame;
 
 use crate::moves::{MoveFault, MoveVec, ParallelMoves};
 use frame::scratch_pool;
-use regalloc2_names::Allocation;
-pub use regalloc2_steps::frame::CallFrame;
+use regalloc2_names::{Allocation, PReg, PRegSet};
 use smallvec::SmallVec;
-use std::alloc::Allocator;
+use std::alloc::{Allocator, Global};
 use std::error::Error;
 use std::fmt;
+use std::ops::Range;
+
+/// The scratch resources of a call's moves, beside the places that they name.
+#[derive(Drop)]
+pub struct CallFrame<A: Allocator = Global> {
+    /// Registers whose values are not needed. They are handed out from the front.
+    pub free_regs: Vec<PReg, A>,
+    /// A register that is used if none is free, and restored.
+    pub borrowed: PReg,
+    /// The registers that represent stack places: no scheduled move goes from stack to stack.
+    pub stack_pregs: PRegSet,
+    /// Slots whose values are not needed. They are handed out from the start.
+    pub slots: Range<usize>,
+}
 
 /// Why the moves of a call could not be scheduled: the first of the first three variants that
 /// applies, else one of the last two.
@@ -95,7 +109,7 @@ fn schedule_proper<A: Allocator + Copy, B: Allocator>(
     frame: &CallFrame<B>,
 ) -> Result<MoveVec<(), A>, MoveFault>
     requires range { frame.now.slots.start ≤ frame.now.slots.«end» }
-    requires small { frame.now.slots.«end» ≤ 16777216 }
+    requires small { frame.now.slots.«end» ≤ slot_limit }
     requires proper { IsProper moves.now frame.now }
     ensures { MatchResult result (λ made. IsScheduled moves.now frame.now made.items) (λ e. IsCallFault moves.now frame.now (fault_of e)) }
 {

@@ -15,7 +15,7 @@ use std::ops::Index;
 pub struct Operands<'a>(pub &'a [Operand]);
 
 impl<'a> Operands<'a> {
-    /// The operands of this slice.
+    /// Returns the operands of the slice `operands`.
     pub fn new(operands: &'a [Operand]) -> Self
         ensures { result.0.now ≡ operands.now }
     {
@@ -158,7 +158,8 @@ fn next_picked(operands: &[Operand], from: usize, pick: Pick) -> Option<usize>
     None
 }
 
-/// Selected operands with their indexes, in order; specified as the list of those that are left.
+/// Selected operands with their indexes, in order; specified as the list of the operands that are
+/// left.
 #[derive(Clone, Debug, Drop)]
 pub struct PickedOperands<'a> {
     operands: &'a [Operand],

@@ -11,7 +11,6 @@ ghost use Rattle.regalloc2_parts.specs.Ring.{AreDistinctOf, IsNewRing, IsOldestA
 
 use nodes::{LruNode, OldestFirst};
 use regalloc2_names::{PReg, PRegSet, RegAllocError, RegClass};
-use regalloc2_steps::walk::first_in;
 use std::alloc::{Allocator, Global};
 use std::fmt;
 use std::marker::Model;
@@ -45,7 +44,7 @@ impl<A: Allocator> Model for Lru<A> {
     ghost invariant = { λ ring. IsLruNodes ring.nodes.items ring.head };
 }
 
-/// The set of some registers.
+/// The set of the registers `regs`.
 fn set_of(regs: &[PReg]) -> PRegSet
     ensures { (r : Register) → (has_register result r ≡ true) ↔ Contains regs.now r }
 {
@@ -86,7 +85,7 @@ impl<A: Allocator> Lru<A> {
         })
     }
 
-    /// Makes the member `preg` the most recently used; the others keep their order.
+    /// Makes the member `preg` the most recently used; the other members keep their order.
     ///
     /// At most six links between nodes change. Allocates nothing.
     #[inline(always)]
@@ -144,7 +143,7 @@ impl<A: Allocator> Lru<A> {
         ensures none { IfNone result (All (λ r. has_register from r ≡ false) self.now) }
         ensures distinct { IsDistinct is_register self.now }
     {
-        first_in(self.oldest_first(), from)
+        self.oldest_first().find(|preg| from.contains(*preg))
     }
 
     /// Returns the least recently used member that `f` accepts; `None` if it accepts none. Calls
@@ -162,7 +161,7 @@ impl<A: Allocator> Lru<A> {
         None
     }
 
-    /// Whether it has no member.
+    /// Returns `true` if the ring has no member.
     pub fn is_empty(&self) -> bool
         ensures { result ≡ (length self.now == 0) }
     {

@@ -14,9 +14,9 @@ use std::alloc::Allocator;
 /// Two scratch places for moves, one after the other.
 #[derive(Clone, Copy)]
 pub struct ScratchPair {
-    /// The one that is handed out first.
+    /// Handed out first.
     pub first: Option<Allocation>,
-    /// The one that is handed out next.
+    /// Handed out next.
     pub second: Option<Allocation>,
 }
 
@@ -38,12 +38,12 @@ pub struct ScratchPool {
 pub struct OrderedMoves<A: Allocator> {
     /// In the order in which they are made.
     pub moves: MoveVec<(), A>,
-    /// How many of the temporary slots are used: 0 to 2.
+    /// The number of temporary slots used: 0 to 2.
     pub slots: usize,
 }
 
 impl ScratchPair {
-    /// The next of them, which is handed out.
+    /// Hands out the next place.
     fn take(&mut self) -> Option<Allocation>
         ensures answer { result ≡ self.old.first }
         ensures first { self.new.first ≡ self.old.second }
@@ -55,7 +55,7 @@ impl ScratchPair {
         place
     }
 
-    /// How many there are.
+    /// The number of places.
     fn count(&self) -> usize
         ensures there { AreThere self.now result }
         ensures none { result ≡ 0 → self.now.first ≡ None }
@@ -68,7 +68,7 @@ impl ScratchPair {
         }
     }
 
-    /// How many come before a place.
+    /// The number of places before `next`.
     fn num_before(&self, next: Allocation) -> usize
         ensures there { AreThere self.now result }
         ensures none { result ≡ 0 → (self.now.first ≡ None) ⊎ (Some next ≡ self.now.first) }
@@ -89,7 +89,7 @@ impl ScratchPair {
         }
     }
 
-    /// How many were handed out if this is the next one.
+    /// The number of places that were handed out before `next`; all of them if `next` is none.
     fn num_taken(&self, next: Option<Allocation>) -> usize
         ensures there { AreThere self.now result }
         ensures none { result ≡ 0 → (self.now.first ≡ None) ⊎ (next ≡ self.now.first) }
@@ -102,7 +102,7 @@ impl ScratchPair {
     }
 }
 
-/// The moves that a resolver makes whose closures return these places.
+/// The moves that `resolver` makes, whose closures return the places of `pool`.
 fn compute_with_resolver<R, S, M, A: Allocator + Copy>(
     resolver: &mut MoveAndScratchResolver<R, S, M>,
     pool: &ScratchPool,
@@ -128,7 +128,7 @@ where
 }
 
 impl ScratchPool {
-    /// The moves that are made with these scratch places.
+    /// Returns `moves` made with these scratch places, none of them stack-to-stack.
     pub fn compute<A: Allocator + Copy>(
         &self,
         moves: MoveVecWithScratch<(), A>,

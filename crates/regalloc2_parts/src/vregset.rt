@@ -18,7 +18,7 @@ struct VRegNode {
     vreg: VReg,
 }
 
-/// Makes two numbers neighbours: two links change.
+/// Makes `prev` and `next` neighbours: two links change.
 fn link(nodes: &mut [VRegNode], prev: u32, next: u32)
     requires prev { prev < length nodes.old }
     requires next { next < length nodes.old }
@@ -32,7 +32,7 @@ fn link(nodes: &mut [VRegNode], prev: u32, next: u32)
     nodes[next as usize].prev = prev;
 }
 
-/// Puts a vreg behind the head: four links and its node's vreg change.
+/// Puts `vreg` behind `head`: four links and its node's vreg change.
 fn insert_node(nodes: &mut [VRegNode], head: u32, vreg: VReg)
     requires list { IsVRegList nodes.old head }
     requires below { vreg.number < head }
@@ -49,7 +49,7 @@ fn insert_node(nodes: &mut [VRegNode], head: u32, vreg: VReg)
     link(nodes, head, number);
 }
 
-/// Takes a number out of the list: two links change.
+/// Takes `number` out of the list: two links change.
 fn remove_node(nodes: &mut [VRegNode], head: u32, number: u32)
     requires list { IsVRegList nodes.old head }
     requires member { Contains (vreg_ring_numbers nodes.old head) number }
@@ -118,7 +118,7 @@ impl<A: Allocator> VRegSet<A> {
         insert_node(&mut self.nodes, self.head, vreg);
     }
 
-    /// Removes the member whose number is `vreg_num`; the others keep their order.
+    /// Removes the member whose number is `vreg_num`; the other members keep their order.
     ///
     /// At most two links between nodes change. Allocates nothing.
     pub fn remove(&mut self, vreg_num: usize)
@@ -130,7 +130,7 @@ impl<A: Allocator> VRegSet<A> {
         remove_node(&mut self.nodes, self.head, vreg_num as u32);
     }
 
-    /// Whether it has no member.
+    /// Returns `true` if the list has no member.
     pub fn is_empty(&self) -> bool
         ensures { result ≡ (length self.now.members == 0) }
     {

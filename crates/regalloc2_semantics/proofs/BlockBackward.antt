@@ -14,7 +14,7 @@ Relied later block T S F p = (later ≡ false) × ((T ≡ Some p) ⊎ (S ≡ Som
 
 -- What one instruction guarantees: T and S are v's location and slot before it, U and R after it; later: something later in the block writes v.
 pub record StepOf (v : VirtualRegister) (step : List Item) (written later : Bool) (T S U R F : Option Place) : Type 1 where
-  -- it carries v by itself, and from no place if it writes v
+  -- the step carries v by itself, and from no place if it writes v
   pub law : Carries v step (λ p. (T ≡ Some p) ⊎ ((written ≡ false) × (S ≡ Some p))) (λ p. (U ≡ Some p) ⊎ (R ≡ Some p))
   pub gone : written ≡ true → T ≡ None
   -- a slot that v has stays to the end of the walk
@@ -35,10 +35,10 @@ module _ (v : VirtualRegister) (step L : List Item) (written later block : Bool)
       (k.silent e L E (carries_weaken v L (Relied later block U R F) (λ p. ⊥) E E (λ p h. (let x : later ≡ false = h.0 in absurd cc)) (λ p h. h) c))
 
   -- if nothing later does, by the instruction alone
-  alone : later ≡ false → (P : Place → Type 0) → Carries v step P (λ p. (U ≡ Some p) ⊎ (R ≡ Some p) ⊎ ((block ≡ false) × (F ≡ Some p))) →
+  by_step : later ≡ false → (P : Place → Type 0) → Carries v step P (λ p. (U ≡ Some p) ⊎ (R ≡ Some p) ⊎ ((block ≡ false) × (F ≡ Some p))) →
       ((p : Place) → P p → Relied (written || later) block T S F p)
       → Carries v L (Relied later block U R F) E → Carries v (step ++ L) (Relied (written || later) block T S F) E
-  alone e P here relied c =
+  by_step e P here relied c =
       carries_append v step L (Relied (written || later) block T S F) (λ p. (U ≡ Some p) ⊎ (R ≡ Some p) ⊎ ((block ≡ false) × (F ≡ Some p))) E
       (carries_weaken v step P (Relied (written || later) block T S F) (λ p. (U ≡ Some p) ⊎ (R ≡ Some p) ⊎ ((block ≡ false) × (F ≡ Some p)))
       (λ p. (U ≡ Some p) ⊎ (R ≡ Some p) ⊎ ((block ≡ false) × (F ≡ Some p))) relied (λ p h. h) here)
@@ -58,7 +58,7 @@ module _ (v : VirtualRegister) (step L : List Item) (written later block : Bool)
   law_on : later ≡ false → ((p : Place) → block ≡ false → F ≡ Some p → R ≡ Some p) → Carries v L (Relied later block U R F) E →
       Carries v (step ++ L) (Relied (written || later) block T S F) E
   law_on e there c =
-      alone e (λ p. (T ≡ Some p) ⊎ ((written ≡ false) × (S ≡ Some p)))
+      by_step e (λ p. (T ≡ Some p) ⊎ ((written ≡ false) × (S ≡ Some p)))
       (carries_weaken v step (λ p. (T ≡ Some p) ⊎ ((written ≡ false) × (S ≡ Some p))) (λ p. (T ≡ Some p) ⊎ ((written ≡ false) × (S ≡ Some p)))
       (λ p. (U ≡ Some p) ⊎ (R ≡ Some p)) (λ p. (U ≡ Some p) ⊎ (R ≡ Some p) ⊎ ((block ≡ false) × (F ≡ Some p)))
       (λ p h. h) (λ p h. elim h [ inl u ↦ inl u | inr x ↦ inr (elim x [ inl r ↦ r | inr b ↦ there p b.0 b.1 ]) ]) k.law)
@@ -69,7 +69,7 @@ module _ (v : VirtualRegister) (step L : List Item) (written later block : Bool)
       Carries v (step ++ L) (Relied (written || later) block T S F) E
   left_on e free none s comes c =
       let unwritten : written ≡ false = within free in
-      alone e (λ p. ((T ≡ Some p) ⊎ ((written ≡ false) × (S ≡ Some p))) ⊎ (p ≡ s))
+      by_step e (λ p. ((T ≡ Some p) ⊎ ((written ≡ false) × (S ≡ Some p))) ⊎ (p ≡ s))
       (carries_weaken v step (λ p. ((T ≡ Some p) ⊎ ((written ≡ false) × (S ≡ Some p))) ⊎ (p ≡ s))
       (λ p. ((T ≡ Some p) ⊎ ((written ≡ false) × (S ≡ Some p))) ⊎ (p ≡ s))
       (λ p. ((U ≡ Some p) ⊎ (R ≡ Some p)) ⊎ (p ≡ s)) (λ p. (U ≡ Some p) ⊎ (R ≡ Some p) ⊎ ((block ≡ false) × (F ≡ Some p))) (λ p h. h)

@@ -40,7 +40,7 @@ after_defs-other (o ∷ os) t k s v h =
     after_defs-other os t (k + 1) _ v (λ j lt d e. h (suc j) (omega arith) d e)
     ∙ defined_not (is_def o.kind) s o.vreg v _ (λ d e. h 0 (omega arith) d e)
 
--- and one that some operand defines last
+-- a vreg that some operand defines last holds its write
 pub after_defs-at : (ops : List OperandValue) (t k : ℕ) (s : Source) (v : VirtualRegister) (j : ℕ) → j < length ops → is_def (op_at ops j).kind ≡ true →
     (op_at ops j).vreg ≡ v →
     ((i : ℕ) → i < length ops → j < i → is_def (op_at ops i).kind ≡ true → (op_at ops i).vreg ≡ v → ⊥) →
@@ -79,7 +79,7 @@ after_writes-other (o ∷ os) places t k c p h =
     after_writes-other os places t (k + 1) _ p (λ j lt d e. let i : suc j + k ≡ j + (k + 1) = omega arith in h (suc j) (omega arith) d (rw i e))
     ∙ written_not (is_def o.kind) c (place_at places k) p _ (λ d e. let i : 0 + k ≡ k = omega arith in h 0 (omega arith) d (rw i e))
 
--- and one that some definition has last
+-- a place that some definition has last holds its write
 pub after_writes-at : (ops : List OperandValue) (places : List Place) (t k : ℕ) (c : Cells) (p : Place) (j : ℕ) → (p ≡ NoPlace → ⊥) → j < length ops →
     is_def (op_at ops j).kind ≡ true → place_at places (j + k) ≡ p →
     ((i : ℕ) → i < length ops → j < i → is_def (op_at ops i).kind ≡ true → place_at places (i + k) ≡ p → ⊥) →

@@ -4,7 +4,7 @@ use Rattle.std.proofs.lemmas.Bool.{cases_Bool}
 use Rattle.regalloc2_names.specs.Place.{Place}
 use Rattle.regalloc2_semantics.specs.OperandsPlaced.{What, Progress, Placed, Puts, Held, Free, at_begin}
 
--- when an instruction begins: the numbers with a location are those that lived, and no operand is placed
+-- when an instruction begins, the numbers with a location are the numbers that lived, and no operand is placed
 pub begin_all : (what : ℕ → What) (here : ℕ → Place) (lived : ℕ → Bool) (T S : ℕ → Option Place) → ((w : ℕ) → lived w ≡ is_some (T w)) →
     Placed what (at_begin here lived) T S
 begin_all what here lived T S is = record {
@@ -25,7 +25,7 @@ begin_all what here lived T S is = record {
   makes = λ q w x. absurd cc;
 }
 
--- the positions include those of the operand
+-- the positions include the positions of the operand
 pub record Covers (w : What) (at_early at_late : Bool) : Type 0 where
   pub early_use : w.is_def ≡ false → at_early ≡ true
   pub early_def : w.is_late ≡ false → at_early ≡ true
@@ -42,7 +42,7 @@ pub record Holds (before_it after_it : Place → Bool) (asked : Bool) (r : Place
   pub keeps : (q : Place) → before_it q ≡ true → after_it q ≡ true
   pub holds : asked ≡ true → after_it r ≡ true
 
--- an operand's place is held from now on, at positions that cover those of the operand
+-- an operand's place is held from now on, at positions that cover the operand's
 pub record Takes (w : What) (early late early2 late2 : Place → Bool) (r : Place) : Type 0 where
   pub at_early : Bool
   pub at_late : Bool
@@ -50,7 +50,7 @@ pub record Takes (w : What) (early late early2 late2 : Place → Bool) (r : Plac
   pub in_early : Holds early early2 at_early r
   pub in_late : Holds late late2 at_late r
 
--- a place that is free at positions covering those of an operand is free for that operand
+-- a place that is free at positions that cover an operand's is free for the operand
 pub free_of : (w : What) (early late : Place → Bool) (at_early at_late : Bool) (r : Place) → Covers w at_early at_late → FreeAt early late at_early at_late r →
     Free w early late r
 free_of w early late at_early at_late r c f = record {

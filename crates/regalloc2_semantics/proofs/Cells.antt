@@ -15,7 +15,7 @@ stored-same c NoPlace s h = absurd (h refl)
 stored-same c (InRegister r) s h = rw (is_place-same (InRegister r)) refl
 stored-same c (InSlot n) s h = rw (is_place-same (InSlot n)) refl
 
--- and every other place what it had
+-- storing leaves every other place what it had
 pub stored-other : (c : Cells) (p q : Place) (s : Option Stamp) → q ≢ p → stored c p s q ≡ c q
 unfolding stored
 stored-other c NoPlace q s h = refl

@@ -17,12 +17,12 @@ use Rattle.regalloc2_semantics.proofs.Operands.{reads_use}
 use Rattle.regalloc2_semantics.proofs.SharedPlace.{share_defs, share_late, share_early}
 
 -- all operands are allocated: what is needed after the instruction is needed before it, and the uses' places
-pub cross_all : (Known : VirtualRegister → Type 0) (operands : List OperandValue) (places : List Place) (clobbers : PRegSet) (p : Progress)
+pub cross_all : (IsTracked : VirtualRegister → Type 0) (operands : List OperandValue) (places : List Place) (clobbers : PRegSet) (p : Progress)
     (T S : ℕ → Option Place) (L : List Item) (E : VirtualRegister → Place → Type 0) →
-    Knows Known operands → Placed (what_of operands) p T S → Once (Counts operands) (what_of operands) → AreAllPlaced operands places p →
-    AreClobbersKnown clobbers p.clobbered S → Claims Known L (Need p.lived p.out p.made_at T S) E →
-    Claims Known (Exec operands places clobbers ∷ L) (Pending (what_of operands) p.here p.done p.out T S 0) E
-cross_all Known operands places clobbers p T S L E knows s once w k g v known =
+    Knows IsTracked operands → Placed (what_of operands) p T S → Once (Counts operands) (what_of operands) → AreAllPlaced operands places p →
+    AreClobbersKnown clobbers p.clobbered S → Claims IsTracked L (Need p.lived p.out p.made_at T S) E →
+    Claims IsTracked (Exec operands places clobbers ∷ L) (Pending (what_of operands) p.here p.done p.out T S 0) E
+cross_all IsTracked operands places clobbers p T S L E knows s once w k g v known =
     let n : ℕ = v.number in
     let def_done : (i : ℕ) → i < length operands → is_def (op_at operands i).kind ≡ true → p.done i ≡ true = λ i lt d. w.all i (lt, inl d) in
     let claim : (j : ℕ) → Counts operands j → p.claimed j ≡ true = λ j c. s.claims j (w.all j c) in

@@ -20,7 +20,7 @@ pub walked-one : (insts : ℕ → InstValue) (at : ℕ → List MoveValue) (plac
 unfolding walked
 walked-one insts at places i = refl
 
--- and then the rest
+-- a walked listing is its first instruction, and then the rest
 pub walked_split : (insts : ℕ → InstValue) (at : ℕ → List MoveValue) (places : ℕ → List Place) (i n : ℕ) →
     walked insts at places i (suc n) ≡ walked insts at places i 1 ++ walked insts at places (i + 1) n
 unfolding walked

@@ -80,7 +80,7 @@ module _ (env : MachineValue) (f : FunctionValue) (ok : IsWellFormed env f) (v :
       k way.1 aside
       (live_on (first_of f b) on lt (omega arith) some (λ j ge2 less2. absurd (omega (arith, ge2, less2))))
 
-  -- the same where a path enters a block
+  -- a vreg that is live where a path enters a block is live in the block
   pub live_entered : (ws : List Way) → HasEntered f ws → (end_of f ws).block < length f.blocks → IsLive f v (end_of f ws) → Live f v (end_of f ws).block
   live_entered ws entered lb live =
       let some : (block_at f (end_of f ws).block).range.first < (block_at f (end_of f ws).block).range.end = (ok.follow (end_of f ws).block lb).0 in

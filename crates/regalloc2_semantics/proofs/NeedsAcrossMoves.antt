@@ -11,33 +11,33 @@ use Rattle.regalloc2_semantics.specs.OperandsPlaced.{GoesToSlot, IsMoved}
 use Rattle.regalloc2_semantics.proofs.CarryRules.{carries_move, carries_weaken, carries_through}
 
 -- a listing carries more, and less of it is needed
-pub claims_weaken : (Known : VirtualRegister → Type 0) (E : VirtualRegister → Place → Type 0) (L : List Item) (N M : ℕ → Place → Type 0) →
-    ((n : ℕ) (p : Place) → N n p → M n p) → Claims Known L N E → Claims Known L M E
-claims_weaken Known E L N M h g v known = carries_weaken v L (N v.number) (M v.number) (E v) (E v) (h v.number) (λ p x. x) (g v known)
+pub claims_weaken : (IsTracked : VirtualRegister → Type 0) (E : VirtualRegister → Place → Type 0) (L : List Item) (N M : ℕ → Place → Type 0) →
+    ((n : ℕ) (p : Place) → N n p → M n p) → Claims IsTracked L N E → Claims IsTracked L M E
+claims_weaken IsTracked E L N M h g v known = carries_weaken v L (N v.number) (M v.number) (E v) (E v) (h v.number) (λ p x. x) (g v known)
 
 -- a move in front
-pub claims_move : (Known : VirtualRegister → Type 0) (E : VirtualRegister → Place → Type 0) (L : List Item) (N M : ℕ → Place → Type 0) (from to : Place) →
+pub claims_move : (IsTracked : VirtualRegister → Type 0) (E : VirtualRegister → Place → Type 0) (L : List Item) (N M : ℕ → Place → Type 0) (from to : Place) →
     to ≢ NoPlace →
-    ((n : ℕ) → N n to → M n from) → ((n : ℕ) (p : Place) → (p ≡ to → ⊥) → N n p → M n p) → Claims Known L N E →
-    Claims Known (Move (record { from = from; to = to }) ∷ L) M E
-claims_move Known E L N M from to there moved kept g v known =
+    ((n : ℕ) → N n to → M n from) → ((n : ℕ) (p : Place) → (p ≡ to → ⊥) → N n p → M n p) → Claims IsTracked L N E →
+    Claims IsTracked (Move (record { from = from; to = to }) ∷ L) M E
+claims_move IsTracked E L N M from to there moved kept g v known =
     carries_move v (record { from = from; to = to }) L (N v.number) (M v.number) (E v) there (moved v.number) (kept v.number) (g v known)
 
 -- a move by way of a place that no vreg needs
-pub claims_through : (Known : VirtualRegister → Type 0) (E : VirtualRegister → Place → Type 0) (L : List Item) (N M : ℕ → Place → Type 0) (from by to : Place) →
+pub claims_through : (IsTracked : VirtualRegister → Type 0) (E : VirtualRegister → Place → Type 0) (L : List Item) (N M : ℕ → Place → Type 0) (from by to : Place) →
     by ≢ NoPlace → to ≢ NoPlace → ((n : ℕ) → N n by → ⊥) →
-    ((n : ℕ) → N n to → M n from) → ((n : ℕ) (p : Place) → (p ≡ to → ⊥) → N n p → M n p) → Claims Known L N E →
-    Claims Known (Move (record { from = from; to = by }) ∷ (Move (record { from = by; to = to }) ∷ L)) M E
-claims_through Known E L N M from by to there_by there_to clear moved kept g v known =
+    ((n : ℕ) → N n to → M n from) → ((n : ℕ) (p : Place) → (p ≡ to → ⊥) → N n p → M n p) → Claims IsTracked L N E →
+    Claims IsTracked (Move (record { from = from; to = by }) ∷ (Move (record { from = by; to = to }) ∷ L)) M E
+claims_through IsTracked E L N M from by to there_by there_to clear moved kept g v known =
     carries_through v from by to L (N v.number) (M v.number) (E v) there_by there_to (clear v.number) (moved v.number) (kept v.number) (g v known)
 
-module _ (Known : VirtualRegister → Type 0) (E : VirtualRegister → Place → Type 0) (L : List Item) where
+module _ (IsTracked : VirtualRegister → Type 0) (E : VirtualRegister → Place → Type 0) (L : List Item) where
   -- the reload of w, which is evicted
   pub need_evict : (lived out : ℕ → Bool) (X : Place → ℕ → Bool) (T U S : ℕ → Option Place) (w : ℕ) (r p : Place) → GoesToSlot T U S w r p
-      → ((x : ℕ) → X r x ≡ false) → Claims Known L (Need lived out X T S) E
-      → Claims Known (Move (record { from = p; to = r }) ∷ L) (Need lived out X U S) E
+      → ((x : ℕ) → X r x ≡ false) → Claims IsTracked L (Need lived out X T S) E
+      → Claims IsTracked (Move (record { from = p; to = r }) ∷ L) (Need lived out X U S) E
   need_evict lived out X T U S w r p h clear =
-      claims_move Known E L (Need lived out X T S) (Need lived out X U S) p r h.there
+      claims_move IsTracked E L (Need lived out X T S) (Need lived out X U S) p r h.there
       (λ v o. elim o [
         | located l e ↦ located l (ap U (h.alone v e) ∙ h.sets.now)
         | in_slot n e ↦ absurd (h.no_slot v e)
@@ -53,17 +53,17 @@ module _ (Known : VirtualRegister → Type 0) (E : VirtualRegister → Place →
   -- a new slot only adds to what is needed
   pub need_slot : (lived out : ℕ → Bool) (X : Place → ℕ → Bool) (T S S2 : ℕ → Option Place)
       → ((x : ℕ) (p : Place) → S x ≡ Some p → S2 x ≡ Some p)
-      → Claims Known L (Need lived out X T S) E → Claims Known L (Need lived out X T S2) E
+      → Claims IsTracked L (Need lived out X T S) E → Claims IsTracked L (Need lived out X T S2) E
   need_slot lived out X T S S2 grows =
-      claims_weaken Known E L (Need lived out X T S) (Need lived out X T S2)
+      claims_weaken IsTracked E L (Need lived out X T S) (Need lived out X T S2)
       (λ v q o. elim o [ located l e ↦ located l e | in_slot n e ↦ in_slot n (grows v q e) | made x ↦ made x ])
 
   -- a use of a number that had no location
   pub need_new : (lived out : ℕ → Bool) (X : Place → ℕ → Bool) (T U S : ℕ → Option Place) (u : ℕ)
       → lived u ≡ false → ((x : ℕ) → (x ≡ u → ⊥) → U x ≡ T x)
-      → Claims Known L (Need lived out X T S) E → Claims Known L (Need lived out X U S) E
+      → Claims IsTracked L (Need lived out X T S) E → Claims IsTracked L (Need lived out X U S) E
   need_new lived out X T U S u dead same =
-      claims_weaken Known E L (Need lived out X T S) (Need lived out X U S)
+      claims_weaken IsTracked E L (Need lived out X T S) (Need lived out X U S)
       (λ v q o. elim o [
         | located l e ↦ located l (same v (λ i. let a : lived u ≡ true = ap lived (sym i) ∙ l in cc) ∙ e)
         | in_slot n e ↦ in_slot n e
@@ -87,26 +87,26 @@ module _ (what : ℕ → What) (p : Progress) (T S : ℕ → Option Place) (k : 
   ]
 
   -- once it is listed in front, only the moves of the uses behind k are not listed
-  pub pend_move : (Known : VirtualRegister → Type 0) (E : VirtualRegister → Place → Type 0) (L : List Item)
-      → Claims Known L (Pending what p.here p.done p.out T S k) E → Claims Known (Move (record { from = c; to = p.here k }) ∷ L)
+  pub pend_move : (IsTracked : VirtualRegister → Type 0) (E : VirtualRegister → Place → Type 0) (L : List Item)
+      → Claims IsTracked L (Pending what p.here p.done p.out T S k) E → Claims IsTracked (Move (record { from = c; to = p.here k }) ∷ L)
       (Pending what p.here p.done p.out T S (k + 1)) E
-  pend_move Known E L = claims_move Known E L (Pending what p.here p.done p.out T S k) (Pending what p.here p.done p.out T S (k + 1)) c (p.here k) h.there
+  pend_move IsTracked E L = claims_move IsTracked E L (Pending what p.here p.done p.out T S k) (Pending what p.here p.done p.out T S (k + 1)) c (p.here k) h.there
       moved_here
       moved_there
 
-  -- the same for two moves, through an intermediate place that nothing needs
-  pub pend_through : (by : Place) (Known : VirtualRegister → Type 0) (E : VirtualRegister → Place → Type 0) (L : List Item)
+  -- the need moves back over two moves, through an intermediate place that nothing needs
+  pub pend_through : (by : Place) (IsTracked : VirtualRegister → Type 0) (E : VirtualRegister → Place → Type 0) (L : List Item)
       → by ≢ NoPlace → ((v : ℕ) → Pending what p.here p.done p.out T S k v by → ⊥)
-      → Claims Known L (Pending what p.here p.done p.out T S k) E → Claims Known
+      → Claims IsTracked L (Pending what p.here p.done p.out T S k) E → Claims IsTracked
       (Move (record { from = c; to = by }) ∷ (Move (record { from = by; to = p.here k }) ∷ L)) (Pending what p.here p.done p.out T S (k + 1)) E
-  pend_through by Known E L real clear = claims_through Known E L (Pending what p.here p.done p.out T S k) (Pending what p.here p.done p.out T S (k + 1)) c by
+  pend_through by IsTracked E L real clear = claims_through IsTracked E L (Pending what p.here p.done p.out T S k) (Pending what p.here p.done p.out T S (k + 1)) c by
       (p.here k) real
       h.there clear moved_here moved_there
 
-  -- and without a move, where the number is in the use's place already
-  pub pend_stay : c ≡ p.here k → (Known : VirtualRegister → Type 0) (E : VirtualRegister → Place → Type 0) (L : List Item)
-      → Claims Known L (Pending what p.here p.done p.out T S k) E → Claims Known L (Pending what p.here p.done p.out T S (k + 1)) E
-  pend_stay same Known E L = claims_weaken Known E L (Pending what p.here p.done p.out T S k) (Pending what p.here p.done p.out T S (k + 1))
+  -- no move is needed where the number is in the use's place already
+  pub pend_stay : c ≡ p.here k → (IsTracked : VirtualRegister → Type 0) (E : VirtualRegister → Place → Type 0) (L : List Item)
+      → Claims IsTracked L (Pending what p.here p.done p.out T S k) E → Claims IsTracked L (Pending what p.here p.done p.out T S (k + 1)) E
+  pend_stay same IsTracked E L = claims_weaken IsTracked E L (Pending what p.here p.done p.out T S k) (Pending what p.here p.done p.out T S (k + 1))
       (λ v q o. elim o [
         | still e ↦ still e
         | slotted n e ↦ slotted n e
@@ -116,12 +116,12 @@ module _ (what : ℕ → What) (p : Progress) (T S : ℕ → Option Place) (k : 
             (cases_eq j k)
       ])
 
-module _ (Known : VirtualRegister → Type 0) (E : VirtualRegister → Place → Type 0) (L : List Item) (what : ℕ → What)
+module _ (IsTracked : VirtualRegister → Type 0) (E : VirtualRegister → Place → Type 0) (L : List Item) (what : ℕ → What)
     (p : Progress) where
   -- an operand that has no move: a definition, or one that isn't placed
   pub pend_pass : (T S : ℕ → Option Place) (k : ℕ) → (p.done k ≡ true → (what k).is_def ≡ true)
-      → Claims Known L (Pending what p.here p.done p.out T S k) E → Claims Known L (Pending what p.here p.done p.out T S (k + 1)) E
-  pend_pass T S k def = claims_weaken Known E L (Pending what p.here p.done p.out T S k) (Pending what p.here p.done p.out T S (k + 1))
+      → Claims IsTracked L (Pending what p.here p.done p.out T S k) E → Claims IsTracked L (Pending what p.here p.done p.out T S (k + 1)) E
+  pend_pass T S k def = claims_weaken IsTracked E L (Pending what p.here p.done p.out T S k) (Pending what p.here p.done p.out T S (k + 1))
       (λ v q o. elim o [
         | still e ↦ still e
         | slotted n e ↦ slotted n e
@@ -132,10 +132,10 @@ module _ (Known : VirtualRegister → Type 0) (E : VirtualRegister → Place →
   -- the reload of w, which a scratch register evicts before the instruction
   pub pend_evict : (T U S : ℕ → Option Place) (k w : ℕ) (r q : Place) → GoesToSlot T U S w r q
       → ((j : ℕ) → p.done j ≡ true → (what j).is_def ≡ false → p.here j ≡ r → ⊥)
-      → Claims Known L (Pending what p.here p.done p.out T S k) E
-      → Claims Known (Move (record { from = q; to = r }) ∷ L) (Pending what p.here p.done p.out U S k) E
+      → Claims IsTracked L (Pending what p.here p.done p.out T S k) E
+      → Claims IsTracked (Move (record { from = q; to = r }) ∷ L) (Pending what p.here p.done p.out U S k) E
   pend_evict T U S k w r q h clear =
-      claims_move Known E L (Pending what p.here p.done p.out T S k) (Pending what p.here p.done p.out U S k) q r h.there
+      claims_move IsTracked E L (Pending what p.here p.done p.out T S k) (Pending what p.here p.done p.out U S k) q r h.there
       (λ v o. elim o [
         | still e ↦ still (ap U (h.alone v e) ∙ h.sets.now)
         | slotted n e ↦ absurd (h.no_slot v e)
@@ -151,7 +151,7 @@ module _ (Known : VirtualRegister → Type 0) (E : VirtualRegister → Place →
   -- what is claimed with some slots is claimed with more
   pub pend_slot : (T S S2 : ℕ → Option Place) (k : ℕ)
       → ((x : ℕ) (q : Place) → S x ≡ Some q → S2 x ≡ Some q)
-      → Claims Known L (Pending what p.here p.done p.out T S k) E → Claims Known L (Pending what p.here p.done p.out T S2 k) E
+      → Claims IsTracked L (Pending what p.here p.done p.out T S k) E → Claims IsTracked L (Pending what p.here p.done p.out T S2 k) E
   pend_slot T S S2 k grows =
-      claims_weaken Known E L (Pending what p.here p.done p.out T S k) (Pending what p.here p.done p.out T S2 k)
+      claims_weaken IsTracked E L (Pending what p.here p.done p.out T S k) (Pending what p.here p.done p.out T S2 k)
       (λ v q o. elim o [ still e ↦ still e | slotted n e ↦ slotted n (grows v q e) | used j le lt u i e ↦ used j le lt u i e ])

@@ -56,6 +56,6 @@ pub carries_silent : (v : VirtualRegister) (L : List Item) (P : Place → Type 0
 unfolding Carries
 carries_silent v L P h = λ s c n holds. from_silent v L s c n h
 
--- if what follows such a listing carries v from no place, both together carry v
+-- if what follows a listing without reads and writes of v carries v from no place, both together carry v
 pub carries_behind : (v : VirtualRegister) (K L : List Item) (P E : Place → Type 0) → Silent v K → Carries v L (λ p. ⊥) E → Carries v (K ++ L) P E
 carries_behind v K L P E h g = carries_append v K L P (λ p. ⊥) E (carries_silent v K P h) g

@@ -18,7 +18,7 @@ module _ (f : FunctionValue) (follow : BlocksFollow f) where
   next_begins : (b : ℕ) → suc b < length f.blocks → (block_at f (suc b)).range.first ≡ (block_at f b).range.end
   next_begins b lt = (let e : suc b - 1 ≡ b = omega arith in (follow (suc b) lt).2 (omega arith) ∙ ap (λ (m : ℕ). (block_at f m).range.end) e)
 
-  -- and before all later ones
+  -- a block ends before all later blocks begin
   pub ends_before : (b c : ℕ) → b < c → c < length f.blocks → (block_at f b).range.end ≤ (block_at f c).range.first
   ends_before b zero less lt = absurd (omega arith)
   ends_before b (suc c) less lt = elim (cases_lt b c) [
@@ -65,7 +65,7 @@ module _ (f : FunctionValue) (once : DefinedOnce f) where
   reads_later n i k j l d lt reads less read same = earlier_made f once n i k j d (op_at (inst_at f j).operands l).vreg same
       (made_before f (op_at (inst_at f j).operands l).vreg j lt (reads l less read))
 
-  -- and what passes it isn't earlier than what defines it
+  -- a branch that passes a vreg isn't earlier than the instruction that defines it
   pub passes_later : (n i k b e : ℕ) (v : VirtualRegister) → DefinesAt f n i k → BlocksFollow f → UsesAreDefined f → b < length f.blocks →
       e < length (block_at f b).succs
       → Contains (slice_index_or (block_at f b).arguments e []) v → v.number ≡ n → i ≤ last_of (block_at f b)
@@ -77,7 +77,7 @@ module _ (f : FunctionValue) (once : DefinedOnce f) where
       let sooner = earlier_made f once n i k (last + 1) d v same (made_behind f v last (omega (arith, within, some)) by) in
       omega (arith, sooner)
 
-  -- and so what is passed is made
+  -- a vreg that is passed is made
   pub passed_made : (b e : ℕ) (v : VirtualRegister) → BlocksFollow f → UsesAreDefined f → b < length f.blocks → e < length (block_at f b).succs →
       Contains (slice_index_or (block_at f b).arguments e []) v → Made f v
   passed_made b e v follow uses lt edge has =

@@ -7,7 +7,7 @@ use Rattle.regalloc2_function.specs.SourceRun.{source_before, over_edge}
 use Rattle.regalloc2_semantics.specs.Carry.{Undefined}
 use Rattle.regalloc2_semantics.proofs.BothRuns.{after_defs-other}
 
--- so many instructions further
+-- a path that goes on by `n` instructions
 unfoldable pub onwards : ℕ → List Way → List Way
 onwards zero ws = ws
 onwards (suc n) ws = Onward ∷ onwards n ws
@@ -35,7 +35,7 @@ onwards-path f (suc n) ws p lt =
     (onwards-block f n ws) in
     (onwards-path f n ws p (omega arith), omega arith)
 
--- a vreg that those instructions do not write
+-- a vreg that none of the `n` instructions writes keeps its write
 pub onwards-source : (f : FunctionValue) (n : ℕ) (ws : List Way) (v : VirtualRegister) →
     ((i : ℕ) → (end_of f ws).inst ≤ i → i < (end_of f ws).inst + n → Undefined (inst_at f i).operands v) →
     source_before f (onwards n ws) v ≡ source_before f ws v

@@ -17,7 +17,7 @@ use Rattle.regalloc2_semantics.specs.Listing.{Item, items_by, items_from}
 use Rattle.regalloc2_semantics.specs.Carry.{CarriesFrom, Finds}
 use Rattle.regalloc2_semantics.proofs.CarryRules.{after_their_moves}
 
--- what is left of a block's listing at a location, with so many instructions
+-- what is left of a block's listing at a location, with `count` instructions
 abbrev pub left_at : FunctionValue → OutputValue → Location → ℕ → List Item
 left_at f out l count = items_from f out (block_at f l.block).range.first l.inst count
 

@@ -11,7 +11,7 @@ use Rattle.regalloc2_names.specs.Place.{Place}
 use Rattle.regalloc2_function.specs.FunctionValue.{FunctionValue, block_at, inst_at, no_operand, op_at}
 use Rattle.regalloc2_function.specs.OutputValue.{OutputValue}
 use Rattle.regalloc2_function.specs.Path.{Way, Onward, ToSuccessor, Location, first_of, end_of, last_inst, IsPath, HasWay}
-use Rattle.regalloc2_function.specs.SourceRun.{Stamp, after_defs, read_of, over_edge}
+use Rattle.regalloc2_function.specs.SourceRun.{Stamp, read_of, over_edge}
 use Rattle.regalloc2_function.specs.SourceRun.{arguments_at, source_before, source_after, source_read, IsWrittenFirst}
 use Rattle.regalloc2_function.specs.AllocatedRun.{cells_before}
 use Rattle.regalloc2_function.specs.Faithful.{ReadsAgree}
@@ -78,9 +78,9 @@ record Through (f : FunctionValue) (b i : ℕ) (ws vs : List Way) : Type 0 where
   inst_is : (end_of f vs).inst ≡ i
   same : (v : VirtualRegister) → IsUnwritten f b v → source_before f vs v ≡ source_before f ws v
 
-through : (f : FunctionValue) (b i : ℕ) (ws : List Way) → Entered f b ws → (block_at f b).range.first ≤ i → i < (block_at f b).range.end →
+path_through : (f : FunctionValue) (b i : ℕ) (ws : List Way) → Entered f b ws → (block_at f b).range.first ≤ i → i < (block_at f b).range.end →
     Through f b i ws (onwards (i - (block_at f b).range.first) ws)
-through f b i ws e le lt =
+path_through f b i ws e le lt =
     let n : ℕ = i - (block_at f b).range.first in
     let first : (end_of f ws).inst ≡ (block_at f b).range.first = e.first_is in
     let last : (block_at f (end_of f ws).block).range.end ≡ (block_at f b).range.end = ap (λ c. (block_at f c).range.end) e.block_is in
@@ -92,13 +92,13 @@ through f b i ws e le lt =
       same = λ v u. onwards-source f n ws v (λ j from to. u j (omega arith) (omega arith));
     }
 
-nothing : (x : Option Stamp) → x ≡ None → IsSome x → ⊥
-nothing None e h = absurd cc
-nothing (Some s) e h = absurd cc
+none_is_not_some : (x : Option Stamp) → x ≡ None → IsSome x → ⊥
+none_is_not_some None e h = absurd cc
+none_is_not_some (Some s) e h = absurd cc
 
-some_where : (x : Option Stamp) → (x ≡ None → ⊥) → IsSome x
-some_where None h = absurd (h refl)
-some_where (Some s) h = refl
+some_unless_none : (x : Option Stamp) → (x ≡ None → ⊥) → IsSome x
+some_unless_none None h = absurd (h refl)
+some_unless_none (Some s) h = refl
 
 locations : (b i c j : ℕ) → b ≡ c → i ≡ j → ◌≡◌ {A = Location} (record { block = b; inst = i }) (record { block = c; inst = j })
 locations b i c j d e = rw (d, e) refl
@@ -108,8 +108,8 @@ read_none Early x y e d = e
 read_none Late x y e d = d
 
 -- the last instruction of a block
-abbrev last_of : FunctionValue → ℕ → ℕ
-last_of f b = (block_at f b).range.end - 1
+abbrev last_inst_of : FunctionValue → ℕ → ℕ
+last_inst_of f b = (block_at f b).range.end - 1
 
 module _ (f : FunctionValue) (ok : HasSoundBlocks f) (written : IsWrittenFirst f) where
   -- a step that doesn't write v keeps v's value
@@ -128,12 +128,12 @@ module _ (f : FunctionValue) (ok : HasSoundBlocks f) (written : IsWrittenFirst f
       let same : op_at (inst_at f i).operands j ≡ o = ap (λ x. op_at (inst_at f x).operands j) (sym e) in
       let w : IsSome (source_read f vs o) = (written vs p).0 j no_operand (subst at (sym e) lt) (subst (λ x. is_reading x ≡ true) same reads) in
       let here : o.vreg ≡ v = subst (λ x. x.vreg ≡ v) same is in
-      nothing (source_read f vs o) (read_none o.position (source_before f vs o.vreg) (source_after f vs o.vreg) (ap (source_before f vs) here ∙ before)
+      none_is_not_some (source_read f vs o) (read_none o.position (source_before f vs o.vreg) (source_after f vs o.vreg) (ap (source_before f vs) here ∙ before)
       (ap (source_after f vs) here ∙ after)) w
 
   -- the path over an edge from the block's last instruction
   way_on : (b k : ℕ) (vs : List Way) → (block_at f b).range.first < (block_at f b).range.end → HasEdge f b k → (end_of f vs).block ≡ b →
-      (end_of f vs).inst ≡ last_of f b → HasWay f (end_of f vs) (ToSuccessor k)
+      (end_of f vs).inst ≡ last_inst_of f b → HasWay f (end_of f vs) (ToSuccessor k)
   way_on b k vs nonempty edge e i =
       let x : (block_at f (end_of f vs).block).range.end ≡ (block_at f b).range.end = ap (λ c. (block_at f c).range.end) e in
       let y : (end_of f vs).inst ≡ (block_at f b).range.end - 1 = i in
@@ -141,12 +141,12 @@ module _ (f : FunctionValue) (ok : HasSoundBlocks f) (written : IsWrittenFirst f
 
   -- a path through the whole block, at its last instruction
   at_last : (b : ℕ) (ws : List Way) → b < length f.blocks → Entered f b ws →
-      Through f b (last_of f b) ws (onwards (last_of f b - (block_at f b).range.first) ws)
+      Through f b (last_inst_of f b) ws (onwards (last_inst_of f b - (block_at f b).range.first) ws)
   at_last b ws block e = let h : (block_at f b).range.first < (block_at f b).range.end = ok.nonempty b block in
-      through f b (last_of f b) ws e (omega arith) (omega arith)
+      path_through f b (last_inst_of f b) ws e (omega arith) (omega arith)
 
   -- over an edge into a block that does not take v
-  entered_on : (b k : ℕ) (vs : List Way) → b < length f.blocks → HasEdge f b k → IsPath f vs → (end_of f vs).block ≡ b → (end_of f vs).inst ≡ last_of f b →
+  entered_on : (b k : ℕ) (vs : List Way) → b < length f.blocks → HasEdge f b k → IsPath f vs → (end_of f vs).block ≡ b → (end_of f vs).inst ≡ last_inst_of f b →
       Entered f (target_at f b k) (ToSuccessor k ∷ vs)
   entered_on b k vs block edge p e i = record {
     path = (p, way_on b k vs (ok.nonempty b block) edge e i);
@@ -163,24 +163,24 @@ module _ (f : FunctionValue) (ok : HasSoundBlocks f) (written : IsWrittenFirst f
   -- a live vreg has a value
   live_written : (v : VirtualRegister) (b : ℕ) (ws : List Way) → b < length f.blocks → Entered f b ws → Live f v b → source_before f ws v ≡ None → ⊥
   live_written v b ws block e (read u (i, j, le, lt, j_lt, reads, is)) none =
-      let t = through f b i ws e le lt in
+      let t = path_through f b i ws e le lt in
       let vs : List Way = onwards (i - (block_at f b).range.first) ws in
       let before : source_before f vs v ≡ None = t.same v u ∙ none in
       read_written b i j vs v t.path t.inst_is j_lt reads is before (still vs v b i t.inst_is le lt u ∙ before)
   live_written v b ws block e (passed_on u k edge (j, lt, is)) none =
       let t = at_last b ws block e in
-      let vs : List Way = onwards (last_of f b - (block_at f b).range.first) ws in
+      let vs : List Way = onwards (last_inst_of f b - (block_at f b).range.first) ws in
       let n : (block_at f b).range.first < (block_at f b).range.end = ok.nonempty b block in
-      let after : source_after f vs v ≡ None = still vs v b (last_of f b) t.inst_is (omega arith) (omega arith) u ∙ t.same v u ∙ none in
+      let after : source_after f vs v ≡ None = still vs v b (last_inst_of f b) t.inst_is (omega arith) (omega arith) u ∙ t.same v u ∙ none in
       let args : arguments_at f (end_of f vs).block k ≡ arguments_at f b k = ap (λ c. arguments_at f c k) t.block_is in
       let found : IsSome (source_after f vs (slice_index_or (arguments_at f (end_of f vs).block k) j v)) =
       (written vs t.path).1 k j v (way_on b k vs n edge t.block_is t.inst_is) (subst (λ xs. j < length xs) (sym args) lt) in
-      nothing (source_after f vs v) after (subst (λ w. IsSome (source_after f vs w)) (ap (λ xs. slice_index_or xs j v) args ∙ is) found)
+      none_is_not_some (source_after f vs v) after (subst (λ w. IsSome (source_after f vs w)) (ap (λ xs. slice_index_or xs j v) args ∙ is) found)
   live_written v b ws block e (onward u k edge aside l) none =
       let t = at_last b ws block e in
-      let vs : List Way = onwards (last_of f b - (block_at f b).range.first) ws in
+      let vs : List Way = onwards (last_inst_of f b - (block_at f b).range.first) ws in
       let n : (block_at f b).range.first < (block_at f b).range.end = ok.nonempty b block in
-      let after : source_after f vs v ≡ None = still vs v b (last_of f b) t.inst_is (omega arith) (omega arith) u ∙ t.same v u ∙ none in
+      let after : source_after f vs v ≡ None = still vs v b (last_inst_of f b) t.inst_is (omega arith) (omega arith) u ∙ t.same v u ∙ none in
       let not : names v (block_at f (target_at f (end_of f vs).block k)).params ≡ false = subst (λ c. names v (block_at f (target_at f c k)).params ≡ false)
       (sym t.block_is) aside in
       live_written v (target_at f b k) (ToSuccessor k ∷ vs) (ok.targets b k edge) (entered_on b k vs block edge t.path t.block_is t.inst_is) l
@@ -235,7 +235,7 @@ module _ (f : FunctionValue) (ok : HasSoundBlocks f) (written : IsWrittenFirst f
         ])
   ]
 
-  -- so it is not live
+  -- an excused vreg is not live
   live_not_excused : (b : ℕ) (v : VirtualRegister) (ws : List Way) → b < length f.blocks → Entered f b ws → Live f v b → IsExcused f b v → ⊥
   live_not_excused b v ws block e l ex = elim (first_visit b v ex ws e.path) [
     | inl x ↦ live_written v b x.ways block x.entered l x.none
@@ -277,7 +277,7 @@ module _ (f : FunctionValue) (ok : HasSoundBlocks f) (written : IsWrittenFirst f
         carries b (reached b ws e) (excused_silent b ws block e) v used (λ ex. live_not_excused b v ws block e (live (excused_unwritten b v ex)) ex)
         (source_before f ws) (cells_before f out ws) (length ws) (λ p h. located v p (live h.0) h.1)
 
-    -- the same, as what is known at the last step of a path that has just entered a block
+    -- what is known at the last step of a path that has just entered a block
     rest_at : (ws : List Way) → Entered f (end_of f ws).block ws →
         ((v : VirtualRegister) (p : Place) → Live f v (end_of f ws).block → stand (end_of f ws).block v ≡ Some p →
         cells_before f out ws p ≡ source_before f ws v) → Rest ws
@@ -399,7 +399,7 @@ module _ (f : FunctionValue) (ok : HasSoundBlocks f) (written : IsWrittenFirst f
         stand (end_of f ws).block v ≡ Some p → HoldsValueAt f out ws p v
     unfolding source_before cells_before
     holds_live ws path first v p l s = (
-      some_where (source_before f ws v) (live_written v (end_of f ws).block ws (block_within ws path)
+      some_unless_none (source_before f ws v) (live_written v (end_of f ws).block ws (block_within ws path)
           (record { path = path; block_is = refl; first_is = first }) l),
       holds ws path first l s,
     )
@@ -433,7 +433,7 @@ items_carry_on f out stand ok rising quiet carries b reached = λ silent v used 
     subst (λ l. Carries v l (ComesIn f stand b v) (GoesOut f stand b v))
     (sym (block_items-walked f out b rising (ok.nonempty b within) (quiet b within))) (carries b reached silent v used free)
 
--- the same as `blocks_agree_in_places`, with listings made by the edits' points
+-- `blocks_agree_in_places` with listings made by the edits' points
 pub blocks_agree_in_places_by_points : BlocksAgreeInPlacesByPoints
 blocks_agree_in_places_by_points f out stand ok written rising quiet carries = blocks_agree_in_places f out stand ok written
     (items_carry_on f out stand ok rising quiet carries)

@@ -1,4 +1,4 @@
--- The same for moves in the order in which they are pushed: the last one is listed first.
+-- A move in front of a listing, for moves in the order in which they are pushed: the last is listed first.
 use Rattle.std.proofs.Common.{ℕ, ◌≡◌, ◌<◌, List, [], ◌∷◌, ◌++◌}
 use Rattle.std.proofs.lemmas.List.{reverse-append}
 use Rattle.regalloc2_names.specs.Place.{Place}
@@ -19,7 +19,7 @@ pub after_part-more : (insts : ℕ → InstValue) (m : MoveValue) (pushed : List
     after_part insts (listed (pushed ++ (after i, m) ∷ [])) places i n ≡ Move m ∷ after_part insts (listed pushed) places i n
 after_part-more insts m pushed places i n = rw (listed-push pushed (after i, m)) (after_part-push insts m (listed pushed) places i n)
 
--- and before it
+-- a move that is pushed before an instruction is listed first before it
 pub before_part-more : (insts : ℕ → InstValue) (m : MoveValue) (pushed : List (ℕ × MoveValue)) (places : ℕ → List Place) (i n : ℕ) (item : Item) →
     before_part insts (listed (pushed ++ (before i, m) ∷ [])) places i n item ≡ Move m ∷ before_part insts (listed pushed) places i n item
 before_part-more insts m pushed places i n item = rw (listed-push pushed (before i, m)) (before_part-push insts m (listed pushed) places i n item)

@@ -67,7 +67,7 @@ pub step_claim : (what : ℕ → What) (p : Progress) (there : ℕ → Place) (c
     → Puts p.here there p.claimed claimed2 k r → Clear what p.here p.claimed k r → IsVacant (what k) p.lived T S r
     → (((what k).is_def ≡ true) ⊎ ((what k).is_late ≡ true) → p.clobbered r ≡ false) → r ≢ NoPlace
     → Placed what p T S → Placed what (record p { here = there; claimed = claimed2 }) T S
-step_claim what p there claimed2 T S k r u clear v calm real s =
+step_claim what p there claimed2 T S k r u clear v unclobbered real s =
     let other : (j : ℕ) → p.claimed j ≡ true → there j ≡ p.here j = λ j c. u.at_j j (λ e. let a : p.claimed k ≡ true = ap p.claimed (sym e) ∙ c in cc) in
     let at : (j : ℕ) → j ≡ k → there j ≡ r = λ j e. ap there e ∙ u.at_k in
     record {
@@ -105,7 +105,7 @@ step_claim what p there claimed2 T S k r u clear v calm real s =
           (u.grows j cj);
       kept = λ j cj h. ⊎_elim
           (λ (jk : j ≡ k). ap p.clobbered (at j jk)
-          ∙ calm (⊎_elim (λ d. inl (ap (λ (x : ℕ). (what x).is_def) (sym jk) ∙ d)) (λ l. inr (ap (λ (x : ℕ). (what x).is_late) (sym jk) ∙ l)) h))
+          ∙ unclobbered (⊎_elim (λ d. inl (ap (λ (x : ℕ). (what x).is_def) (sym jk) ∙ d)) (λ l. inr (ap (λ (x : ℕ). (what x).is_late) (sym jk) ∙ l)) h))
           (λ (c : p.claimed j ≡ true). ap p.clobbered (other j c) ∙ s.kept j c h)
           (u.grows j cj);
       cleared = s.cleared;

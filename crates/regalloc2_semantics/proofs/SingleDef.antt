@@ -96,7 +96,7 @@ module _ (f : FunctionValue) (once : DefinedOnce f) where
       one_passes (λ v. nat_eq v.number n) (λ (x : BlockValue). x.params) f.blocks no_block no_vreg b c k l (omega (arith, z)) x.block y.block x.param y.param
       (eq-eqb (slice_index_or (block_at f b).params k no_vreg).number n x.number) (eq-eqb (slice_index_or (block_at f c).params l no_vreg).number n y.number)
 
-  -- and no operand defines that of a parameter
+  -- no operand defines the number of a parameter
   pub not_both : (n i k b l : ℕ) → DefinesAt f n i k → TakesAt f n b l → ⊥
   unfolding in_blocks in_insts
   not_both n i k b l x y =
@@ -156,7 +156,7 @@ made_by f v i point lt le (inr o) =
 pub made_before : (f : FunctionValue) (v : VirtualRegister) (i : ℕ) → i < length f.insts → IsDefinedBy f v (before i) → MadeBefore f v i
 made_before f v i lt h = made_by f v i (before i) (omega (arith, lt)) (omega arith) h
 
--- and one that is defined by the point after it is made before the next
+-- a vreg that is defined by the point after an instruction is made before the next
 pub made_behind : (f : FunctionValue) (v : VirtualRegister) (i : ℕ) → i < length f.insts → IsDefinedBy f v (after i) → MadeBefore f v (i + 1)
 made_behind f v i lt h = made_by f v (i + 1) (after i) (omega (arith, lt)) (omega arith) h
 
@@ -207,7 +207,7 @@ once_at f once i lt reads =
     by_maker n j x (by_earlier l m less y e) = let same = one_operand f once _ i l j m x y in omega (arith, less, same.0)
     by_maker n j x (MadeBefore.by_param b l y e) = not_both f once _ i j b l x y
 
--- the vregs that are made are one for each number, and include those that the operands name
+-- the vregs that are made are one for each number, and include the vregs that the operands name
 pub knows_at : (f : FunctionValue) → DefinedOnce f → (i : ℕ) → i < length f.insts → ReadsDefined f i → Knows (Made f) (inst_at f i).operands
 knows_at f once i lt reads = record {
   same = one_made f once;
@@ -228,7 +228,7 @@ within_blocks f follow (suc b) i lt less = elim (cases_less i (block_at f (suc b
     cases_less : (m n : ℕ) → (m < n) ⊎ (n ≤ m)
     cases_less m n = grind (arith)
 
--- so that all reads are defined before
+-- all reads are defined before
 pub reads_defined : (f : FunctionValue) → 0 < length f.blocks → BlocksFollow f → UsesAreDefined f → (i : ℕ) → i < length f.insts → ReadsDefined f i
 reads_defined f some follow uses i lt k less read =
     let last : ℕ = length f.blocks - 1 in

@@ -1,5 +1,5 @@
 -- Slots that are made later in the walk, and the moves to the parameters of successors.
-use Rattle.std.proofs.Common.{ℕ, ◌≡◌, List, [], Option, Some, false, ◌∙◌, inl, inr, ◌⊎◌}
+use Rattle.std.proofs.Common.{ℕ, ◌≡◌, List, Option, Some, false, ◌∙◌, inl, inr, ◌⊎◌}
 use Rattle.regalloc2_names.specs.Register.{VirtualRegister}
 use Rattle.regalloc2_names.specs.Place.{Place}
 use Rattle.regalloc2_function.specs.FunctionValue.{FunctionValue, block_at}

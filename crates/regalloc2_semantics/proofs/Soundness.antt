@@ -153,7 +153,7 @@ module _ (f : FunctionValue) (once : DefinedOnce f) where
       let x = names_count v (block_at f b).params h in
       let z = at_most_one v.number in absurd (omega arith)
 
-  -- a vreg that one instruction defines, and another one
+  -- no vreg is defined by two instructions
   pub no_second : (i j : ℕ) (v : VirtualRegister) → j ≢ i → i < length f.insts → j < length f.insts → (k : ℕ) (d : OperandValue) →
       k < length (inst_at f j).operands →
       is_def (slice_index_or (inst_at f j).operands k d).kind ≡ true → (slice_index_or (inst_at f j).operands k d).vreg ≡ v → Undefined (inst_at f i).operands v
@@ -181,7 +181,7 @@ entry_way f t e = rw (eq-eqb t f.entry e) refl
 preds_below : (f : FunctionValue) (t : ℕ) → length (block_at f t).preds ≤ ways_into f t
 preds_below f t = omega arith
 
--- a block that has one way in, and an edge, is entered by that edge's block alone
+-- a block that has one way in, and an edge, is entered by the edge's block alone
 pub entered_once : (f : FunctionValue) → PredecessorsAgree f → (b k : ℕ) → HasEdge f b k → target_at f b k < length f.blocks →
     ways_into f (target_at f b k) ≤ 1 → IsEnteredOnce f (target_at f b k)
 entered_once f agree b k edge lt ways =

@@ -25,7 +25,7 @@ one_there from to None c there way = stored-same c to (c from) there
 one_there from to (Some by) c there way =
     stored-same (stored c by (c from)) to (stored c by (c from) by) there ∙ stored-same c by (c from) (way by refl)
 
--- and leaves the places that it avoids
+-- a store leaves the places that it avoids
 one_else : (from to : Place) (by : Option Place) (c : Cells) (p : Place) → p ≢ to → ((q : Place) → by ≡ Some q → p ≢ q) →
     after_moves (moves_by from by to) c p ≡ c p
 unfolding after_moves
@@ -44,7 +44,7 @@ stores_else (s ∷ ss) c p avoid =
     ∙ stores_else ss then p (λ t m. avoid t (later m))
     ∙ one_else s.from s.to s.by c p here.0 here.1
 
--- and each brings its value
+-- each store brings its value
 pub stores_there : (ss : List Store) → AreStores ss → (c : Cells) (x : Store) → IsOneOf x ss → after_moves (store_moves ss) c x.to ≡ c x.from
 unfolding store_moves AreStores
 stores_there [] are c x none = elim none [ ]
@@ -82,7 +82,7 @@ ways M [] h t m q by = elim m [ ]
 ways M (s ∷ ss) h t (first is) q by = (h.1 q (ap (λ (x : Store). x.by) is ∙ by)).0
 ways M (s ∷ ss) h t (later m) q by = ways M ss h.3 t m q by
 
--- Stores to stack places don't disturb one another if those that start in registers are before all that go through one, no place is the target of two, and no
+-- Stores to stack places don't disturb one another if the stores that start in registers are before all stores that go through a register, no place is the target of two, and no
 -- later store starts from an earlier one's target.
 pub in_order : (M : Place → Bool) → M NoPlace ≡ false → (ss : List Store) → AreInOrder M ss → AreStores ss
 unfolding AreInOrder AreStores

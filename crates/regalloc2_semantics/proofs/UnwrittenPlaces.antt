@@ -1,4 +1,4 @@
--- Places that hold what a vreg has all through: those that nothing writes, and those that are written for its own uses.
+-- Places that hold a vreg's value all through: nothing writes them, or only moves for the vreg's own uses.
 use Rattle.std.proofs.Common.{ℕ, zero, suc, ◌≡◌, ◌+◌, ◌<◌, ◌≤◌, Bool, true, false, List, [], ◌∷◌, length, refl, arith, sym, ◌∙◌, inl, inr, ◌⊎◌, subst}
 use Rattle.std.specs.Prelude.{◌&&◌}
 use Rattle.std.proofs.lemmas.Bool.{cases_Bool}
@@ -97,7 +97,7 @@ pub record Keeps (operands : List OperandValue) (places : List Place) (clobbers 
 
 module _ (v : VirtualRegister) (ops : List OperandValue) (places : List Place) (clobbers : PRegSet) (sooner later : List MoveValue)
     (undefined : Undefined ops v) where
-  -- so v's value is there when the instruction begins
+  -- v's value is there when the instruction begins
   kept_before : (p : Place) (s : Source) (c : Cells) (n : ℕ) → Keeps ops places clobbers sooner later v p → c p ≡ s v →
       Finds v false ops places (s v) (early_cells ops places (after_moves sooner c)) →
       Finds v true ops places (after_defs n 0 ops s v) (late_cells n ops places clobbers (after_moves sooner c)) →
@@ -115,7 +115,7 @@ module _ (v : VirtualRegister) (ops : List OperandValue) (places : List Place) (
     ]
   ]
 
-  -- and when all has run
+  -- v's value is there when all has run
   pub carries_kept : (P E R : Place → Type 0) → ((p : Place) → R p → Keeps ops places clobbers sooner later v p) →
       Carries v (with_moves sooner (Exec ops places clobbers ∷ with_moves later [])) P E →
       Carries v (with_moves sooner (Exec ops places clobbers ∷ with_moves later [])) (λ p. P p ⊎ R p) (λ p. E p ⊎ R p)
@@ -134,7 +134,7 @@ module _ (v : VirtualRegister) (ops : List OperandValue) (places : List Place) (
             x.2,
       )
 
--- the same of an instruction that was walked
+-- v's value is kept by an instruction that was walked
 pub carries_kept_walked : (v : VirtualRegister) (insts : ℕ → InstValue) (at : ℕ → List MoveValue) (places : ℕ → List Place) (i : ℕ) (P E R : Place → Type 0) →
     Undefined (insts i).operands v →
     ((p : Place) → R p → Keeps (insts i).operands (places i) (insts i).clobbers (at (before i)) (at (after i)) v p) →

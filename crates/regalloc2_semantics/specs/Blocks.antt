@@ -88,7 +88,7 @@ module _ (f : FunctionValue) (slot : VirtualRegister → Option Place) where
       (((k : ℕ) → HasEdge f b k → names v (block_at f (target_at f b k)).params ≡ false) × IsWantedBehind f b v × (slot v ≡ Some p))
       ⊎ ((k : ℕ) × (u : VirtualRegister) × HasEdge f b k × Passes u v (block_at f (target_at f b k)).params (arguments_at f b k) × (slot u ≡ Some p))
 
--- The same for values that aren't in one slot at every block's beginning: stand gives the place of each vreg at each block's beginning.
+-- Values that aren't in one slot at every block's beginning: `stand` gives the place of each vreg at each block's beginning.
 module _ (f : FunctionValue) (stand : ℕ → VirtualRegister → Option Place) where
   -- where v's value may be assumed to be at the block's beginning: in its place there, unless the block writes v
   abbrev pub ComesIn : ℕ → VirtualRegister → Place → Type 0

@@ -16,7 +16,7 @@ use Rattle.regalloc2_semantics.specs.Listing.Item.{Move, Exec}
 abbrev pub early_cells : List OperandValue → List Place → Cells → Cells
 early_cells operands places c = after_early_defs places 0 operands c
 
--- and those that its late uses read
+-- the cells that the late uses of an instruction read
 abbrev pub late_cells : ℕ → List OperandValue → List Place → PRegSet → Cells → Cells
 late_cells step operands places clobbers c = after_clobbers clobbers (after_writes places step 0 operands (early_cells operands places c))
 
@@ -35,7 +35,7 @@ CarriesFrom v E (Exec operands places clobbers ∷ items) s c n =
     × Finds v true operands places (after_defs n 0 operands s v) (late_cells n operands places clobbers c)
     × CarriesFrom v E items (after_defs n 0 operands s) (late_cells n operands places clobbers c) (suc n)
 
--- The same from every state in which the places of P hold v's value, which may be none.
+-- `CarriesFrom` from every state in which the places of P, which may be none, hold v's value.
 unfoldable pub Carries : VirtualRegister → List Item → (Place → Type 0) → (Place → Type 0) → Type 0
 Carries v items P E = (s : Source) (c : Cells) (n : ℕ) → ((p : Place) → P p → c p ≡ s v) → CarriesFrom v E items s c n
 

@@ -14,12 +14,12 @@ pub record IsTidy (T S : ℕ → Place) : Type 0 where
   pub no_register : (n : ℕ) (r : Register) → S n ≡ InRegister r → ⊥
   pub one_owner : (m n k : ℕ) → S m ≡ InSlot k → S n ≡ InSlot k → m ≡ n
 
--- a listing carries each vreg of Known from the places that its number needs
+-- a listing carries each tracked vreg from the places that its number needs
 abbrev pub Claims : (VirtualRegister → Type 0) → List Item → (ℕ → Place → Type 0) → (VirtualRegister → Place → Type 0) → Type 0
-Claims Known items N E = (v : VirtualRegister) → Known v → Carries v items (N v.number) (E v)
+Claims IsTracked items N E = (v : VirtualRegister) → IsTracked v → Carries v items (N v.number) (E v)
 
--- Known has one vreg for a number, and has those of the operands
-pub record Knows (Known : VirtualRegister → Type 0) (operands : List OperandValue) : Type 0 where
-  pub same : (v w : VirtualRegister) → Known v → Known w → v.number ≡ w.number → v ≡ w
-  pub definition : (j : ℕ) → j < length operands → is_def (op_at operands j).kind ≡ true → Known (op_at operands j).vreg
-  pub reading : (j : ℕ) → j < length operands → is_reading (op_at operands j) ≡ true → Known (op_at operands j).vreg
+-- the tracked vregs have one vreg for a number, and include the vregs of the operands
+pub record Knows (IsTracked : VirtualRegister → Type 0) (operands : List OperandValue) : Type 0 where
+  pub same : (v w : VirtualRegister) → IsTracked v → IsTracked w → v.number ≡ w.number → v ≡ w
+  pub definition : (j : ℕ) → j < length operands → is_def (op_at operands j).kind ≡ true → IsTracked (op_at operands j).vreg
+  pub reading : (j : ℕ) → j < length operands → is_reading (op_at operands j) ≡ true → IsTracked (op_at operands j).vreg

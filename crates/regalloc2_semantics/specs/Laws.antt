@@ -23,7 +23,7 @@ FaithfulWhereReadsAgree = (f : FunctionValue) (env : MachineValue) (out : Output
 abbrev pub WellFormedReadEarlier : Type 0
 WellFormedReadEarlier = (env : MachineValue) (f : FunctionValue) → IsWellFormed env f → (ws : List Way) → IsPath f ws → UsesWritten f ws → UsesFindEarlier f ws
 
--- so if reads agree, each finds on both sides a write of an earlier step, which has a number under every interpretation
+-- if reads agree, each finds on both sides a write of an earlier step, which has a number under every interpretation
 abbrev pub AgreeingReadsFindEarlier : Type 0
 AgreeingReadsFindEarlier = (env : MachineValue) (f : FunctionValue) (out : OutputValue) → IsWellFormed env f → ReadsAgreeOnPaths f out → (ws : List Way) →
     IsPath f ws → UsesFindEarlier f ws

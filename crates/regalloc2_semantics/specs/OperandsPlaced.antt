@@ -36,13 +36,13 @@ pub data Pending (what : ℕ → What) (here : ℕ → Place) (done out : ℕ �
   slotted : out n ≡ false → S n ≡ Some p → Pending what here done out T S k n p
   used : (j : ℕ) → k ≤ j → done j ≡ true → (what j).is_def ≡ false → (what j).number ≡ n → here j ≡ p → Pending what here done out T S k n p
 
--- the operands that count: those that define or read a vreg
+-- the operands that count: they define or read a vreg
 abbrev pub Counts : List OperandValue → ℕ → Type 0
 Counts operands j = (j < length operands) × ((is_def (op_at operands j).kind ≡ true) ⊎ (is_reading (op_at operands j) ≡ true))
 
 -- How far an instruction's operands are placed. here: the place of each; claimed: operands that have their place (placed ones, and fixed ones from the
 -- evictions on); done: placed ones; lived: numbers that had a location when the instruction began; out: numbers whose definition is placed; made_at: the places
--- of those; clobbered: the places that are clobbered.
+-- of placed definitions; clobbered: the places that are clobbered.
 pub record Progress : Type 0 where
   pub here : ℕ → Place
   pub claimed : ℕ → Bool

@@ -1,4 +1,4 @@
--- Values stored at the beginning of a block, one after another, such as those that the branch into the block defines.
+-- Values stored at the beginning of a block, one after another, such as the values that the branch into the block defines.
 use Rattle.std.specs.Prelude.{◌≡◌, ◌≢◌, Bool, true, false, List, [], ◌∷◌, ◌++◌, Option, None, Some}
 use Rattle.regalloc2_names.specs.Place.{Place, NoPlace}
 use Rattle.regalloc2_function.specs.OutputValue.{MoveValue}

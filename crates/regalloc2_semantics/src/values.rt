@@ -1,17 +1,18 @@
-//! The main theorem over two plain interpreters: one keeps a number for each vreg, the other a number for each place.
+//! The main theorem over two plain interpreters: the first keeps a number for each vreg, the second a
+//! number for each place.
 //!
-//! A crate of lemma functions: its public face is what they ensure. Authors of code generators use
-//! it, who then need neither the names of writes nor paths.
+//! Authors of code generators use the lemma function of this module, and then need neither the names
+//! of writes nor paths.
 
 ghost use Rattle.regalloc2_semantics.specs.Values.Alike.{FaithfulRunAlike, WellFormedRunAlike};
 
 use crate::reads_earlier_where_well_formed;
 
 /// Lemma: on a faithful output, the interpreter over places, run step by step with the listed
-/// moves, takes the same successor at each branch as the one over vregs, reads the same numbers,
-/// and ends when that one ends. Instructions may compute anything from all that was read so far,
-/// and branches decide by it. This requires that no use reads what its own instruction writes, as
-/// in well-formed functions.
+/// moves, takes the same successor at each branch as the interpreter over vregs, reads the same
+/// numbers, and ends when the other ends. Instructions may compute anything from all that was read
+/// so far, and branches decide by it. This requires that no use reads what its own instruction
+/// writes, as in well-formed functions.
 pub fn runs_alike()
     ensures faithful { FaithfulRunAlike }
     ensures well_formed { WellFormedRunAlike }

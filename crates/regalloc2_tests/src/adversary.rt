@@ -10,7 +10,7 @@ use regalloc2_index::{Block, Inst, InstRange};
 use regalloc2_names::{Operand, PRegSet, RegAllocError, RegClass, VReg};
 use std::alloc::Global;
 
-/// So many instructions, each with the same operands, in one block, which isn't the one that the function starts at.
+/// A function of `insts` instructions with the same operands, in one block, which isn't the entry.
 #[derive(Drop)]
 pub struct Same<'a> {
     /// What each instruction does.
@@ -100,9 +100,9 @@ impl Function for Same<'_> {
     ghost limited = { limited_same };
 }
 
-/// A list of 2^15 operands that is lent so many times: how many operands that makes, and how a run
-/// rejects it. 2^32 of them, which no list holds, are rejected before anything is allocated, and
-/// without a look at each of them. The machine has registers of each class, since one without is
+/// How many operands a function of `insts` instructions has that all lend one list of 2^15 operands, and
+/// how a run rejects it. 2^32 operands, which no list holds, are rejected before anything is allocated, and
+/// without a look at each operand. The machine has registers of each class, since a machine without is
 /// tested against each operand.
 pub fn lend(alloc: Global, insts: usize) -> Option<(Option<u32>, Option<RegAllocError>)>
     requires { insts < 2 ^ 30 }

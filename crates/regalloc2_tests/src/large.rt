@@ -25,7 +25,7 @@ fn read(number: usize) -> Operand {
     Operand::reg_use(vreg(number))
 }
 
-/// How many places and slots a function gets on so many registers.
+/// How many places and slots `f` gets on a machine with `registers` integer registers.
 fn size_of(alloc: Global, f: &TableFunction, registers: usize) -> Option<(usize, usize)> {
     match allocated(alloc, f, registers) {
         Some(out) => Some((out.allocs.len(), out.num_spillslots)),
@@ -33,7 +33,7 @@ fn size_of(alloc: Global, f: &TableFunction, registers: usize) -> Option<(usize,
     }
 }
 
-/// How many places and slots a function gets on so many registers, if it could be built.
+/// How many places and slots `f` gets on a machine with `registers` integer registers, if it could be built.
 fn size(
     alloc: Global,
     f: Result<TableFunction, BuildError>,
@@ -69,7 +69,7 @@ fn many_live(alloc: Global) -> Result<TableFunction, BuildError> {
     f.finish(50_000)
 }
 
-/// Adds so many operands to definitions and uses.
+/// Adds `count` operands to each of `defs` and `uses`.
 fn add_operands(
     count: usize,
     defs: &mut Vec<Operand>,

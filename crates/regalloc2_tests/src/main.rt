@@ -82,7 +82,7 @@ fn is_seed_right(alloc: Global, seed: u64) -> Option<bool> {
     Some(is_right(alloc, &f, &maker.env))
 }
 
-/// How many of so many randomly generated functions fail.
+/// How many of `count` randomly generated functions fail.
 fn failures(alloc: Global, count: u64) -> usize {
     let mut failed = 0usize;
     for seed in 0..count {
@@ -93,7 +93,7 @@ fn failures(alloc: Global, count: u64) -> usize {
     failed
 }
 
-/// How many of so many randomly generated modules over whole numbers end as their codes do.
+/// How many of `count` randomly generated modules over whole numbers end as their code does.
 fn agreeing(alloc: Global, count: u64) -> usize {
     let mut agreeing = 0usize;
     for seed in 0..count {

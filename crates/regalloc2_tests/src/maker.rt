@@ -23,7 +23,7 @@ pub struct Maker {
     most: [usize; 3],
     /// How many vregs are named.
     named: usize,
-    /// Those that may be read.
+    /// The vregs that may be read.
     known: Vec<VReg>,
     /// Whether instructions require registers as long as there are any, as in most functions.
     is_filled: bool,
@@ -101,7 +101,7 @@ impl Maker {
         draft.operands.push(operand).ok()
     }
 
-    /// An instruction of fewer than so many operands, and those that fill it up. A branch has uses alone, and isn't filled up.
+    /// An instruction of fewer than `below` operands, and the operands that fill it up. A branch has uses alone, and isn't filled up.
     fn inst(&mut self, below: usize, op: InstOpcode) -> Option<TableInst>
         requires { 0 < below }
     {

@@ -2,7 +2,7 @@
 
 use super::words_of;
 use crate::test_alloc::Refusing;
-use regalloc2_tool::ra2::answer;
+use regalloc2_tool::ra2::run_program;
 use std::alloc::Global;
 use std::io::{self, BufWriter, ErrorKind, Read, Write};
 
@@ -28,7 +28,7 @@ const UNREADABLE: &str = "ra2: input unreadable\n";
 /// How many bytes a buffer usually has.
 const USUAL: usize = 8192;
 
-/// A reader over a text, of which the read that comes after so many others fails.
+/// A reader over `text`, of which the read after `sound_reads` others fails.
 #[derive(Clone, Copy)]
 struct Failing<'a> {
     text: &'a [u8],
@@ -55,8 +55,8 @@ impl Read for Failing<'_> {
     }
 }
 
-/// A writer over memory. The write that comes after so many others fails, once, and so may each flush. It sees whether a write
-/// came after the failed one.
+/// A writer over memory. The write after `sound_writes` others fails, once, and so may each flush. `is_written_again` tells whether a
+/// write came after the failed one.
 #[derive(Drop)]
 struct Faulty {
     text: Vec<u8>,
@@ -106,7 +106,7 @@ impl Write for Faulty {
     }
 }
 
-/// The status that the program returns for a command line and an input, and what it writes over a buffer of so many bytes.
+/// The status that the program returns for the command line `line` and an `input`, and what it writes over a buffer of `capacity` bytes.
 fn call(
     alloc: Global,
     line: &str,
@@ -118,7 +118,7 @@ fn call(
     let out = BufWriter::with_capacity(alloc, capacity, out)?;
     let words = words_of(alloc, line)?;
     let ample = &Refusing::counting(alloc);
-    Ok(answer(alloc, ample, words.as_slice(), input, out, err))
+    Ok(run_program(alloc, ample, words.as_slice(), input, out, err))
 }
 
 /// Whether the program reports arguments and an input by just a line on the standard error, with
@@ -186,8 +186,8 @@ pub fn unrefused_reads(alloc: Global) -> io::Result<Vec<usize>> {
     )
 }
 
-/// What the program writes and returns where the write that comes after so many others fails, over
-/// a buffer of so many bytes.
+/// What the program writes and returns if the write after `sound_writes` others fails, over a buffer
+/// of `capacity` bytes.
 fn answer_faulty(alloc: Global, capacity: usize, sound_writes: u32) -> io::Result<(u8, Faulty)> {
     let input = Failing::sound(TEXT.as_bytes());
     let out = Faulty::new(alloc, sound_writes, true);
@@ -199,7 +199,7 @@ fn answer_faulty(alloc: Global, capacity: usize, sound_writes: u32) -> io::Resul
     Ok((status, out))
 }
 
-/// How many writes there are over a buffer of so many bytes, where each of them ends the program if it fails.
+/// How many writes there are over a buffer of `capacity` bytes, if each of them ends the program where it fails.
 fn fatal_writes(alloc: Global, capacity: usize) -> io::Result<Option<u32>> {
     for sound_writes in 0..1000u32 {
         let (status, out) = answer_faulty(alloc, capacity, sound_writes)?;

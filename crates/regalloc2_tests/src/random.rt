@@ -40,7 +40,7 @@ fn pregs(class: RegClass, from: usize, to: usize) -> PRegSet {
     set
 }
 
-/// A machine whose only registers are so many preferred ones for integers.
+/// A machine whose only registers are `count` preferred ones for integers.
 pub fn integer_machine(alloc: Global, count: usize) -> MachineEnv {
     let empty = PRegSet::empty();
     MachineEnv {

@@ -22,7 +22,7 @@ fn output_of<F: Function>(alloc: Global, f: &F, env: &MachineEnv) -> Output {
 /// Whether each failed allocation of a call is reported, and whether the call allocates memory at
 /// all. The call's expected result is the one that it returns with ample memory.
 fn is_told<F: Function>(global: Global, given: &mut Given<'_, F>) -> Option<bool> {
-    given.wanted = given.answer(&Refusing::counting(global)).ok()?;
+    given.wanted = given.outcome(&Refusing::counting(global)).ok()?;
     Some(is_each_told(global, given))
 }
 

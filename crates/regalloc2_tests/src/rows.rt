@@ -28,7 +28,7 @@ const FORK: &str = "block0:\n  op: Def: v0i reg\n  branch block1(v0i), block2()\
     block1(v1i):\n  ret: Use: v1i reg\n\
     block2:\n  ret: Use: v1i reg\n";
 
-/// What is allocated to a function on so many registers.
+/// The output for `f` on a machine with `registers` integer registers.
 pub fn allocated<F: Function>(alloc: Global, f: &F, registers: usize) -> Option<Output> {
     run_fitting(alloc, f, &integer_machine(alloc, registers))?.ok()
 }
@@ -64,7 +64,7 @@ fn own_slots<F: Function>(alloc: Global, f: &F) -> Option<usize> {
     }
 }
 
-/// How many slots `run_with_ctx` gives a function on so many registers, or how it is rejected.
+/// How many slots `run_with_ctx` gives `f` on a machine with `registers` integer registers, or how it rejects `f`.
 fn lent_slots<F: Function>(
     alloc: Global,
     f: &F,

@@ -1,4 +1,4 @@
--- Lemmas on texts. `ExplainLemmas`: on those of causes.
+-- Lemmas on texts. `ExplainLemmas`: texts of causes.
 -- Read first: `Joined` there.
 -- Depends on lists alone.
 pub mod ExplainLemmas

@@ -15,7 +15,7 @@ mod paths;
 mod pressure;
 pub mod report;
 mod source;
-mod stored;
+pub(crate) mod stored;
 mod write_search;
 mod writes;
 

@@ -7,11 +7,13 @@ pub mod explain;
 mod reading;
 pub mod refusal;
 mod same;
+mod spell;
 pub mod stored_fault;
 pub mod writer;
 mod writing;
 
 pub use crate::cursor::{Expected, Fault, Found, TextError};
+pub use crate::spell::PointText;
 pub use crate::writer::write_json;
 pub use reading::{Text, is_logged, read};
 pub use writing::{WriteError, write};

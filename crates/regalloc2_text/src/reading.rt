@@ -30,7 +30,7 @@ pub struct Text<A: Allocator = Global> {
     pub output: Option<StoredOutput<A>>,
 }
 
-/// Whether a line of those tokens is that of a block.
+/// Returns whether a line, given as `tokens`, begins a block.
 fn begins_block(tokens: &[Token<'_>]) -> bool {
     match tokens.first() {
         Some(token) => is_numbered(token.text, "block"),
@@ -38,7 +38,7 @@ fn begins_block(tokens: &[Token<'_>]) -> bool {
     }
 }
 
-/// The line of the last move without a point after a line of that effect, where it was `before` up to there.
+/// The line of the last move without a point, after a line of the effect `effect`; up to that line it was `before`.
 fn last_move(effect: LineEffect, line: usize, before: usize) -> usize
     ensures low { before ≤ line → before ≤ result }
     ensures high { before ≤ line → result ≤ line }
@@ -50,7 +50,7 @@ fn last_move(effect: LineEffect, line: usize, before: usize) -> usize
     }
 }
 
-/// No instruction of its block follows the move on that line.
+/// The error of the move on line `line`, which no instruction of its block follows.
 fn no_inst_after<'t>(line: usize) -> TextError<'t>
     ensures { (first : ℕ) → (last : ℕ) → first ≤ line → line ≤ last → IsOnLineBetween first last result }
 {
@@ -61,7 +61,7 @@ fn no_inst_after<'t>(line: usize) -> TextError<'t>
 }
 
 /// Reads the lines of a text, whose first line has the number `first_line`, into a draft (what the
-/// lines so far say), by way of `tokens`. Returns the number of the last.
+/// lines so far say), by way of `tokens`. Returns the number of the last line.
 fn read_lines<'t, A: Allocator + Copy>(
     draft: &mut Draft<A>,
     alloc: A,

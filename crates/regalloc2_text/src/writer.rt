@@ -11,7 +11,6 @@ mod places;
 mod preds;
 mod registers;
 mod shown;
-mod spell;
 
 pub use json::write_json;
 pub use lines::lay_out;

@@ -34,21 +34,21 @@ pub no_more_operands : (places : List Place) (os : List OperandValue) (k : ℕ) 
 unfolding operands_text
 no_more_operands places os k h = at_drop_all (operands_text places k) os k h
 
--- an instruction's number, end, places and operands, as they were read
-pub record IsInstRead (f : FunctionValue) (o : OutputValue) (i n : ℕ) (end : List ℕ) (places : List Place) (os : List OperandValue) : Type 0 where
+-- an instruction's number, kind, places and operands, as they were read
+pub record IsInstRead (f : FunctionValue) (o : OutputValue) (i n : ℕ) (name : List ℕ) (places : List Place) (os : List OperandValue) : Type 0 where
   pub number : n ≡ i
-  pub opcode : end ≡ codes " " ++ opcode_text (inst_at f i)
+  pub opcode : name ≡ opcode_text (inst_at f i)
   pub places_are : places ≡ allocs_of o i
   pub operands : os ≡ (inst_at f i).operands
 
 -- an instruction's line is its number and its kind, its operands, and the line's end
-pub inst_written : {X E : Type 0} (r : Result X E) (a b c d : Option (List ℕ)) (f : FunctionValue) (o : OutputValue) (i n : ℕ) (end : List ℕ)
-    (places : List Place) (os : List OperandValue) → IsInstRead f o i n end places os →
-    Appends a b (codes "  inst" ++ (decimal n ++ end)) → Appends b c (operands_text places 0 os) → OnOk r (Appends c d (codes "\n")) →
+pub inst_written : {X E : Type 0} (r : Result X E) (a b c d : Option (List ℕ)) (f : FunctionValue) (o : OutputValue) (i n : ℕ) (name : List ℕ)
+    (places : List Place) (os : List OperandValue) → IsInstRead f o i n name places os →
+    Appends a b (codes "  inst" ++ (decimal n ++ (codes " " ++ name))) → Appends b c (operands_text places 0 os) → OnOk r (Appends c d (codes "\n")) →
     OnOk r (Appends a d (inst_line f o i))
 unfolding inst_line
-inst_written r a b c d f o i n end places os read w v u =
-    let head : List ℕ = codes "  inst" ++ (decimal n ++ end) in
+inst_written r a b c d f o i n name places os read w v u =
+    let head : List ℕ = codes "  inst" ++ (decimal n ++ (codes " " ++ name)) in
     written_on_ok r a c d (inst_line f o i) (head ++ operands_text places 0 os) (codes "\n") (Appends-trans a b c head (operands_text places 0 os) w v) u
     (simp (read.number, read.opcode, read.places_are, read.operands, append_assoc))
 

@@ -1,4 +1,4 @@
--- Lemmas for the status and the text of `ra2`: each outcome is one of those in the specs.
+-- Lemmas for the status and the text of `ra2`: each outcome is an outcome of the specs.
 -- Read first: `verdict` and `outcome` in `Outcomes`; `FindingsWritten` writes reports, `TextReadings` reads input.
 -- Depends on `Input`, `Outcome` and `Findings` of the specs.
 pub mod FindingsWritten

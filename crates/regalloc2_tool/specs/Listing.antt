@@ -8,7 +8,7 @@ use Rattle.regalloc2_names.specs.Text.{operand_text, place_text}
 use Rattle.regalloc2_function.specs.FunctionValue.{FunctionValue, InstValue, inst_at}
 use Rattle.regalloc2_function.specs.OutputValue.{OutputValue, MoveValue, DebugLocation, allocs_of, place_at}
 use Rattle.regalloc2_function.specs.Listing.{Listed, ListedInst, ListedMove, block_listing}
-use Rattle.regalloc2_tool.specs.Text.{point_text}
+use Rattle.regalloc2_text.specs.Point.{point_text}
 
 -- an instruction's kind
 abbrev pub opcode_text : InstValue → List ℕ

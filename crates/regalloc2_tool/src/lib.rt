@@ -7,9 +7,6 @@
 
 pub mod calls;
 pub mod listing;
-mod moves;
-mod operands;
-mod places;
 pub mod ra2;
 pub mod ra2_text;
 pub mod svg;

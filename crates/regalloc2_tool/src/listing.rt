@@ -1,39 +1,20 @@
 //! The listing of an allocated function.
 
-ghost use Rattle.std.specs.Prelude.{◌≡◌, ◌<◌, ◌++◌, Some, OnOk, codes, length};
+ghost use Rattle.std.specs.Prelude.{◌≡◌, ◌<◌, OnOk, length};
 ghost use Rattle.std.specs.Io.KnownBytes.{Appends};
 ghost use Rattle.regalloc2_function.specs.FunctionValue.{inst_at};
 ghost use Rattle.regalloc2_function.specs.OutputValue.{IsInOrder, place_at};
-ghost use Rattle.regalloc2_function.specs.Views.{output_of};
+ghost use Rattle.regalloc2_function.specs.Views.{move_of, output_of};
 ghost use Rattle.regalloc2_tool.specs.Framed.{BlocksAreWithin};
-ghost use Rattle.regalloc2_tool.specs.Listing.{opcode_text, operands_text, inst_line, block_text};
+ghost use Rattle.regalloc2_tool.specs.Listing.{opcode_text, placed_text, operands_text, inst_line, move_line, block_text};
 ghost use Rattle.regalloc2_tool.specs.Listing.{blocks_text, debug_line, debug_text, listing_text};
-ghost use Rattle.regalloc2_tool.specs.Text.{point_text};
 
-use super::moves::write_move;
-use super::operands::write_operand;
-use regalloc2_function::{Function, InstOrEdit, Output};
+use regalloc2_function::{Edit, Function, InstOrEdit, Output};
 use regalloc2_index::{Block, Inst};
-use regalloc2_names::{Allocation, InstPosition, Operand, ProgPoint};
+use regalloc2_names::{Allocation, Operand, ProgPoint};
+use regalloc2_text::PointText;
 use std::alloc::Allocator;
-use std::fmt;
 use std::io::{self, Write};
-
-/// A program point, as `inst3-pre` or `inst3-post`.
-#[derive(Clone, Copy)]
-struct PointText(ProgPoint);
-
-impl fmt::Display for PointText {
-    ghost output = { λ p. Some (point_text p.0) };
-
-    fn fmt<W: fmt::Write>(&self, f: &mut fmt::Formatter<W>) -> fmt::Result {
-        let inst = self.0.inst().index();
-        match self.0.pos() {
-            InstPosition::Before => write!(f, "inst{inst}-pre"),
-            InstPosition::After => write!(f, "inst{inst}-post"),
-        }
-    }
-}
 
 /// An instruction's kind, as `op`, `branch` or `ret`.
 pub fn opcode_name<F: Function>(f: &F, inst: Inst) -> &'static str
@@ -49,20 +30,6 @@ pub fn opcode_name<F: Function>(f: &F, inst: Inst) -> &'static str
     }
 }
 
-/// The text after an instruction's number: a space and the instruction's kind.
-fn opcode_end<F: Function>(f: &F, inst: Inst) -> &'static str
-    requires { inst < length (F.function f.now).insts }
-    ensures { result.now ≡ codes " " ++ opcode_text (inst_at (F.function f.now) inst) }
-{
-    if f.is_branch(inst) {
-        " branch"
-    } else if f.is_ret(inst) {
-        " ret"
-    } else {
-        " op"
-    }
-}
-
 /// The place of an operand; `none` past the end of the list.
 fn place_at(places: &[Allocation], k: usize) -> Allocation
     ensures { result ≡ place_at places.now k }
@@ -72,6 +39,20 @@ fn place_at(places: &[Allocation], k: usize) -> Allocation
     } else {
         Allocation::none()
     }
+}
+
+/// Writes the operand at the index `k` of its instruction, with its place.
+#[tactic(auto, unfolding(crate::specs::Listing::placed_text))]
+fn write_operand<W: Write>(
+    k: usize,
+    operand: Operand,
+    place: Allocation,
+    writer: &mut W,
+) -> io::Result<()>
+    ensures { OnOk result (Appends (W.contents writer.old) (W.contents writer.new) (placed_text k operand place)) }
+{
+    let before = if k == 0 { ": " } else { ", " };
+    write!(writer, "{before}{operand} [{place}]")
 }
 
 /// Writes an instruction's operands, each with its place.
@@ -100,10 +81,19 @@ fn write_inst<F: Function, A: Allocator, W: Write>(
     ensures { OnOk result (Appends (W.contents writer.old) (W.contents writer.new) (inst_line (F.function f.now) (output_of output.now) inst)) }
 {
     let number = inst.index();
-    let end = opcode_end(f, inst);
-    write!(writer, "  inst{number}{end}")?;
+    let name = opcode_name(f, inst);
+    write!(writer, "  inst{number} {name}")?;
     write_operands(f.inst_operands(inst), output.inst_allocs(inst), writer)?;
-    writer.write_all(b"\n")
+    writeln!(writer)
+}
+
+/// Writes a move.
+#[tactic(auto, unfolding(crate::specs::Listing::move_line))]
+fn write_move<W: Write>(edit: Edit, writer: &mut W) -> io::Result<()>
+    ensures { OnOk result (Appends (W.contents writer.old) (W.contents writer.new) (move_line (move_of edit))) }
+{
+    let (from, to) = edit.places();
+    writeln!(writer, "  move {from} -> {to}")
 }
 
 /// Writes a block's instructions, each after the moves that run before it.

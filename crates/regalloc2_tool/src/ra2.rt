@@ -7,6 +7,6 @@ mod reading;
 mod task;
 
 pub use judging::{judge, show};
-pub use program::{UNUSABLE, answer, refuse_words};
+pub use program::{UNUSABLE, refuse_words, run_program};
 pub use reading::{InputError, function_from, replay_from};
 pub use task::{Command, Task};

@@ -5,5 +5,5 @@ mod program;
 mod task;
 
 pub use input::{Input, InputError, position_of};
-pub use program::{UNUSABLE, answer};
+pub use program::{UNUSABLE, perform_task};
 pub use task::{Action, Task};

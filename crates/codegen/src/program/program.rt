@@ -236,7 +236,7 @@ fn fulfil<R: Read + Drop, O: Write, E: Write>(
 /// status is 2. A rejected function is a line there too, and the status is 1; it is also 1 if the
 /// runs of a module and of its code have different outcomes. Otherwise the output is on `out`,
 /// flushed, and the status is 0.
-pub fn answer<R: Read + Drop, O: Write, E: Write>(
+pub fn run_task<R: Read + Drop, O: Write, E: Write>(
     alloc: Global,
     task: &Task<'_>,
     input: R,

@@ -431,7 +431,7 @@ impl Draft {
         }
     }
 
-    /// Writes a function of that many arguments, and so many sections.
+    /// Writes a function of `arity` arguments and `sections` sections.
     fn write_function(&mut self, arity: usize, sections: usize) -> Result<(), AllocError> {
         self.known.clear();
         self.depth = None;

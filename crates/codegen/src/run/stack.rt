@@ -42,9 +42,9 @@ pub struct Stack {
 
 /// What an instruction does to the stack.
 pub enum StackAct {
-    /// It calls a function.
+    /// A call of a function.
     Call(usize),
-    /// It puts a register into an outgoing word.
+    /// A register put into an outgoing word.
     Pass {
         /// The word.
         index: usize,

@@ -8,15 +8,15 @@ use std::fmt;
 /// The outcome of a run after some number of steps.
 #[derive(Clone, Copy, PartialEq, Eq)]
 pub enum Standing {
-    /// It still runs.
+    /// The run goes on.
     Running,
-    /// It has returned a number.
+    /// The run has returned a number.
     Returned(u64),
-    /// It has trapped.
+    /// The run has trapped.
     Trapped,
     /// The stack has overflowed.
     Overflowed,
-    /// It is stuck.
+    /// The run is stuck.
     Stuck,
 }
 

@@ -97,22 +97,13 @@ pub struct Draft {
     arity: usize,
 }
 
-/// That many empty lists.
-fn empty_lists(alloc: Global, cursor: &mut Cursor<'_, '_>, count: usize) -> Vec<Vec<Block>> {
-    let mut lists = Vec::new(alloc);
-    for _ in 0..count {
-        cursor.push(&mut lists, Vec::new(alloc));
-    }
-    lists
-}
-
 /// The predecessors of each block.
 fn predecessors(
     alloc: Global,
     cursor: &mut Cursor<'_, '_>,
     blocks: &[DraftBlock],
 ) -> Vec<Vec<Block>> {
-    let mut preds = empty_lists(alloc, cursor, blocks.len());
+    let mut preds = cursor.empty_lists(alloc, blocks.len());
     let mut number = 0u32;
     for block in blocks {
         add_pred(cursor, &mut preds, Block(number), block.succs.as_slice());

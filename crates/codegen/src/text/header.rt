@@ -31,8 +31,8 @@ impl fmt::Display for AritiesText<'_> {
     }
 }
 
-/// A header for C of a module's code: the entry's prototype, and constants for the size of memory
-/// and for the number of each function's arguments.
+/// A header for C of a module's code: the entry's prototype, and constants for memory's size and for
+/// the number of each function's arguments.
 #[derive(Clone, Copy)]
 pub struct HeaderText<'a> {
     /// The code.

@@ -266,7 +266,7 @@ fn read_index(cursor: &mut Cursor<'_, '_>, arity: usize) -> u32 {
     }
 }
 
-/// What a call expects that doesn't pass so many arguments.
+/// What a call expects that passes another number of arguments than `arity`.
 fn arguments_wanted(arity: usize) -> &'static str {
     match arity {
         0 => "no arguments of this function",

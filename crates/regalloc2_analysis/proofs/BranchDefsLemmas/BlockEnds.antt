@@ -20,7 +20,7 @@ pub within_function : (f : FunctionValue) → MayHaveTables f → (b : ℕ) → 
     ((block_at f b).range.first < (block_at f b).range.end) × ((block_at f b).range.end ≤ length f.insts)
 within_function f w b lt = ((w.1.follow b lt).0, ends_within f w.1.follow b lt)
 
--- and so is its last one
+-- a block's last instruction is within the function
 pub last_within : (f : FunctionValue) → MayHaveTables f → (b : ℕ) → b < length f.blocks → last_of (block_at f b) < length f.insts
 last_within f w b lt = let h = within_function f w b lt in omega (arith, h.0, h.1)
 

@@ -21,9 +21,9 @@ use Rattle.regalloc2_semantics.proofs.SingleDef.Made.{by_operand}
 use Rattle.regalloc2_analysis.specs.BranchDefs.BranchDefs.{AreStoredOperands, EndsInDefinitions, IsEdgeInto, IsHeld, IsUsedElsewhere, MayHaveTables}
 use Rattle.regalloc2_analysis.specs.BranchDefs.BranchDefs.{fixed_definition}
 use Rattle.regalloc2_analysis.specs.BranchDefs.Notes.{AreUsed, IsMarkedDefinition, ListsStored}
-use Rattle.regalloc2_analysis_steps.specs.Edges.{NotesEdges}
+use Rattle.regalloc2_analysis.specs.BranchDefs.Notes.{NotesEdges}
 use Rattle.regalloc2_analysis.specs.BranchDefs.Tables.{AreEdges, IsEdgeOf}
-use Rattle.regalloc2_analysis_steps.specs.declared.edges.EdgeInto.{EdgeInto}
+use Rattle.regalloc2_analysis.specs.declared.branch_defs.EdgeInto.{EdgeInto}
 use Rattle.regalloc2_analysis.proofs.BranchDefsLemmas.UseNotes.{used_made}
 
 -- the registers to which definitions among the first operands are fixed
@@ -182,7 +182,7 @@ range_before xs ys a b le within =
 take_all : (ys : List ℕ) (n : ℕ) → n ≡ length ys → take n ys ≡ ys
 take_all ys n e = grind (arith, common_steps)
 
--- and what is appended is found behind
+-- the range behind a list has what is appended to it
 range_behind : (xs ys : List ℕ) → slice_range (xs ++ ys) (length xs) (length (xs ++ ys)) ≡ ys
 range_behind xs ys =
     ap (take (length (xs ++ ys) - length xs)) (drop-append_seam xs ys) ∙ take_all ys (length (xs ++ ys) - length xs)

@@ -19,7 +19,7 @@ made_room f once n room v (Made.by_param b k x e) = room v (before (block_at f b
     (inl (b, x.block, omega arith, (k, x.param, get_or_default (block_at f b).params k v no_vreg x.param ∙ e)))
     (made_small f once v (Made.by_param b k x e))
 
--- and so has what an operand defines
+-- what an operand defines has a number within the room
 pub defined_room : (f : FunctionValue) → DefinedOnce f → (n : ℕ) → HasRoom f n → (m i k : ℕ) → DefinesAt f m i k → m < n
 defined_room f once n room m i k x =
     let o : OperandValue = op_at (inst_at f i).operands k in

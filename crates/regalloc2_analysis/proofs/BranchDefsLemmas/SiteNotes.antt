@@ -59,7 +59,7 @@ unsited ops branch k first old isnt h = record {
   ];
 }
 
--- and one that does
+-- an operand more that defines
 sited : (ops : List OperandValue) (branch k : ℕ) (first old : List (Option DefSite)) → k < length ops → is_def (op_at ops k).kind ≡ true →
     NotesSites ops branch k first old →
     NotesSites ops branch (k + 1) first (set old (op_at ops k).vreg.number (Some (record { branch = branch; index = k })))
@@ -160,7 +160,7 @@ sites_more f w b lt old new h notes = elim (cases_Bool (inst_at f (last_of (bloc
   | inr isnt ↦ subst (SitesUpTo f (b + 1)) (sym (notes.no_branch isnt)) (sites_return f b old h isnt)
 ]
 
--- and so all are
+-- with all blocks' branches noted, each definition of a branch has a site
 pub sites_all : (f : FunctionValue) → MayHaveTables f → (sites : List (Option DefSite)) → SitesUpTo f (length f.blocks) sites → AreDefSites f sites
 sites_all f w sites h = record {
   site = h.site;

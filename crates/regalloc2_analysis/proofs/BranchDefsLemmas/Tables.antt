@@ -20,7 +20,7 @@ tables_none f t w none no_sites no_edges = record {
   no_edge = λ b e from position into. none (from, into.block, into.definitions);
 }
 
--- and else they are those of all blocks
+-- the tables that were filled from all blocks are the tables of the function
 pub tables_all : {A : Type 0} (f : FunctionValue) (t : BranchDefs A) → AreDefSites f t.sites.items →
     AreEdges f (length f.blocks) t.edges.items t.stored.items → AreBranchDefsOf f t
 tables_all f t sites edges = record {

@@ -149,7 +149,7 @@ passed_used f w sites are b k lt edge v has free =
     let i : ℕ = last_of (block_at f b) in
     (i, inr (inr (b, k, lt, refl, edge, has, λ d. free (noted_there f w sites are v i (goes_on_by_branch f w b k lt edge) d))))
 
--- and what it passes and doesn't define isn't noted as its definition
+-- what a branch passes and doesn't define isn't noted as its definition
 not_noted : (f : FunctionValue) → MayHaveTables f → (sites : List (Option DefSite)) → AreDefSites f sites → (b k : ℕ) → b < length f.blocks →
     k < length (block_at f b).succs → (v : VirtualRegister) → Contains (slice_index_or (block_at f b).arguments k []) v →
     (DefinesAt f v (last_of (block_at f b)) → ⊥) → IsSiteAt sites v.number (last_of (block_at f b)) → ⊥

@@ -15,7 +15,7 @@ use Rattle.regalloc2_semantics.proofs.Cells.{is_vreg-true, is_vreg-same}
 use Rattle.regalloc2_analysis.specs.BranchDefs.BranchDefs.{IsUsedElsewhere}
 use Rattle.regalloc2_analysis.proofs.BranchDefsLemmas.UseNotes.{reads_here, reads_within}
 
--- it holds, or it doesn't
+-- a statement holds, or it doesn't
 abbrev pub Decided : Type 0 → Type 0
 Decided P = P ⊎ (P → ⊥)
 
@@ -116,7 +116,7 @@ reads_of f v p i r =
 pub by_read : (f : FunctionValue) (v : VirtualRegister) → ((i : ℕ) × (i < length f.insts) × SomeReads f v i) → IsUsedElsewhere f v
 by_read f v h = (h.0, subst (λ (w : VirtualRegister). UsesAt f w h.0) h.2.2.1 (reads_here f h.0 h.2.0 h.1 h.2.1 h.2.2.0))
 
--- and so does a branch that passes it and doesn't define it
+-- a branch that passes a vreg and doesn't define it uses it elsewhere
 pub by_pass : (f : FunctionValue) (v : VirtualRegister) → ((b : ℕ) × (b < length f.blocks) × SomePasses f v b) → IsUsedElsewhere f v
 by_pass f v h = (
   last_of (block_at f h.0),

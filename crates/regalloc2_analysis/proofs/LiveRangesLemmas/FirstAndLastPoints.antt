@@ -50,7 +50,7 @@ module _ (f : FunctionValue) (ssa : IsSSA f) where
   one_first_point v (of_parameter b lt h) (of_parameter c less k) =
       ap (λ (n : ℕ). before (block_at f n).range.first) (one_param f ssa.once v.number b c h.0 k.0 (takes_number f v b lt h) (takes_number f v c less k)).0
 
-  -- and one last point
+  -- a vreg has one last point
   pub one_last_point : (v : VirtualRegister) {p q : ℕ} → IsLastPoint f v p → IsLastPoint f v q → p ≡ q
   one_last_point v (of_late_use i a l) (of_late_use j b m) = ap (λ (n : ℕ). before (n + 1)) (one_last f v i j a b)
   one_last_point v (of_late_use i a l) (of_early_use j b never m) = absurd (never (subst (ReadsAt f v Late) (one_last f v i j a b) l))

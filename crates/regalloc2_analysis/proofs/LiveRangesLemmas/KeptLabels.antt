@@ -26,7 +26,7 @@ use Rattle.regalloc2_analysis.specs.LiveRanges.LiveRanges.{AreKeptLabels, AreLiv
 use Rattle.regalloc2_analysis.specs.LiveRanges.LiveRanges.AreKeptLabels.{none, kept, left_out}
 use Rattle.regalloc2_analysis.proofs.LiveRangesLemmas.FirstAndLastPoints.{one_first_point, one_last_point}
 
--- the kept labels of two lists, one after the other, are those of the first and then those of the second
+-- the kept labels of two lists, one after the other, are the kept labels of the first list and then of the second
 pub kept_append : {f : FunctionValue} {ls ms : List Label} {ks ns : List KeptLabel} → AreKeptLabels f ls ks → AreKeptLabels f ms ns →
     AreKeptLabels f (ls ++ ms) (ks ++ ns)
 kept_append none b = b
@@ -96,7 +96,7 @@ module _ (f : FunctionValue) (limited : IsLimited f) (ssa : IsSSA f) (t : List (
         by = subst (λ (v : VirtualRegister). IsShownBy f v r.by) same live.by;
       }
 
-  -- and one that is kept lies within
+  -- a label that is kept lies within its live range
   pub kept_within : (start end : ℕ) → IsKept f l start end → (r.vreg ≡ l.vreg) × (inst_of_point r.first ≤ l.start) × (l.end ≤ inst_of_point r.last + 1)
   kept_within start end k =
       let there = are.all l.vreg start end named k.0 k.1 in
@@ -139,7 +139,7 @@ IsOneOf f ls k = Any (λ l. (k.label ≡ l.label) × IsKeptRange f l k.range) ls
 one_later : (f : FunctionValue) (l : Label) (ls : List Label) (k : KeptLabel) → IsOneOf f ls k → IsOneOf f (l ∷ ls) k
 one_later f l ls k h = (suc h.0, h.1, omega (arith, h.2), h.3, h.4)
 
--- each kept label is one of those listed, kept with its live range
+-- each kept label is one of the listed labels, kept with its live range
 pub kept_from : {f : FunctionValue} {ls : List Label} {ks : List KeptLabel} → AreKeptLabels f ls ks → All (IsOneOf f ls) ks
 kept_from {f = f} none = All-nil (IsOneOf f [])
 kept_from {f = f} (kept {ls = ls} {ks = ks} l k is range rest) = All-cons (IsOneOf f (l ∷ ls)) k ks (0, l, omega arith, refl, (is, range))

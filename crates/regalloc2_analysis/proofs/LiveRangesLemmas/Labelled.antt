@@ -15,10 +15,6 @@ use Rattle.regalloc2_analysis.specs.LiveRanges.Marks.{NamedAmong}
 use Rattle.regalloc2_analysis.proofs.MarkedItems.{marks_then, same_item}
 use Rattle.regalloc2_analysis.proofs.LiveRangesLemmas.UsesInSSA.{defined_small, parameter_small}
 
-pub none_is : (b : Bool) → (b ≡ true → ⊥) → not b ≡ true
-none_is true never = absurd (never refl)
-none_is false never = refl
-
 -- labels as a client gives them
 abbrev Given : Type 0
 Given = VirtualRegister × ℕ × ℕ × ℕ
@@ -52,7 +48,7 @@ labelled_at f items k x same lt is =
     subst (λ (ls : List Label). Any (λ (l : Label). l.vreg.number ≡ x.0.number) ls) same
     (k, label_of x, omega (arith, many, lt), mapped_at items k x lt (sym is), refl)
 
--- once the numbers of all labels are marked, the requested numbers are those that are labelled
+-- once the numbers of all labels are marked, the requested numbers are the labelled ones
 pub labelled_are : (f : FunctionValue) (items : List Given) (old new : List Bool) → ((n : ℕ) → slice_index_or old n false ≡ false) →
     map label_of items ≡ f.labels → Marks (NamedAmong items (length items)) old new → (n : ℕ) → n < length old → IsWanted new n ↔ IsLabelled f n
 labelled_are f items old new none same m n lt = (
@@ -69,7 +65,7 @@ labelled_are f items old new none same m n lt = (
       m.marks n lt (x.0, g.0, g.1, g.2, ap (λ (l : Label). l.vreg.number) g.3 ∙ x.4)),
 )
 
--- the live ranges of the requested numbers are those of what labels name
+-- the live ranges of the requested numbers are the live ranges of what labels name
 pub ranges_of_labelled : (f : FunctionValue) → IsSSA f → (wanted : List Bool) (t : List (Option LiveRange)) → HasRoom f (length wanted) →
     ((n : ℕ) → n < length wanted → IsWanted wanted n ↔ IsLabelled f n) → AreLiveRanges f (IsWanted wanted) t → AreLiveRanges f (IsLabelled f) t
 ranges_of_labelled f ssa wanted t room same are = record {

@@ -10,7 +10,7 @@ use Rattle.regalloc2_analysis.specs.LiveRanges.WalkInvariant.{AddsNothing, AreRa
 use Rattle.regalloc2_analysis.proofs.LiveRangesLemmas.LiveRangeTable.{walked_over}
 
 module _ (f : FunctionValue) (Asked : ℕ → Type 0) (listed : List ℕ) where
-  -- those between the last one listed and an instruction add nothing
+  -- instructions after the last listed one add nothing
   pub nothing_above : (many i k : ℕ) → ListsAdding f Asked listed many i → k < i → (0 < many → slice_index_or listed (many - 1) 0 < k) → AddsNothing f Asked k
   nothing_above many i k h lt past = elim (h.all k lt) [
     | inl adds ↦ adds
@@ -38,7 +38,7 @@ module _ (f : FunctionValue) (Asked : ℕ → Type 0) (listed : List ℕ) where
     all = λ k l. h.all k (omega (arith, l));
   }
 
-  -- and with all from one on less, if it is past the last one listed
+  -- without the instructions from j on, the same are listed if j is past the last listed one
   pub listed_to : (many i j : ℕ) → j ≤ i → (0 < many → slice_index_or listed (many - 1) 0 < j) → ListsAdding f Asked listed many i →
       ListsAdding f Asked listed many j
   listed_to many i j le past h = record {
@@ -52,7 +52,7 @@ module _ (f : FunctionValue) (Asked : ℕ → Type 0) (listed : List ℕ) where
     all = λ k l. h.all k (omega (arith, l, le));
   }
 
-  -- without the last one listed, those below it are listed
+  -- without the last listed instruction, the instructions below it are listed
   pub listed_fewer : (many i : ℕ) → 0 < many → ListsAdding f Asked listed many i → ListsAdding f Asked listed (many - 1) (slice_index_or listed (many - 1) 0)
   listed_fewer many i some h = record {
     within = let within = h.within in omega (arith, within);
@@ -68,7 +68,7 @@ module _ (f : FunctionValue) (Asked : ℕ → Type 0) (listed : List ℕ) where
     ];
   }
 
--- the walk passes over so many instructions at once, none of them the last of its block
+-- the walk passes over several instructions at once, none of them the last of its block
 pub walked_down : (f : FunctionValue) → BlocksFollow f → (Asked : ℕ → Type 0) (b c i many : ℕ) (ends : List (Option RangeEnd))
     (ranges : List (Option LiveRange)) → b < length f.blocks → (block_at f b).range.first ≤ i → i + many < (block_at f b).range.end →
     ((k : ℕ) → i ≤ k → k < i + many → AddsNothing f Asked k) → AreRangesWalked f Asked (i + many) c ends ranges → AreRangesWalked f Asked i c ends ranges
@@ -80,7 +80,7 @@ walked_down f follow Asked b c i (suc many) ends ranges lt from upto adds w =
     (λ k l r. adds k (omega (arith, l)) (omega (arith, r)))
     (subst (λ (n : ℕ). AreRangesWalked f Asked n c ends ranges) (let e : i + suc many ≡ i + 1 + many = omega arith in e) w))
 
--- and down to any instruction of the block past the last one that is listed
+-- the walk passes over instructions down to any of the block that is past the last listed one
 pub walked_to : (f : FunctionValue) → BlocksFollow f → (Asked : ℕ → Type 0) (listed : List ℕ) (many b c i j : ℕ) (ends : List (Option RangeEnd))
     (ranges : List (Option LiveRange)) → b < length f.blocks → (block_at f b).range.first ≤ j → j ≤ i → i < (block_at f b).range.end →
     ListsAdding f Asked listed many i → (0 < many → slice_index_or listed (many - 1) 0 < j) → AreRangesWalked f Asked i c ends ranges →

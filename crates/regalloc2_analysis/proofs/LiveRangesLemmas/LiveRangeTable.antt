@@ -59,7 +59,7 @@ stay_set t n r less m some = elim (cases_eq m n) [
   | inr ne ↦ (λ h. some (sym (there t n m r ne) ∙ h))
 ]
 
--- the same range, by parts
+-- two live ranges are equal if their parts are
 pub range_same : (f : FunctionValue) (a v : VirtualRegister) (p q : ℕ) (d e : RangeEnd) → a ≡ v → p ≡ q → d ≡ e →
     IsLiveRange f (record { vreg = v; first = q; last = e.last; by = e.by }) → IsLiveRange f (record { vreg = a; first = p; last = d.last; by = d.by })
 range_same f a v p q d e same at end h =
@@ -67,7 +67,7 @@ range_same f a v p q d e same at end h =
     (subst (λ (n : ℕ). IsLiveRange f (record { vreg = v; first = n; last = d.last; by = d.by })) (sym at)
     (subst (λ (x : RangeEnd). IsLiveRange f (record { vreg = v; first = q; last = x.last; by = x.by })) (sym end) h))
 
--- of the first so many operands' definitions, those that are requested have entries
+-- the requested definitions among the first operands have entries
 abbrev pub AreBegun : (ℕ → Type 0) → List OperandValue → ℕ → List (Option LiveRange) → Type 0
 AreBegun Asked ops m t = (k : ℕ) → k < m → k < length ops → is_def (op_at ops k).kind ≡ true → Asked (op_at ops k).vreg.number →
     range_at t (op_at ops k).vreg.number ≢ None
@@ -82,7 +82,7 @@ begun_more Asked ops m n t o r less is same room h k lt within def asked = elim 
       subst (λ (q : ℕ). range_at (set t n (Some r)) q ≢ None) (sym at) (there_now t n r room))
 ]
 
--- with an operand m that defines nothing requested, those among the first m + 1 operands have entries if those before it do
+-- with an operand m that defines nothing requested, the definitions among the first m + 1 operands have entries if the first m have
 pub begun_same : (Asked : ℕ → Type 0) (ops : List OperandValue) (m : ℕ) (t : List (Option LiveRange)) (o : OperandValue) → m < length ops →
     o ≡ slice_index_or ops m o → (is_def o.kind ≡ true → Asked o.vreg.number → ⊥) → AreBegun Asked ops m t → AreBegun Asked ops (m + 1) t
 begun_same Asked ops m t o less is never h k lt within def asked = elim (below_or_last k m lt) [
@@ -103,12 +103,12 @@ begun_all f Asked i m ops t e all h v asked d =
     (h k (omega (arith, less, all)) less (ap (λ (p : OperandValue). is_def p.kind) at ∙ d.1.4)
     (subst (λ (w : VirtualRegister). Asked w.number) (sym vreg) asked))
 
--- of the first so many parameters, those that are requested and have ends have entries
+-- the first parameters have entries, if they are requested and have ends
 abbrev pub AreTaken : (ℕ → Type 0) → List VirtualRegister → ℕ → List (Option RangeEnd) → List (Option LiveRange) → Type 0
 AreTaken Asked vs m ends t = (k : ℕ) → k < m → k < length vs → Asked (slice_index_or vs k no_vreg).number →
     end_at ends (slice_index_or vs k no_vreg).number ≢ None → range_at t (slice_index_or vs k no_vreg).number ≢ None
 
--- with an entry set at the number of parameter m, those of the first m + 1 parameters that have ends have entries
+-- with an entry set at the number of parameter m, the first m + 1 parameters that have ends have entries
 pub taken_more : (Asked : ℕ → Type 0) (vs : List VirtualRegister) (m n : ℕ) (ends : List (Option RangeEnd)) (t : List (Option LiveRange)) (v : VirtualRegister)
     (r : LiveRange) → m < length vs → v ≡ slice_index_or vs m v → n ≡ v.number → n < length t → AreTaken Asked vs m ends t →
     AreTaken Asked vs (m + 1) ends (set t n (Some r))
@@ -119,7 +119,7 @@ taken_more Asked vs m n ends t v r less is same room h k lt within asked some = 
       subst (λ (q : ℕ). range_at (set t n (Some r)) q ≢ None) (sym at) (there_now t n r room))
 ]
 
--- with a parameter m that has no end or isn't requested, those of the first m + 1 have entries if those before it do
+-- with a parameter m that has no end or isn't requested, the first m + 1 have entries if the first m have
 pub taken_same : (Asked : ℕ → Type 0) (vs : List VirtualRegister) (m : ℕ) (ends : List (Option RangeEnd)) (t : List (Option LiveRange)) (v : VirtualRegister) →
     m < length vs → v ≡ slice_index_or vs m v → (Asked v.number → end_at ends v.number ≡ None) → AreTaken Asked vs m ends t →
     AreTaken Asked vs (m + 1) ends t
@@ -135,13 +135,13 @@ pub record AreNoted (f : FunctionValue) (Asked : ℕ → Type 0) (i : ℕ) (ends
   pub room : HasRoom f (length ends)
   pub noted : AreEndsFrom f Asked i ends
 
--- the first so many of a list are all of a block's parameters
+-- the first parameters of a list are all of a block's parameters
 pub record AreParams (f : FunctionValue) (b : ℕ) (vs : List VirtualRegister) (m : ℕ) : Type 0 where
   pub block : b < length f.blocks
   pub same : vs ≡ (block_at f b).params
   pub all : length vs ≤ m
 
--- so that all used parameters have entries
+-- all used parameters have entries
 pub taken_all : (f : FunctionValue) (ssa : IsSSA f) (Asked : ℕ → Type 0) (b : ℕ) (vs : List VirtualRegister) (m : ℕ) (ends : List (Option RangeEnd))
     (t : List (Option LiveRange)) → AreParams f b vs m → AreNoted f Asked (block_at f b).range.first ends → AreTaken Asked vs m ends t →
     (v : VirtualRegister) (j : ℕ) → Asked v.number → Contains (block_at f b).params v → UsesAt f v j → range_at t v.number ≢ None
@@ -198,7 +198,7 @@ used_later : (f : FunctionValue) → BlocksFollow f → (Asked : ℕ → Type 0)
 used_later f follow Asked b i n lt from upto inside adds asked none (reads at k less r) = adds.reads n at k asked r none
 used_later f follow Asked b i n lt from upto inside adds asked none (passes p) = inside (passed_here f follow b i n lt from upto p).0
 
--- so the walk passes over it
+-- the walk passes over an instruction that adds nothing
 pub walked_over : (f : FunctionValue) → BlocksFollow f → (Asked : ℕ → Type 0) (b c i : ℕ) (ends : List (Option RangeEnd)) (ranges : List (Option LiveRange)) →
     b < length f.blocks → (block_at f b).range.first ≤ i → i < (block_at f b).range.end → i + 1 ≢ (block_at f b).range.end → AddsNothing f Asked i →
     AreRangesWalked f Asked (i + 1) c ends ranges → AreRangesWalked f Asked i c ends ranges
@@ -207,7 +207,7 @@ walked_over f follow Asked b c i ends ranges lt from upto inside adds w =
     (λ n less asked. ends_same f i n (end_at ends n) (used_later f follow Asked b i n lt from upto inside adds asked) (w.noted n less asked))
     w.right (λ n some. some) (λ v asked d. absurd (adds.defines v asked d))
 
--- its uses are noted
+-- an instruction's uses are noted
 pub noted_more : (f : FunctionValue) (Asked : ℕ → Type 0) (i : ℕ) (ends ends' : List (Option RangeEnd)) → AreEndsFrom f Asked (i + 1) ends →
     length ends' ≡ length ends → ((n : ℕ) → n < length ends → Asked n → NotesUses f i n (end_at ends n) (end_at ends' n)) → AreEndsFrom f Asked i ends'
 noted_more f Asked i ends ends' h long uses n lt asked = let less : n < length ends = omega (arith, lt, long) in

@@ -38,7 +38,7 @@ module _ (f : FunctionValue) (Asked : ℕ → Type 0) (named : List ℕ) where
   at_it : (i n : ℕ) → n ≡ length named → slice_index_or (named ++ i ∷ []) n 0 ≡ i
   at_it i n same = ap (λ (m : ℕ). slice_index_or (named ++ i ∷ []) m 0) same ∙ get_or-append_seam named i [] 0
 
-  -- and one that names some
+  -- an instruction more that names a requested number
   pub named_more : (i : ℕ) → (NamesNoAsked f Asked i → ⊥) → AreNamers f Asked named (length named) i →
       AreNamers f Asked (named ++ i ∷ []) (length (named ++ i ∷ [])) (i + 1)
   named_more i some h =
@@ -74,7 +74,7 @@ module _ (f : FunctionValue) (Asked : ℕ → Type 0) (named : List ℕ) where
     reads = λ n at k asked r later. none k r.within (subst Asked (sym r.number) asked);
   }
 
-  -- a list of those that name some has all that may add something
+  -- a list of the instructions that name a requested number has all that may add something
   pub lists_adding : (many i : ℕ) → AreNamers f Asked named many i → ListsAdding f Asked named many i
   lists_adding many i h = record {
     within = h.within;

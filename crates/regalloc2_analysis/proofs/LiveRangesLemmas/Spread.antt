@@ -19,7 +19,7 @@ pub spread_at : {X : Type 0} (slots : List ℕ) (t : List (Option X)) (n : ℕ) 
     slice_index_or (spread slots t) n None ≡ slice_index_or t (slice_index_or slots n 0) None
 spread_at slots t n lt = get_or-map (λ s. slice_index_or t s None) slots n 0 None lt
 
--- none past the end
+-- no entry past the end
 pub spread_past : {X : Type 0} (slots : List ℕ) (t : List (Option X)) (n : ℕ) → length slots ≤ n → slice_index_or (spread slots t) n None ≡ None
 spread_past slots t n le = get_or_past (spread slots t) n None (let long = spread_length slots t in omega (arith, long, le))
 
@@ -29,7 +29,7 @@ pub set_here : {X : Type 0} (slots : List ℕ) (t : List (Option X)) (n : ℕ) (
 set_here slots t n x has = spread_at slots (set t (slice_index_or slots n 0) (Some x)) n has.0 ∙ get_or-set_same t (slice_index_or slots n 0) (Some x) None
     has.1
 
--- and the others are as they were
+-- the entries of other numbers stay
 pub set_there : {X : Type 0} (slots : List ℕ) (t : List (Option X)) (n m : ℕ) (x : X) → IsApart slots (length t) → HasSlot slots n (length t) → m ≢ n →
     slice_index_or (spread slots (set t (slice_index_or slots n 0) (Some x))) m None ≡ slice_index_or (spread slots t) m None
 set_there slots t n m x apart has ne = elim (cases_lt m (length slots)) [
@@ -39,7 +39,7 @@ set_there slots t n m x apart has ne = elim (cases_lt m (length slots)) [
   | inr past ↦ spread_past slots (set t (slice_index_or slots n 0) (Some x)) m past ∙ sym (spread_past slots t m past)
 ]
 
--- so to set an entry is to set it in the table by number
+-- to set an entry is to set it in the table by number
 pub set_spread : {X : Type 0} (slots : List ℕ) (t : List (Option X)) (n : ℕ) (x : X) → IsApart slots (length t) → HasSlot slots n (length t) →
     spread slots (set t (slice_index_or slots n 0) (Some x)) ≡ set (spread slots t) n (Some x)
 set_spread slots t n x apart has =
@@ -73,7 +73,7 @@ pub record SlotsSoFar (wanted : List Bool) (slots : List ℕ) (count num : ℕ) 
   pub used : (s : ℕ) → s < count → (n : ℕ) × (n < length slots) × (slice_index_or slots n 0 ≡ s)
 
 module _ (slots : List ℕ) (s : ℕ) where
-  -- a slot more leaves those before it
+  -- a slot more leaves the slots before it
   before_it : (n : ℕ) → n < length slots → slice_index_or (slots ++ s ∷ []) n 0 ≡ slice_index_or slots n 0
   before_it n lt = get_or_append_left slots (s ∷ []) 0 n lt
 
@@ -143,7 +143,7 @@ slot_more wanted slots count num room is h = record {
     at : (n : ℕ) → n ≡ length slots → slice_index_or (slots ++ count ∷ []) n 0 ≡ count
     at n same = subst (λ (k : ℕ). slice_index_or (slots ++ count ∷ []) k 0 ≡ count) (sym same) (at_it slots count)
 
--- one that isn't requested has one past all
+-- a number that isn't requested has a slot past all entries
 pub slot_none : (wanted : List Bool) (slots : List ℕ) (count num : ℕ) → length slots < num → (IsWanted wanted (length slots) → ⊥) →
     SlotsSoFar wanted slots count num → SlotsSoFar wanted (slots ++ num ∷ []) count num
 slot_none wanted slots count num room never h = record {

@@ -92,7 +92,7 @@ reader_reads f v at o r = (
   ),
 )
 
--- and a definer defines
+-- a definer defines its vreg
 pub definer_defines : (f : FunctionValue) (v : VirtualRegister) (o : InstOperand) → IsDefiner f v o → DefinesAt f v o.inst
 definer_defines f v o d = (
   d.inst,
@@ -133,7 +133,7 @@ module _ (f : FunctionValue) (ssa : IsSSA f) where
     vreg = ap (λ (o : OperandValue). o.vreg) (op_is (inst_at f i).operands d.1.0 d.1.1 d.1.2 d.1.3) ∙ d.1.5;
   })
 
-  -- and so does a block's parameter
+  -- a block's parameter has a number within the room
   pub parameter_small : (n : ℕ) → HasRoom f n → (v : VirtualRegister) (b : ℕ) → b < length f.blocks → Contains (block_at f b).params v → v.number < n
   parameter_small n room v b lt h = room v (before (block_at f b).range.first) (inl (b, lt, omega arith, h))
       (made_small f ssa.once v (made_by_parameter f v b lt h))
@@ -157,7 +157,7 @@ module _ (f : FunctionValue) (ssa : IsSSA f) where
       IsDefinedBy f (slice_index_or (slice_index_or (block_at f b).arguments s []) k no_vreg) (after (last_of (block_at f b)))
   argument_defined b s k lt edge less = (ssa.uses b lt).1 s edge k no_vreg less
 
-  -- and an instruction that passes the number passes the vreg, unless it defines it
+  -- an instruction that passes the number passes the vreg, unless it defines the vreg
   pub passes_it : (v : VirtualRegister) → Made f v → (i : ℕ) → (DefinesAt f v i → ⊥) → PassesNumber f v.number i → PassesAt f v i
   passes_it v made i other p =
       let vs : List VirtualRegister = slice_index_or (block_at f p.0).arguments p.3.0 [] in

@@ -17,7 +17,7 @@ use Rattle.regalloc2_semantics.proofs.Order.{stands_later}
 use Rattle.regalloc2_analysis.specs.declared.live_ranges.ends.RangeEnd.{RangeEnd}
 use Rattle.regalloc2_analysis.specs.LiveRanges.LastUses.{EndsFrom, EndsUse, HasNumber, HasPassed, NotesArguments, NotesRangeEnd, NotesPassed, NotesReads, NotesUses}
 use Rattle.regalloc2_analysis.specs.LiveRanges.LastUses.{PassesNumber, ReadsFirst, ReadsNumber, UsesNumber, end_at, end_of_argument, end_of_reader}
-use Rattle.regalloc2_analysis_steps.specs.Ends.{read_end}
+use Rattle.regalloc2_analysis.specs.LiveRanges.LastUses.{read_end}
 use Rattle.regalloc2_analysis.specs.LiveRanges.LastUses.UsesNumber.{reads, passes}
 use Rattle.regalloc2_analysis.specs.LiveRanges.LastUses.EndsUse.{late, early, passed}
 use Rattle.regalloc2_analysis.proofs.LiveRangesLemmas.ItemsPastEnd.{op_is}
@@ -64,7 +64,7 @@ reads_same at i ops m n old mid never h =
     (λ s. elim (below_or_last s.0 m s.1) [ inl lt ↦ (s.0, lt, s.2) | inr same ↦ absurd (never (subst (λ (k : ℕ). ReadsNumber ops n at k) same s.2)) ])
     (λ e s. (s.0, omega (arith, s.1), s.2, s.3)) h
 
--- they aren't both true where the conjunction is false
+-- two tests whose conjunction is false are not both true
 pub both_not : (a b : Bool) → (a && b) ≡ false → a ≡ true → b ≡ true → ⊥
 both_not true true h e g = absurd cc
 both_not true false h e g = absurd cc
@@ -123,7 +123,7 @@ reads_step Has at i ops m n old before after o v last by e has h =
           subst (NotesReads at i ops (m + 1) n old) (sym (e.others n ne)) (reads_same at i ops m n old (end_at before n) never h))
     ]
 
--- one that doesn't changes nothing
+-- an operand that doesn't read at the position changes nothing
 pub reads_skip : (at : OperandPos) (i : ℕ) (ops : List OperandValue) (m n : ℕ) (old mid : Option RangeEnd) (o : OperandValue) → m < length ops →
     o ≡ slice_index_or ops m o → ((is_reading o ≡ true) × (o.position ≡ at) → ⊥) → NotesReads at i ops m n old mid → NotesReads at i ops (m + 1) n old mid
 reads_skip at i ops m n old mid o less is never h =
@@ -216,7 +216,7 @@ module _ (f : FunctionValue) (follow : BlocksFollow f) (b i n : ℕ) (stands : S
       (λ s. (passed_here f follow b i n stands.block stands.from stands.upto s).1)
       (λ e s. ((b, stands.block, omega (arith, end), s.0), s.1)) p)
 
-  -- and before it
+  -- before a block's last instruction
   pub uses_inside : (old one new : Option RangeEnd) → (i + 1 ≡ (block_at f b).range.end → ⊥) →
       NotesReads Late i (inst_at f i).operands (length (inst_at f i).operands) n old one →
       NotesReads Early i (inst_at f i).operands (length (inst_at f i).operands) n one new → NotesUses f i n old new

@@ -64,7 +64,7 @@ edges_more before old s b i d w succs there short is grown so_far n p =
           (sym (next ∙ ap (λ x. names_block (take i succs) n || x) (ne_eqb s n ne) ∙ or-false (names_block (take i succs) n))))
     ]
 
--- before b is added anywhere, the lists have b's edges to none of its successors, beside those they had
+-- before b is added anywhere, the lists have the edges that they had, and b's edges to none of its successors
 pub edges_start : {A : Type 0} (es : List (Vec ℕ A)) (b : ℕ) (n p : ℕ) →
     names_block (blocks_of es n) p ≡ (names_block (blocks_of es n) p || (nat_eq b p && names_block [] n))
 edges_start es b n p = rw (names_empty n) (none (names_block (blocks_of es n) p) (nat_eq b p))
@@ -82,7 +82,7 @@ no_succs f p past = ap (λ b. b.succs) (get_or_past f.blocks p no_block past)
 abbrev pub HaveEdges : {A : Type 0} → FunctionValue → ℕ → List (Vec ℕ A) → Type 0
 HaveEdges f b es = (n p : ℕ) → (p < b → names_block (blocks_of es n) p ≡ names_block (block_at f p).succs n) × (b ≤ p → names_block (blocks_of es n) p ≡ false)
 
--- lists that had the edges of the first b blocks, and get those of block b, have the edges of the first b + 1
+-- lists that had the edges of the first b blocks, and get the edges of block b, have the edges of the first b + 1
 pub all_edges_more : {A : Type 0} (f : FunctionValue) (b : ℕ) (old new : List (Vec ℕ A)) → HaveEdges f b old →
     ((n p : ℕ) → names_block (blocks_of new n) p ≡ (names_block (blocks_of old n) p || (nat_eq b p && names_block (block_at f b).succs n))) →
     HaveEdges f (b + 1) new

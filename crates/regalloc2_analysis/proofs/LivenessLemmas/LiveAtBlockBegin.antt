@@ -14,14 +14,14 @@ use Rattle.regalloc2_semantics.specs.Carry.{Undefined}
 use Rattle.regalloc2_semantics.specs.Listing.{defines}
 use Rattle.regalloc2_semantics.proofs.UnwrittenPlaces.{defines_none}
 use Rattle.regalloc2_analysis.specs.Liveness.LiveIn.{IsRead, IsNeeded, read, passed_on, later, IsUnwrittenTo}
-use Rattle.regalloc2_analysis_steps.specs.BlockVRegPairs.{Pair, lists, BlockSets, holds, Gains, Grows}
+use Rattle.regalloc2_analysis.specs.Liveness.BlockVRegPairs.{Pair, lists, BlockSets, holds, Gains, Grows}
 use Rattle.regalloc2_analysis.specs.Liveness.BlockWalk.{asks_for_vreg, IsBlockWalkedTo, PassesNeeds, IsBlockWalked, AreWrites, AreAsked, AreParameters}
-use Rattle.regalloc2_analysis_steps.proofs.PairLists.{nothing}
-use Rattle.regalloc2_analysis_steps.proofs.PairSets.{holds_nothing}
+use Rattle.regalloc2_analysis.proofs.LivenessLemmas.PairLists.{lists_empty}
+use Rattle.regalloc2_analysis.proofs.LivenessLemmas.PairSets.{holds_nothing}
 use Rattle.regalloc2_analysis.proofs.LivenessLemmas.WalkSteps.{asked_read, read_asked, defines_not, names_found, names_there}
 
 module _ (f : FunctionValue) (b : ℕ) (v : VirtualRegister) where
-  -- a vreg that is needed at an instruction, and isn't defined by those before it, is needed at the block's beginning
+  -- a vreg that is needed at an instruction, and isn't defined by an instruction before it, is needed at the block's beginning
   needed_from : (k : ℕ) → (block_at f b).range.first + k < (block_at f b).range.end →
       IsNeeded f v (record { block = b; inst = (block_at f b).range.first + k }) → IsUnwrittenTo f b ((block_at f b).range.first + k) v →
       IsNeeded f v (first_of f b)
@@ -189,7 +189,7 @@ writes_more f n w0 n0 w n' h here = record {
 -- an empty list has the upward-exposed uses of no blocks
 pub asked_start : (f : FunctionValue) (n : ℕ) (needs : List Pair) → n ≡ 0 → needs ≡ [] → AreAsked f n needs
 asked_start f n needs e none = record {
-  sound = λ p h. let not_so : lists needs p ≡ false = rw none (nothing p) in absurd cc;
+  sound = λ p h. let not_so : lists needs p ≡ false = rw none (lists_empty p) in absurd cc;
   read = λ b j v less. absurd (omega arith);
   passed = λ b k v less. absurd (omega arith);
 }
@@ -216,7 +216,7 @@ asked_more f n w0 n0 w n' h here = record {
 pub params_start : (f : FunctionValue) (params : BlockSets) → params ≡ [] → AreParameters f 0 params
 params_start f params none = record { listed = λ p less. absurd (omega arith); fresh = λ p le. rw none (holds_nothing p) }
 
--- sets that gain the parameters of block n are those of the parameters of the first n + 1 blocks
+-- sets that gain the parameters of block n have the parameters of the first n + 1 blocks
 pub params_more : (f : FunctionValue) (n : ℕ) (old new : BlockSets) → AreParameters f n old →
     Gains n (λ v. names v (block_at f n).params) (holds old) (holds new) → AreParameters f (n + 1) new
 params_more f n old new h g =

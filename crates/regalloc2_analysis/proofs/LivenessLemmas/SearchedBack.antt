@@ -60,7 +60,7 @@ module _ (f : FunctionValue) (b : ℕ) (v : VirtualRegister) where
       let l : Location = record { block = b; inst = i } in
       needed_first f b v i low high (read l (inl (read_at Early v (inst_at f i).operands here))) free
 
-  -- and so is one that is read late by an instruction that doesn't define it
+  -- a vreg is needed at a block's beginning if an instruction reads it late and doesn't define it
   pub asked_late : (i : ℕ) → (block_at f b).range.first ≤ i → i < (block_at f b).range.end → IsUnwrittenTo f b i v → (Defines f i v → ⊥) →
       Reads f i Late v → IsNeeded f v (first_of f b)
   asked_late i low high free none here =
@@ -68,7 +68,7 @@ module _ (f : FunctionValue) (b : ℕ) (v : VirtualRegister) where
       needed_first f b v i low high
       (read l (inr (undefined_by (inst_at f i).operands v none, read_at Late v (inst_at f i).operands here))) free
 
-  -- and one that the block passes and doesn't write
+  -- a vreg is needed at a block's beginning if the block passes it and doesn't write it
   pub asked_passed : (block_at f b).range.first < (block_at f b).range.end → IsUnwritten f b v →
       ((k : ℕ) × (k < length (block_at f b).succs) × Contains (arguments_at f b k) v) → IsNeeded f v (first_of f b)
   asked_passed some free (k, less, listed) =
@@ -84,7 +84,7 @@ module _ (f : FunctionValue) (b : ℕ) (v : VirtualRegister) where
   leads_over k framed free (less, back) lk aside =
       (framed.successors.1 b less k 0 lk, λ n. back (needed_over f b k v (framed.follow b less).0 lk aside free n))
 
-  -- the same of a successor that is read off the list
+  -- a successor that is read off the list leads back
   pub leads_item : (k s : ℕ) (succs : List ℕ) → IsFramed f → IsUnwritten f b v → LeadsBack f v b → succs ≡ (block_at f b).succs → k < length succs →
       s ≡ slice_index_or succs k s → (Contains (block_at f s).params v → ⊥) → LeadsBack f v s
   leads_item k s succs framed free back listed less is aside =

@@ -16,10 +16,10 @@ use Rattle.regalloc2_semantics.specs.Carry.{Undefined}
 use Rattle.regalloc2_semantics.specs.Listing.{defines}
 use Rattle.regalloc2_semantics.proofs.UnwrittenPlaces.{defines_none}
 use Rattle.regalloc2_analysis.specs.Liveness.LiveIn.{IsReadAt, IsRead}
-use Rattle.regalloc2_analysis_steps.specs.BlockVRegPairs.{Pair, BlockSets, holds, Gains, Grows}
+use Rattle.regalloc2_analysis.specs.Liveness.BlockVRegPairs.{Pair, BlockSets, holds, Gains, Grows}
 use Rattle.regalloc2_analysis.specs.Liveness.BlockWalk.{reads, asks_for_vreg}
-use Rattle.regalloc2_analysis_steps.proofs.Tests.{names_is}
-use Rattle.regalloc2_analysis_steps.proofs.PairLists.{grows_more}
+use Rattle.regalloc2_analysis.proofs.LivenessLemmas.NamesAndDefinitions.{names_is}
+use Rattle.regalloc2_analysis.proofs.LivenessLemmas.PairLists.{grows_more}
 use Rattle.regalloc2_function.specs.FunctionValue.{no_operand, op_at}
 
 -- lists, one element more

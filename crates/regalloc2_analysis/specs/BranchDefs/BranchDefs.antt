@@ -39,7 +39,7 @@ pub record IsStoredOperand (f : FunctionValue) (operands : List OperandValue) (k
   pub fixed : IsSome (fixed_definition (op_at operands k))
   pub used : IsUsedElsewhere f (op_at operands k).vreg
 
--- the indexes of these operands, rising
+-- the indexes of the operands that are stored, rising
 pub record AreStoredOperands (f : FunctionValue) (operands : List OperandValue) (ks : List ℕ) : Type 0 where
   pub rising : (i j : ℕ) → i < j → j < length ks → slice_index ks i < slice_index ks j
   pub members : (k : ℕ) → Contains ks k ↔ IsStoredOperand f operands k
@@ -49,11 +49,11 @@ abbrev pub EndsInDefinitions : FunctionValue → ℕ → Type 0
 EndsInDefinitions f b = ((inst_at f (last_of (block_at f b))).is_branch ≡ true)
     × ((n k : ℕ) × DefinesNumber (inst_at f (last_of (block_at f b))).operands n k)
 
--- some block does
+-- some block ends in a branch with a definition
 abbrev pub HasDefinitions : FunctionValue → Type 0
 HasDefinitions f = (b : ℕ) × (b < length f.blocks) × EndsInDefinitions f b
 
--- the block b is entered by the edge at a position out of such a block
+-- the block b is entered by the edge at a position out of a block that ends in a branch with a definition
 pub record IsEdgeInto (f : FunctionValue) (b from position : ℕ) : Type 0 where
   pub block : from < length f.blocks
   pub edge : HasEdge f from position

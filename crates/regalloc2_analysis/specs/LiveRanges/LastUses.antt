@@ -1,15 +1,14 @@
 -- What the backward walk notes of a number's uses, instruction by instruction.
-use Rattle.std.specs.Prelude.{ℕ, ◌≡◌, ◌<◌, ◌≤◌, List, length, slice_index_or, true, Option, None, Some, nat_eq, if◌then◌else◌}
+use Rattle.std.specs.Prelude.{ℕ, ◌≡◌, ◌+◌, ◌<◌, ◌≤◌, List, length, slice_index_or, true, Option, None, Some, nat_eq, if◌then◌else◌}
 use Rattle.regalloc2_names.specs.declared.OperandPos.{OperandPos}
 use Rattle.regalloc2_names.specs.declared.OperandPos.TheVariants.{Early, Late}
 use Rattle.regalloc2_names.specs.Operand.{OperandValue, is_reading}
 use Rattle.regalloc2_names.specs.Register.{VirtualRegister, no_vreg}
-use Rattle.regalloc2_names.specs.Point.{before}
+use Rattle.regalloc2_names.specs.Point.{after, before}
 use Rattle.regalloc2_function.specs.FunctionValue.{FunctionValue, block_at, inst_at}
 use Rattle.regalloc2_function.specs.SourceRun.{arguments_at}
 use Rattle.regalloc2_function.specs.WellFormed.{last_of}
 use Rattle.regalloc2_function.specs.FunctionValue.{op_at}
-use Rattle.regalloc2_analysis_steps.specs.Ends.{read_end}
 use Rattle.regalloc2_analysis.specs.declared.live_ranges.ends.RangeEnd.{RangeEnd}
 
 -- what a table says of a number; nothing past its end
@@ -29,10 +28,15 @@ pub record ReadsNumber (ops : List OperandValue) (n : ℕ) (at : OperandPos) (k 
   pub position : (op_at ops k).position ≡ at
   pub number : (op_at ops k).vreg.number ≡ n
 
--- and none before it does
+-- the first operand that reads the number at a position
 pub record ReadsFirst (ops : List OperandValue) (n : ℕ) (at : OperandPos) (k : ℕ) : Type 0 where
   pub reads : ReadsNumber ops n at k
   pub first : (j : ℕ) → j < k → ReadsNumber ops n at j → ⊥
+
+-- the point at which a read of an instruction ends
+abbrev pub read_end : OperandPos → ℕ → ℕ
+read_end Early i = after i
+read_end Late i = before (i + 1)
 
 -- the end of a read by the operand at k
 abbrev pub end_of_reader : OperandPos → ℕ → ℕ → RangeEnd
@@ -42,24 +46,24 @@ end_of_reader at i k = record { last = read_end at i; by = Some (record { inst =
 abbrev pub end_of_argument : ℕ → RangeEnd
 end_of_argument i = record { last = before i; by = None }
 
--- the first so many operands are noted that read at a position
+-- the reads at a position are noted of the first m operands
 abbrev pub NotesReads : OperandPos → ℕ → List OperandValue → ℕ → ℕ → Option RangeEnd → Option RangeEnd → Type 0
 NotesReads at i ops m n = NotesRangeEnd ((k : ℕ) × (k < m) × ReadsNumber ops n at k) (λ e. (k : ℕ) × (k < m) × ReadsFirst ops n at k
     × (e ≡ end_of_reader at i k))
 
--- one of the first so many has the number
+-- one of the first m vregs has the number
 abbrev pub HasNumber : List VirtualRegister → ℕ → ℕ → Type 0
 HasNumber vs m n = (k : ℕ) × (k < m) × (k < length vs) × ((slice_index_or vs k no_vreg).number ≡ n)
 
--- the first so many arguments are noted
+-- the first m arguments are noted
 abbrev pub NotesArguments : ℕ → List VirtualRegister → ℕ → ℕ → Option RangeEnd → Option RangeEnd → Type 0
 NotesArguments i vs m n = NotesRangeEnd (HasNumber vs m n) (λ e. HasNumber vs m n × (e ≡ end_of_argument i))
 
--- one of the first so many successors is passed the number
+-- one of the first m successors is passed the number
 abbrev pub HasPassed : FunctionValue → ℕ → ℕ → ℕ → Type 0
 HasPassed f b m n = (s : ℕ) × (s < m) × HasNumber (arguments_at f b s) (length (arguments_at f b s)) n
 
--- the arguments for the first so many successors are noted
+-- the arguments for the first m successors are noted
 abbrev pub NotesPassed : FunctionValue → ℕ → ℕ → ℕ → ℕ → Option RangeEnd → Option RangeEnd → Type 0
 NotesPassed f b i m n = NotesRangeEnd (HasPassed f b m n) (λ e. HasPassed f b m n × (e ≡ end_of_argument i))
 
@@ -76,7 +80,7 @@ pub data UsesNumber (f : FunctionValue) (n i : ℕ) : Type 0 where
   reads : (at : OperandPos) (k : ℕ) → i < length f.insts → ReadsNumber (inst_at f i).operands n at k → UsesNumber f n i
   passes : PassesNumber f n i → UsesNumber f n i
 
--- the end of its uses there
+-- the end of the number's uses at the instruction
 pub data EndsUse (f : FunctionValue) (n i : ℕ) : RangeEnd → Type 0 where
   late : (k : ℕ) → i < length f.insts → ReadsFirst (inst_at f i).operands n Late k → EndsUse f n i (end_of_reader Late i k)
   early : (k : ℕ) → i < length f.insts → Unread f n Late i → ReadsFirst (inst_at f i).operands n Early k → EndsUse f n i (end_of_reader Early i k)

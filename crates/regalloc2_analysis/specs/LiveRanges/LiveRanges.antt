@@ -31,7 +31,7 @@ pub record IsReader (f : FunctionValue) (v : VirtualRegister) (at : OperandPos) 
   pub position : (op_at (inst_at f o.inst).operands o.index).position ≡ at
   pub vreg : (op_at (inst_at f o.inst).operands o.index).vreg ≡ v
 
--- the first operand of its instruction that does
+-- the first operand of its instruction that reads v at a position
 pub record IsFirstReader (f : FunctionValue) (v : VirtualRegister) (at : OperandPos) (o : InstOperand) : Type 0 where
   pub reader : IsReader f v at o
   pub first : (k : ℕ) → k < o.index → IsReader f v at (record { inst = o.inst; index = k }) → ⊥

@@ -2,7 +2,7 @@
 use Rattle.std.specs.Prelude.{ℕ, ◌≡◌, ◌<◌, List, Bool, length, map, slice_index_or, Option, None}
 use Rattle.regalloc2_analysis.specs.LiveRanges.LiveRanges.{IsWanted}
 
--- the same table by number: nothing for a number whose slot is past the end
+-- a table by number: `None` for a number whose slot is past the end
 abbrev pub spread : {X : Type 0} → List ℕ → List (Option X) → List (Option X)
 spread slots t = map (λ s. slice_index_or t s None) slots
 

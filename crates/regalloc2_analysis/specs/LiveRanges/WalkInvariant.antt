@@ -23,7 +23,7 @@ Stay old new = (n : ℕ) → range_at old n ≢ None → range_at new n ≢ None
 abbrev pub AreEndsFrom : FunctionValue → (ℕ → Type 0) → ℕ → List (Option RangeEnd) → Type 0
 AreEndsFrom f Asked i t = (n : ℕ) → n < length t → Asked n → EndsFrom f i n (end_at t n)
 
--- the instructions from one on are walked, and the beginnings of the blocks from one on
+-- the instructions from i on are walked, and the beginnings of the blocks from b on
 pub record AreRangesWalked (f : FunctionValue) (Asked : ℕ → Type 0) (i b : ℕ) (ends : List (Option RangeEnd)) (ranges : List (Option LiveRange)) : Type 0 where
   pub ends_room : HasRoom f (length ends)
   pub ranges_room : HasRoom f (length ranges)
@@ -37,7 +37,7 @@ pub record AreRangesWalked (f : FunctionValue) (Asked : ℕ → Type 0) (i b : �
 abbrev pub NamesNoAsked : FunctionValue → (ℕ → Type 0) → ℕ → Type 0
 NamesNoAsked f Asked i = (k : ℕ) → k < length (inst_at f i).operands → Asked (op_at (inst_at f i).operands k).vreg.number → ⊥
 
--- of the instructions below one, those that name a requested number are the first so many of a list, in order
+-- the instructions below i that name a requested number are the first `many` of a list, in order
 pub record AreNamers (f : FunctionValue) (Asked : ℕ → Type 0) (named : List ℕ) (many i : ℕ) : Type 0 where
   pub within : many ≤ length named
   pub rising : (j k : ℕ) → j < k → k < many → slice_index_or named j 0 < slice_index_or named k 0
@@ -50,7 +50,7 @@ pub record AddsNothing (f : FunctionValue) (Asked : ℕ → Type 0) (i : ℕ) : 
   pub defines : (v : VirtualRegister) → Asked v.number → DefinesAt f v i → ⊥
   pub reads : (n : ℕ) (at : OperandPos) (k : ℕ) → Asked n → ReadsNumber (inst_at f i).operands n at k → ((j : ℕ) → i < j → UsesNumber f n j → ⊥) → ⊥
 
--- of the instructions below one, those that may add something are among the first so many of a list, in order; others may be among them
+-- the instructions below i that may add something are among the first `many` of a list, in order; others may be among them
 pub record ListsAdding (f : FunctionValue) (Asked : ℕ → Type 0) (named : List ℕ) (many i : ℕ) : Type 0 where
   pub within : many ≤ length named
   pub rising : (j k : ℕ) → j < k → k < many → slice_index_or named j 0 < slice_index_or named k 0

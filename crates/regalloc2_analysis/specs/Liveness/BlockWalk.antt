@@ -11,7 +11,7 @@ use Rattle.regalloc2_function.specs.SourceRun.{arguments_at}
 use Rattle.regalloc2_semantics.specs.Blocks.{IsUnwritten, names}
 use Rattle.regalloc2_semantics.specs.Listing.{defines}
 use Rattle.regalloc2_analysis.specs.Liveness.LiveIn.{IsRead, IsNeeded, IsUnwrittenTo}
-use Rattle.regalloc2_analysis_steps.specs.BlockVRegPairs.{Pair, lists, BlockSets, holds}
+use Rattle.regalloc2_analysis.specs.Liveness.BlockVRegPairs.{Pair, lists, BlockSets, holds}
 
 -- whether some operand reads v at a position
 unfoldable pub reads : OperandPos → VirtualRegister → List OperandValue → Bool
@@ -30,7 +30,7 @@ pub record FindsNeeds (f : FunctionValue) (old new : List Pair) : Type 0 where
   pub kept : (p : Pair) → lists old p ≡ true → lists new p ≡ true
   pub sound : AreNeeded f old → AreNeeded f new
 
--- the block's own set is what its instructions before one write; those of other blocks stay
+-- the block's own set is what its instructions before i write; the sets of other blocks stay
 pub record WritesTo (f : FunctionValue) (b i : ℕ) (old new : BlockSets) : Type 0 where
   pub others : (p : Pair) → nat_eq b p.0 ≡ false → holds new p ≡ holds old p
   pub unwritten : (v : VirtualRegister) → holds new (b, v) ≡ false → IsUnwrittenTo f b i v

@@ -1,15 +1,14 @@
-//! The edges out of blocks whose branches define, and which of those definitions are stored behind them.
+//! The edges out of blocks whose branches define, and the definitions that are stored behind the edges.
 
-ghost use Rattle.std.specs.Prelude.{◌≡◌, ◌<◌, ◌+◌, ◌↔◌, true, false, ℕ, None, length, slice_index_or, IsTrue, IfOk, OnOk};
+ghost use Rattle.std.specs.Prelude.{◌≡◌, ◌<◌, ◌+◌, ◌↔◌, true, false, ℕ, None, All, length, slice_index_or, IsTrue, IfOk, OnOk};
 ghost use Rattle.regalloc2_names.specs.Register.{Register};
 ghost use Rattle.regalloc2_names.specs.RegisterSet.{has_register};
 ghost use Rattle.regalloc2_analysis.specs.BranchDefs.BranchDefs.{DefinesNumber, EndsInDefinitions, HasDefinitions, IsHeld, MayHaveTables};
-ghost use Rattle.regalloc2_analysis.specs.BranchDefs.Notes.{AreUsed, IsMarkedDefinition, ListsStored};
+ghost use Rattle.regalloc2_analysis.specs.BranchDefs.Notes.{AreUsed, IsMarkedDefinition, ListsStored, NotesEdges};
 ghost use Rattle.regalloc2_analysis.specs.BranchDefs.Tables.{AreEdges};
 
-use super::fixed_definition;
-use regalloc2_analysis_steps::edges::{EdgeInto, note_positions};
-use regalloc2_analysis_steps::marks::is_marked;
+use super::{EdgeInto, fixed_definition};
+use crate::marks::is_marked;
 use regalloc2_function::Function;
 use regalloc2_index::Block;
 use regalloc2_names::{Operand, PRegSet, RegClass};
@@ -95,7 +94,8 @@ fn is_none_held(held: PRegSet) -> bool
         && held.is_empty(RegClass::Vector)
 }
 
-// Lists them, given the registers to which definitions are fixed: where there is none, no operand is read.
+// Lists the operands that are fixed and define what is used, where `held` has the registers to which definitions are fixed. If
+// `held` is empty, no operand is read.
 fn list_held<A: Allocator>(
     stored: &mut Vec<usize, A>,
     used: &[bool],
@@ -109,6 +109,19 @@ fn list_held<A: Allocator>(
         return Ok(());
     }
     list_stored(stored, used, operands)
+}
+
+// Notes an edge for each successor, with its position.
+#[inline(always)]
+fn note_positions(edges: &mut [Option<EdgeInto>], succs: &[Block], edge: EdgeInto)
+    requires { All (λ s. s < length edges.old) succs.now }
+    ensures { NotesEdges succs.now edge (length succs.now) edges.old edges.new }
+{
+    for position in 0..succs.len() {
+        let mut here = edge;
+        here.position = position;
+        edges[succs[position].index()] = Some(here);
+    }
 }
 
 // Notes the edges out of a block, if its branch defines.
@@ -163,7 +176,7 @@ fn note_edges<A: Allocator, F: Function>(
     Ok(())
 }
 
-// No edge into each of so many blocks.
+// A table of `num` blocks, with no edge into any.
 fn no_edges<A: Allocator + Copy>(
     alloc: A,
     num: usize,

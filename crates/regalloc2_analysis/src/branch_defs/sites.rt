@@ -56,7 +56,7 @@ fn note_branches<F: Function>(sites: &mut [Option<DefSite>], f: &F)
     }
 }
 
-// No site for each of so many numbers.
+// A table of `num` numbers, none with a site.
 fn no_sites<A: Allocator + Copy>(
     alloc: A,
     num: usize,
@@ -93,7 +93,7 @@ pub fn site_in(sites: &[Option<DefSite>], vreg: VReg) -> Option<DefSite>
     sites[number]
 }
 
-/// Whether that branch defines a vreg.
+/// Whether `branch` defines `vreg`.
 pub fn is_site_at(sites: &[Option<DefSite>], vreg: VReg, branch: Inst) -> bool
     ensures { IsTrue result ↔ IsSiteAt sites.now vreg.number branch }
 {

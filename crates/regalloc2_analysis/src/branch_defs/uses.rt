@@ -11,8 +11,7 @@ ghost use Rattle.regalloc2_analysis.specs.BranchDefs.Tables.{AreDefSites};
 
 use super::DefSite;
 use super::sites::is_site_at;
-use regalloc2_analysis_steps::marks as steps;
-use regalloc2_analysis_steps::marks::mark;
+use crate::marks::{mark, no_marks};
 use regalloc2_function::Function;
 use regalloc2_index::{Block, Inst};
 use regalloc2_names::{Operand, VReg};
@@ -49,7 +48,9 @@ fn note_all_reads<F: Function>(used: &mut [bool], f: &F)
 fn note_argument(used: &mut [bool], sites: &[Option<DefSite>], argument: VReg, inst: Inst)
     ensures { Marks (λ n. (argument.number ≡ n) × (IsSiteAt sites.now n inst → ⊥)) used.old used.new }
 {
-    steps::note_argument(used, argument, is_site_at(sites, argument, inst));
+    if !is_site_at(sites, argument, inst) {
+        mark(used, argument.vreg());
+    }
 }
 
 // Marks what an instruction passes to one successor and doesn't define.
@@ -93,14 +94,6 @@ fn note_uses<F: Function>(used: &mut [bool], sites: &[Option<DefSite>], f: &F)
 {
     note_all_reads(used, f);
     note_all_passed(used, sites, f);
-}
-
-// A table of so many numbers, none marked.
-fn no_marks<A: Allocator + Copy>(alloc: A, num: usize) -> Result<Vec<bool, A>, AllocError>
-    ensures len { IfOk result (λ v. length v.items ≡ num) }
-    ensures none { IfOk result (λ v. (n : ℕ) → slice_index_or v.items n false ≡ false) }
-{
-    Vec::from_elem(alloc, false, num)
 }
 
 /// By vreg number, up to a bound, whether an instruction reads it, or passes it and doesn't define it.

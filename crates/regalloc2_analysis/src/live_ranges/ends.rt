@@ -2,6 +2,7 @@
 
 ghost use Rattle.std.specs.Prelude.{◌≡◌, ◌≢◌, ◌+◌, ◌<◌, ◌≤◌, ℕ, length, Some};
 ghost use Rattle.std.specs.Option.{option_or};
+ghost use Rattle.regalloc2_names.specs.Point.{inst_limit};
 ghost use Rattle.regalloc2_function.specs.FunctionValue.{block_at};
 ghost use Rattle.regalloc2_function.specs.WellFormed.{BlocksFollow};
 ghost use Rattle.regalloc2_analysis.specs.LiveRanges.LastUses.{NotesArguments, NotesPassed, NotesReads, NotesUses, end_at};
@@ -9,7 +10,6 @@ ghost use Rattle.regalloc2_analysis.specs.LiveRanges.Slots.{HasSlot, IsApart, sp
 
 use super::InstOperand;
 use super::slots::{entry, set_entry};
-use regalloc2_analysis_steps::ends::end_of_read;
 use regalloc2_function::Function;
 use regalloc2_index::{Block, Inst};
 use regalloc2_names::{Operand, OperandPos, ProgPoint, VReg};
@@ -43,11 +43,14 @@ fn note_reads(
     pos: OperandPos,
 )
     requires apart { IsApart slots.now (length ends.old) }
-    requires small { inst < 1073741823 }
+    requires small { inst + 1 < inst_limit }
     ensures { (n : ℕ) → HasSlot slots.now n (length ends.old) → NotesReads pos inst operands.now (length operands.now) n (end_at (spread slots.now ends.old) n)
         (end_at (spread slots.now ends.new) n) }
 {
-    let last = end_of_read(inst, pos);
+    let last = match pos {
+        OperandPos::Early => ProgPoint::after(inst),
+        OperandPos::Late => ProgPoint::before(inst.next()),
+    };
     for (index, operand) in operands.iter().enumerate() {
         if operand.reads_at(pos) {
             let by = Some(InstOperand { inst, index });
@@ -59,7 +62,7 @@ fn note_reads(
 // Notes the arguments that an instruction passes to one successor.
 fn note_arguments(ends: &mut [Option<RangeEnd>], slots: &[u32], arguments: &[VReg], inst: Inst)
     requires apart { IsApart slots.now (length ends.old) }
-    requires small { inst < 1073741823 }
+    requires small { inst < inst_limit }
     ensures { (n : ℕ) → HasSlot slots.now n (length ends.old) → NotesArguments inst arguments.now (length arguments.now) n
         (end_at (spread slots.now ends.old) n)
         (end_at (spread slots.now ends.new) n) }
@@ -82,7 +85,7 @@ pub fn note_passed<F: Function>(
     requires block { block < length (F.function f.now).blocks }
     requires last { inst + 1 ≡ (block_at (F.function f.now) block).range.end }
     requires nonempty { (block_at (F.function f.now) block).range.first ≤ inst }
-    requires small { inst < 1073741823 }
+    requires small { inst < inst_limit }
     ensures { (n : ℕ) → HasSlot slots.now n (length ends.old) → NotesPassed (F.function f.now) block inst (length (block_at (F.function f.now) block).succs) n
         (end_at (spread slots.now ends.old) n) (end_at (spread slots.now ends.new) n) }
 {
@@ -91,8 +94,8 @@ pub fn note_passed<F: Function>(
     }
 }
 
-/// Notes the uses of an instruction of a block, where no later use is noted: the operands that read late, then those that read
-/// early, then, at the block's last instruction, the arguments that it passes.
+/// Notes the uses of `inst`, an instruction of `block`, where no later use is noted: late reads, then early reads, then, at the
+/// block's last instruction, the arguments that it passes.
 pub fn note_uses<F: Function>(
     ends: &mut [Option<RangeEnd>],
     slots: &[u32],

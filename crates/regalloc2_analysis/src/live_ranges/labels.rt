@@ -16,8 +16,8 @@ use regalloc2_index::Inst;
 use regalloc2_names::{RegAllocError, VReg};
 use std::alloc::Allocator;
 
-// The live range of a label's vreg, if the label is kept: it starts at or after the instruction of the first point, and ends at
-// most one past that of the last.
+// The live range of the vreg of `label`, if the label is kept: if it starts at or after the first point's instruction, and ends
+// at most one past the last point's.
 fn kept_range<F: Function>(
     f: &F,
     slots: &[u32],
@@ -66,7 +66,7 @@ fn keep_labels<A: Allocator + Copy, F: Function>(
 /// Returns what [`kept_labels`] returns, from a table of the labelled vregs and a list of the
 /// instructions that may add something to their live ranges, in order.
 ///
-/// For callers that pass over all operands anyway. `wanted` is that of [`marked_labels`]. `listed`
+/// For callers that pass over all operands anyway. `wanted` is the table that [`marked_labels`] returns. `listed`
 /// has each instruction that defines a labelled vreg, and each whose operands read one that no
 /// later instruction reads or passes as an argument. It may have more. Only the listed instructions
 /// and the last one of each block are read.
@@ -95,10 +95,10 @@ pub fn kept_labels_by<A: Allocator + Copy, F: Function>(
 /// The debug labels of a function that are kept, as listed, each with the live range of its vreg.
 ///
 /// A label is kept where its vreg has a first and a last point, and the label starts at or after
-/// the first one's instruction and ends at most one past the last one's, as upstream's
-/// `build_debug_info` has it. Where the vreg has a spill slot in the end, that shows the value;
-/// else the place of the operand that `range.by` names does. It names none only where an argument
-/// is the last use, and arguments are passed in slots. The preconditions are those of
+/// the first point's instruction and ends at most one past the last point's, as upstream's
+/// `build_debug_info` has it. If the vreg has a spill slot in the end, the slot shows the value;
+/// else the place of the operand that `range.by` names does. `range.by` is `None` only if an
+/// argument is the last use, and arguments are passed in slots. Has the precondition of
 /// [`live_ranges`].
 ///
 /// Live ranges are found only where there are labels, and only for the vregs that these name: for a

@@ -4,6 +4,7 @@ ghost use Rattle.std.specs.Prelude.{◌≡◌, ◌≢◌, ◌<◌, ◌&&◌, ℕ
 ghost use Rattle.regalloc2_names.specs.Register.{VirtualRegister};
 ghost use Rattle.regalloc2_function.specs.FunctionValue.{block_at};
 ghost use Rattle.regalloc2_names.specs.Operand.{is_def};
+ghost use Rattle.regalloc2_names.specs.Point.{inst_limit};
 ghost use Rattle.regalloc2_function.specs.DebugPoints.{DefinesAt, UsesAt};
 ghost use Rattle.regalloc2_function.specs.TableLength.{HasRoom};
 ghost use Rattle.regalloc2_analysis.specs.LiveRanges.LastUses.{end_at, end_behind};
@@ -19,10 +20,10 @@ use regalloc2_function::Function;
 use regalloc2_index::{Block, Inst};
 use regalloc2_names::{Operand, ProgPoint, VReg};
 
-// The end of what an instruction defines, where the uses from the instruction on are noted. An end
-// right before the instruction is that of an argument that it passes itself, which doesn't count.
+// The end of what `inst` defines, where `noted` is its last use from the instruction on. An end right
+// before the instruction is an argument that the instruction itself passes, which doesn't count.
 fn end_of_defined(noted: Option<RangeEnd>, inst: Inst, unused: RangeEnd) -> RangeEnd
-    requires { inst < 1073741824 }
+    requires { inst < inst_limit }
     ensures { result ≡ end_behind inst noted unused }
 {
     let own = ProgPoint::before(inst);
@@ -96,8 +97,8 @@ fn wanted_end(
     }
 }
 
-/// Completes the live ranges of a block's parameters that are requested. One that nothing uses has
-/// none.
+/// Completes the live ranges of the requested parameters of `block`. A parameter that nothing uses
+/// has none.
 pub fn begin_at_params<F: Function>(
     ranges: &mut [Option<LiveRange>],
     ends: &[Option<RangeEnd>],

@@ -4,10 +4,10 @@
 ghost use Rattle.std.specs.Prelude.{ℕ, ◌≡◌, ◌≢◌, ◌<◌, ◌^◌, length, set, slice_index_or, IfOk, None, Some};
 ghost use Rattle.regalloc2_analysis.specs.LiveRanges.Slots.{AreSlots, HasSlot, IsApart, spread};
 
-use super::wanted::is_marked;
+use crate::marks::is_marked;
 use std::alloc::{AllocError, Allocator};
 
-/// What a table has for a number: nothing where that has no slot.
+/// The entry for `number`, or `None` if the number has no slot.
 pub fn entry<T: Copy>(table: &[Option<T>], slots: &[u32], number: usize) -> Option<T>
     ensures { result ≡ slice_index_or (spread slots.now table.now) number None }
 {
@@ -18,7 +18,7 @@ pub fn entry<T: Copy>(table: &[Option<T>], slots: &[u32], number: usize) -> Opti
     }
 }
 
-/// Sets a number's entry, if it has a slot.
+/// Sets the entry for `number` to `value`, if the number has a slot.
 pub fn set_entry<T: Copy>(table: &mut [Option<T>], slots: &[u32], number: usize, value: T)
     requires { IsApart slots.now (length table.old) }
     ensures here { HasSlot slots.now number (length table.old) → spread slots.now table.new ≡ set (spread slots.now table.old) number (Some value) }
@@ -30,7 +30,7 @@ pub fn set_entry<T: Copy>(table: &mut [Option<T>], slots: &[u32], number: usize,
     }
 }
 
-/// The slots of so many numbers, in a table of the requested ones, and how many are requested. A
+/// The slots of `num` numbers in a table of the requested numbers, and how many are requested. A
 /// number that isn't requested has a slot past the table's end.
 pub fn slots_of<A: Allocator + Copy>(
     alloc: A,

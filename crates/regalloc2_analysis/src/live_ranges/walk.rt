@@ -18,15 +18,15 @@ use regalloc2_index::{Block, Inst};
 use regalloc2_names::RegAllocError;
 use std::alloc::{AllocError, Allocator};
 
-/// The requested live ranges, and by number the index of each one's entry: past the end if it has
-/// none.
+/// The requested live ranges. `slots` has by number the index of the number's entry, which is past
+/// the end if the number has none.
 #[derive(Drop)]
 pub struct FewRanges<A: Allocator> {
     pub slots: Vec<u32, A>,
     pub entries: Vec<Option<LiveRange>, A>,
 }
 
-// Whether an instruction is the last of so many that are listed.
+// Whether `inst` is the last of the first `many` listed instructions.
 fn is_next(listed: &[u32], many: usize, inst: Inst) -> bool
     requires { many ≤ length listed.now }
     ensures { IsTrue result ↔ ((0 < many) × (slice_index_or listed.now (many - 1) 0 ≡ inst)) }
@@ -34,7 +34,7 @@ fn is_next(listed: &[u32], many: usize, inst: Inst) -> bool
     many > 0 && listed[many - 1] as usize == inst.index()
 }
 
-// Whether the last of so many listed instructions is another or comes after it.
+// Whether the last of the first `many` listed instructions is `inst` or comes after it.
 fn is_left(listed: &[u32], many: usize, inst: Inst) -> bool
     requires { many ≤ length listed.now }
     ensures { IsTrue result ↔ ((0 < many) × (inst ≤ slice_index_or listed.now (many - 1) 0)) }
@@ -165,8 +165,8 @@ fn walk_blocks<F: Function>(
 /// The live ranges of the requested vregs, in tables as long as the number of these vregs.
 ///
 /// Only the listed instructions and the last one of each block are read. An instruction that isn't
-/// listed adds nothing: it defines no requested vreg, and each that its operands read is used later,
-/// too.
+/// listed adds nothing: it defines no requested vreg, and each requested vreg that its operands read is used
+/// later, too.
 pub fn few_ranges<A: Allocator + Copy, F: Function>(
     alloc: A,
     f: &F,
@@ -192,7 +192,7 @@ pub fn few_ranges<A: Allocator + Copy, F: Function>(
     Ok(FewRanges { slots, entries })
 }
 
-// The same table by number.
+// The table `entries` by number.
 fn spread_out<A: Allocator + Copy>(
     alloc: A,
     slots: &[u32],
@@ -210,7 +210,7 @@ fn spread_out<A: Allocator + Copy>(
 /// The live ranges of the requested vregs, by number: none for a number that isn't defined, or that
 /// is a parameter's and never used. If all are requested, each is there.
 ///
-/// Each is that of upstream's `vreg_to_live_inst_range`. Requires what each well-formed function
+/// Each range is the one of upstream's `vreg_to_live_inst_range`. Requires what each well-formed function
 /// meets (`IsSSA`): its blocks follow one another, each number is defined once, and each use comes
 /// after its definition. The time is linear in the operands, the arguments, the parameters and what
 /// `table_length` returns. The only error is `Memory`, if an allocation for two tables of that

@@ -1,5 +1,5 @@
-//! The vregs whose live ranges are requested: those that labels name. Most functions label few, and
-//! the walk passes over instructions that name none of them.
+//! The vregs whose live ranges are requested, because labels name them. Most functions label few
+//! vregs, and the walk passes over instructions that name none of these.
 
 ghost use Rattle.std.specs.Prelude.{ℕ, ◌≡◌, ◌<◌, ◌↔◌, false, length, slice_index_or, IsTrue, IfOk};
 ghost use Rattle.regalloc2_function.specs.TableLength.{HasRoom};
@@ -9,22 +9,12 @@ ghost use Rattle.regalloc2_analysis.specs.LiveRanges.LiveRanges.{AreLabelsMarked
 ghost use Rattle.regalloc2_analysis.specs.LiveRanges.Marks.{NamedAmong};
 ghost use Rattle.regalloc2_analysis.specs.LiveRanges.WalkInvariant.{AreNamers, NamesNoAsked};
 
+use crate::marks::{is_marked, mark, no_marks};
 use regalloc2_function::Function;
 use regalloc2_function::table_length::table_length;
 use regalloc2_index::Inst;
 use regalloc2_names::{Operand, VReg};
 use std::alloc::{AllocError, Allocator};
-
-/// Whether a number is marked.
-pub fn is_marked(wanted: &[bool], number: usize) -> bool
-    ensures { result ≡ slice_index_or wanted.now number false }
-{
-    if number < wanted.len() {
-        wanted[number]
-    } else {
-        false
-    }
-}
 
 /// Whether a vreg is requested.
 pub fn is_wanted(wanted: &[bool], vreg: VReg) -> bool
@@ -71,15 +61,6 @@ pub fn naming<A: Allocator + Copy, F: Function>(
     Ok(named)
 }
 
-// Marks a number.
-fn mark(wanted: &mut [bool], number: usize)
-    ensures { Marks (λ n. number ≡ n) wanted.old wanted.new }
-{
-    if number < wanted.len() {
-        wanted[number] = true;
-    }
-}
-
 // Marks the numbers of the vregs that labels name.
 fn mark_labelled(wanted: &mut [bool], labels: &[(VReg, Inst, Inst, u32)])
     ensures { Marks (NamedAmong labels.now (length labels.now)) wanted.old wanted.new }
@@ -89,16 +70,7 @@ fn mark_labelled(wanted: &mut [bool], labels: &[(VReg, Inst, Inst, u32)])
     }
 }
 
-// A table of so many numbers, none marked.
-fn no_marks<A: Allocator + Copy>(alloc: A, num: usize) -> Result<Vec<bool, A>, AllocError>
-    ensures len { IfOk result (λ v. length v.items ≡ num) }
-    ensures none { IfOk result (λ v. (n : ℕ) → slice_index_or v.items n false ≡ false) }
-{
-    Vec::from_elem(alloc, false, num)
-}
-
-// The vregs whose live ranges are requested, by number: those that labels name, as far as the
-// function defines them.
+// By number, whether a label names the vreg, for the numbers that the function defines.
 fn labelled<A: Allocator + Copy, F: Function>(alloc: A, f: &F) -> Result<Vec<bool, A>, AllocError>
     ensures room { IfOk result (λ w. HasRoom (F.function f.now) (length w.items)) }
     ensures marks { IfOk result (λ w. (n : ℕ) → n < length w.items → IsWanted w.items n ↔ IsLabelled (F.function f.now) n) }

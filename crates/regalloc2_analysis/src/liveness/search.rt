@@ -5,14 +5,13 @@ ghost use Rattle.regalloc2_function.specs.FunctionValue.{FunctionValue, block_at
 ghost use Rattle.regalloc2_function.specs.Path.{first_of};
 ghost use Rattle.regalloc2_function.specs.SourceRun.{arguments_at};
 ghost use Rattle.regalloc2_function.specs.WellFormed.{IsFramed};
-ghost use Rattle.regalloc2_names.specs.Operand.{reads_at};
+ghost use Rattle.regalloc2_names.specs.Operand.{is_def, reads_at};
 ghost use Rattle.regalloc2_names.specs.Register.{VirtualRegister};
 ghost use Rattle.regalloc2_semantics.specs.Blocks.{IsUnwritten};
 ghost use Rattle.regalloc2_analysis.specs.Liveness.LiveIn.{IsNeeded};
 ghost use Rattle.regalloc2_analysis.specs.Liveness.Search.{LeadsBack};
 
-use regalloc2_analysis_steps::chain::is_on;
-use regalloc2_analysis_steps::operands::is_defined;
+use crate::marks::{is_marked, mark};
 use regalloc2_function::Function;
 use regalloc2_index::{Block, Inst};
 use regalloc2_names::{Operand, OperandPos, VReg};
@@ -35,6 +34,16 @@ fn is_read(operands: &[Operand], pos: OperandPos, vreg: VReg) -> bool
         }
     }
     false
+}
+
+/// Whether some operand defines a vreg.
+#[inline]
+fn is_defined(operands: &[Operand], vreg: VReg) -> bool
+    ensures { IsTrue result ↔ Any (λ o. (is_def o.kind ≡ true) × (o.vreg ≡ vreg)) operands.now }
+{
+    operands
+        .iter()
+        .any(|operand| operand.is_def() && operand.vreg() == vreg)
 }
 
 /// Whether a list names a vreg.
@@ -96,15 +105,8 @@ fn is_asked<F: Function>(f: &F, block: Block, vreg: VReg) -> bool
     is_passed(f, block, vreg)
 }
 
-/// Marks a block.
-fn mark(marked: &mut [bool], block: Block) {
-    if block.index() < marked.len() {
-        marked[block.index()] = true;
-    }
-}
-
-/// Marks the unmarked successors of a block and adds them to the work, but those that have the vreg as a parameter. Those
-/// numbered up to the block looked for are near, the others far. Returns whether the block looked for is among them, and stops there.
+/// Marks the unmarked successors of `block` that don't have `vreg` as a parameter, and adds them to the work: to `near` if their
+/// numbers are below the number of `sought`, else to `far`. Returns `true` as soon as one of them is `sought`.
 fn add_succs<A: Allocator, F: Function>(
     f: &F,
     block: Block,
@@ -125,13 +127,13 @@ fn add_succs<A: Allocator, F: Function>(
     ensures found { IfOk result (λ b. b ≡ true → LeadsBack (F.function f.now) vreg sought) }
 {
     for succ in f.block_succs(block) {
-        if is_on(marked, succ.index()) || is_named(f.block_params(*succ), vreg) {
+        if is_marked(marked, succ.index()) || is_named(f.block_params(*succ), vreg) {
             continue;
         }
         if *succ == sought {
             return Ok(true);
         }
-        mark(marked, *succ);
+        mark(marked, succ.index());
         if succ.index() < sought.index() {
             near.push(*succ)?;
         } else {
@@ -183,8 +185,8 @@ fn leads_on<A: Allocator, F: Function>(
 /// Whether a block reads or passes a vreg without a definition before, and a path from the entry comes there over blocks
 /// that don't define the vreg and edges that don't give it a value.
 ///
-/// The search visits a block numbered above the one looked for only where no other waits: in the usual order of blocks, a
-/// path comes there without any.
+/// The search visits a block numbered above `block` only if no other waits: in the usual order of blocks, a path to `block`
+/// passes lower numbers alone.
 ///
 /// Linear in the blocks, instructions, operands, parameters, arguments and edges. Takes a byte for each block, and a word
 /// for each block that waits for its turn.
@@ -205,7 +207,7 @@ pub fn reads_early<A: Allocator + Copy, F: Function>(
         return Ok(true);
     }
     let mut marked = Vec::from_elem(alloc, false, f.num_blocks())?;
-    mark(marked.as_mut_slice(), entry);
+    mark(marked.as_mut_slice(), entry.index());
     let mut near: Vec<Block, A> = Vec::new(alloc);
     near.push(entry)?;
     let mut far: Vec<Block, A> = Vec::new(alloc);

@@ -7,11 +7,11 @@ ghost use Rattle.regalloc2_function.specs.FunctionValue.{block_at};
 ghost use Rattle.regalloc2_function.specs.WellFormed.{IsFramed};
 ghost use Rattle.regalloc2_semantics.specs.Blocks.{names};
 ghost use Rattle.regalloc2_semantics.specs.Listing.{defines};
-ghost use Rattle.regalloc2_analysis_steps.specs.BlockVRegPairs.{Gains, Grows, holds};
+ghost use Rattle.regalloc2_analysis.specs.Liveness.BlockVRegPairs.{Gains, Grows, holds};
 ghost use Rattle.regalloc2_analysis.specs.Liveness.BlockWalk.{reads, asks_for_vreg, IsBlockWalkedTo, IsBlockWalked, AreWrites, AreAsked, PassesNeeds, AreParameters};
 
-use regalloc2_analysis_steps::needs::{Needs, ask_arguments};
-use regalloc2_analysis_steps::sets::BlockVRegs;
+use super::needs::Needs;
+use super::sets::BlockVRegs;
 use regalloc2_function::Function;
 use regalloc2_index::{Block, Inst};
 use regalloc2_names::{Operand, OperandPos, VReg};
@@ -82,6 +82,21 @@ fn walk_insts<A: Allocator + Copy, F: Function>(
     let range = f.block_insns(block);
     for i in range.first().index()..range.end().index() {
         walk_inst(f.inst_operands(Inst::new(i)), block, written, needs)?;
+    }
+    Ok(())
+}
+
+/// Lists the arguments that a block passes and hasn't written.
+fn ask_arguments<A: Allocator + Copy>(
+    arguments: &[VReg],
+    block: Block,
+    written: &BlockVRegs<A>,
+    needs: &mut Needs<A>,
+) -> Result<(), AllocError>
+    ensures { OnOk result (Grows block (λ v. names v arguments.now && not (holds written.now (block, v))) needs.old needs.new) }
+{
+    for argument in arguments {
+        needs.ask(written, block, *argument)?;
     }
     Ok(())
 }

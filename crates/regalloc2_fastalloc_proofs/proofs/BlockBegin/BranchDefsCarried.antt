@@ -33,7 +33,7 @@ use Rattle.regalloc2_fastalloc_proofs.proofs.Operands.DefinedNumbers.{defined_by
 use Rattle.regalloc2_fastalloc_proofs.proofs.BlockEnd.DefsInSlots.{IsAnyOrStack}
 use Rattle.regalloc2_fastalloc_proofs.proofs.BlockBegin.StoresOfDefs.{walked_stores}
 use Rattle.regalloc2_fastalloc_proofs.proofs.Safety.StoresKeepSafe.{order_each, stored_concerned}
-use Rattle.regalloc2_fastalloc_proofs.proofs.Branches.Arrivals.{left_at, IsNeeded, Arrive, DefsPlaced}
+use Rattle.regalloc2_fastalloc_proofs.proofs.Branches.Arrivals.{left_at, IsUsedBeyondBranch, Arrive, DefsPlaced}
 
 -- the parameter of a number, or none
 find_param : (ps : List VirtualRegister) (v : VirtualRegister) → ((n : ℕ) × (n < length ps) × (slice_index_or ps n no_vreg ≡ v))
@@ -81,7 +81,7 @@ pub record StoredAtBegin : Type 0 where
   pub placed : (e k : ℕ) → IsEdgeInto f b e k → DefsPlaced f placesf F e
   pub v : VirtualRegister
   pub made : Made f v
-  pub needed : IsNeeded f v
+  pub needed : IsUsedBeyondBranch f v
   pub has_slot : (n : ℕ) → n < length (block_at f b).params → slice_index_or (block_at f b).params n no_vreg ≡ v → slot_in middle v.number ≢ NoPlace
 
 module _ (stored : StoredAtBegin) where
@@ -105,7 +105,7 @@ module _ (stored : StoredAtBegin) where
         let same : Some x.0.to ≡ Some p = sym (goes_to x.0 x.1 j v x.2) ∙ mine in
         (x.0, x.1, (let y : x.0.to ≡ p = cc in y), at x.0.from x.2.from x.2.there)
 
-    -- and stores for other vregs leave v's slot alone
+    -- stores for other vregs leave v's slot alone
     avoids : (p : Place) → F v.number ≡ Some p → ((j : ℕ) → IsStoredFor f e k middle.slots j v → ⊥) → (t : Store) → IsOneOf t s.stores → Avoids t p
     avoids p mine none t is =
         let one = s.each t is in
@@ -224,8 +224,8 @@ module _ (stored : StoredAtBegin) where
         not_stored l (given n lt is d has) = not_given n (subst (λ c. n < length (block_at f c).params) edge.target lt)
             (subst (λ c. slice_index_or (block_at f c).params n no_vreg ≡ v) edge.target is) (l, d)
 
-    pub brought : ((d l : ℕ) → IsEdgeInto f b d l → (d ≡ e) × (l ≡ k)) → (p : Place) → F v.number ≡ Some p → Brought p
-    brought one p mine = elim (cases_Bool (defined_by (branch_operands f e) v.number)) [
+    pub defs_brought : ((d l : ℕ) → IsEdgeInto f b d l → (d ≡ e) × (l ≡ k)) → (p : Place) → F v.number ≡ Some p → Brought p
+    defs_brought one p mine = elim (cases_Bool (defined_by (branch_operands f e) v.number)) [
       | inl is ↦ (let d = number_defined (branch_operands f e) v.number is in brought_own p mine d.0 d.1)
       | inr no_def ↦ elim (find_param (block_at f b).params v) [
         | inr none ↦ brought_other p mine (undefined v no_def) (λ n lt is own_it. none n lt is) one
@@ -265,7 +265,7 @@ module _ (stored : StoredAtBegin) where
       ∙ walked_stores (inst_at f) placesf first n (store_moves s.stores) middle.edits))
       (carries_stores v s.stores L (StandsBefore f (λ w. F w.number) b v) (ComesIn f stand b v) E
       (in_order (is_memory middle.fixed_stack) refl s.stores s.in_order)
-      (λ p h. elim (brought e k edge s (λ d l into. one e k d l edge into) p h.1) [
+      (λ p h. elim (defs_brought e k edge s (λ d l into. one e k d l edge into) p h.1) [
         | inl x ↦ inl (x.0, x.1, x.2, (h.0, x.3))
         | inr x ↦ inr ((h.0, x.0), x.1)
       ]) c)

@@ -22,9 +22,9 @@ use Rattle.regalloc2_fastalloc_proofs.specs.BlockStart.{ReloadsAtBegin}
 use Rattle.regalloc2_fastalloc_proofs.proofs.Safety.StepsKeepState.{place_in, slot_in}
 use Rattle.regalloc2_fastalloc_proofs.proofs.Operands.RecordOverState.{opt, stands_at, slots_at}
 use Rattle.regalloc2_fastalloc_proofs.proofs.Inst.AcrossInst.{lives_in}
-use Rattle.regalloc2_fastalloc_proofs.proofs.Inst.OneInstCarries.{Between}
-use Rattle.regalloc2_fastalloc_proofs.proofs.Moves.StepsAppendEdits.{Pushes, none_pushed, one_pushed}
-use Rattle.regalloc2_fastalloc_proofs.proofs.BlockBegin.ReloadAtBegin.{IsReload, Begun, begun, reloads_at_begin_carried}
+use Rattle.regalloc2_fastalloc_proofs.proofs.Inst.OneInstCarries.{IsBetweenInsts}
+use Rattle.regalloc2_fastalloc_proofs.proofs.Moves.StepsAppendEdits.{AppendsEdits, none_pushed, one_pushed}
+use Rattle.regalloc2_fastalloc_proofs.proofs.BlockBegin.ReloadAtBegin.{IsReload, Begun, block_start_places, reloads_at_begin_carried}
 
 -- whether an option is the given place
 abbrev pub is_there : Option Place → Place → Bool
@@ -52,7 +52,7 @@ module _ (insts : ℕ → InstValue) (placesf : ℕ → List Place) (i n : ℕ) 
   from_first t = walked insts (at_point (listed t.edits)) placesf i (suc n)
 
   -- reloads in front do nothing to what is carried from nowhere
-  reloaded : (old new : List (ℕ × MoveValue)) → Pushes (IsReload (before i)) old new →
+  reloaded : (old new : List (ℕ × MoveValue)) → AppendsEdits (IsReload (before i)) old new →
       Carries v (walked insts (at_point (listed old)) placesf i (suc n)) (λ p. ⊥) E →
       Carries v (walked insts (at_point (listed new)) placesf i (suc n)) (λ p. ⊥) E
   reloaded old new none_pushed c = c
@@ -68,7 +68,7 @@ module _ (insts : ℕ → InstValue) (placesf : ℕ → List Place) (i n : ℕ) 
       ∙ before_part-push insts e.1 (listed es) placesf i n item in
       subst (λ l. Carries v l (λ p. ⊥) E) (sym (walked-more insts (listed (es ++ e ∷ [])) placesf i n ∙ in_front)) moved
 
-  module _ (params : List VirtualRegister) (old new : StateValue) (begins : ReloadsAtBegin (before i) params old new) (between : Between i old) (block : Bool)
+  module _ (params : List VirtualRegister) (old new : StateValue) (begins : ReloadsAtBegin (before i) params old new) (between : IsBetweenInsts i old) (block : Bool)
       (F : Option Place) (slot : (r : Register) → F ≡ Some (InRegister r) → ⊥)
       (stays : (p : Place) → slots_at new v.number ≡ Some p → F ≡ Some p) where
     -- if the block doesn't write v
@@ -76,10 +76,10 @@ module _ (insts : ℕ → InstValue) (placesf : ℕ → List Place) (i n : ℕ) 
         Carries v (from_first new) (λ p. F ≡ Some p) E
     unwritten c =
         let X : Place → ℕ → Bool = λ p x. nat_eq x v.number && is_there F p in
-        let b : Begun i params old new = begun i params old new begins between in
+        let b : Begun i params old new = block_start_places i params old new begins between in
         carries_weaken v (from_first new) (λ p. Need (lives_in new) (λ x. false) X (stands_at new) (slots_at new) v.number p) (λ p. F ≡ Some p) E E
         (λ p h. elim h [
-          | located l at ↦ stays p (by_place p (b.settled v.number) at)
+          | located l at ↦ stays p (by_place p (b.in_slot_or_nowhere v.number) at)
           | in_slot o at ↦ stays p at
           | made x ↦ is_there-true F p ((and_parts (nat_eq v.number v.number) (is_there F p) x).1)
         ])
@@ -111,7 +111,7 @@ module _ (insts : ℕ → InstValue) (placesf : ℕ → List Place) (i n : ℕ) 
             Carries v (from_first new) (λ p. (block ≡ false) × (F ≡ Some p)) E
         by_test true is c =
             carries_weaken v (from_first new) (λ p. ⊥) (λ p. (block ≡ false) × (F ≡ Some p)) E E (λ p h. absurd h) (λ p h. h)
-            (reloaded old.edits new.edits (begun i params old new begins between).leads.pushes
+            (reloaded old.edits new.edits (block_start_places i params old new begins between).leads.pushes
             (carries_weaken v (from_first old) (Relied block block (stands_at old v.number) (slots_at old v.number) F) (λ p. ⊥) E E
             (λ p h. (let x : true ≡ false = sym is ∙ h.0 in absurd cc)) (λ p h. h) c))
         by_test false is c =

@@ -21,14 +21,14 @@ use Rattle.regalloc2_fastalloc_proofs.proofs.Safety.StepsKeepState.{slot_in, slo
 use Rattle.regalloc2_fastalloc_proofs.proofs.Operands.RecordOverState.{opt_from, opt_real, opt_none, stands_at, slots_at, slot_below, grown_slots}
 use Rattle.regalloc2_fastalloc_proofs.proofs.Slots.StepsKeepSlots.{Grown, IsAt, changes_grow}
 use Rattle.regalloc2_fastalloc_proofs.proofs.Operands.DefinedNumbers.{defined_by, defined_by-at}
-use Rattle.regalloc2_fastalloc_proofs.proofs.Inst.OneInstCarries.{Between, Needed, alone}
+use Rattle.regalloc2_fastalloc_proofs.proofs.Inst.OneInstCarries.{IsBetweenInsts, Needed, carries_by_itself}
 use Rattle.regalloc2_fastalloc_proofs.proofs.Walk.InstForOneVReg.{needed_parts, undefined_by}
 use Rattle.regalloc2_fastalloc_proofs.proofs.Moves.StepsAppendEdits.{pushed_at}
 use Rattle.regalloc2_fastalloc_proofs.proofs.BlockEnd.BranchAlone.{IsUseMove, Branched, moved_or, none_below}
 use Rattle.regalloc2_fastalloc_proofs.proofs.Inst.ProperInsts.{ProperCode}
 use Rattle.regalloc2_fastalloc_proofs.proofs.Changes.InstChanges.{allocs_inst_changes, any_operand}
 
--- what is known of the slots at the end of the whole walk: each has one owner, and those made after t are at or above its count
+-- what is known of the slots at the end of the whole walk: each has one owner, and the slots made after t are at or above its count
 pub record ToCome (F : ℕ → Option Place) (t : StateValue) : Type 0 where
   pub only : (x : ℕ) (p : Place) → F x ≡ Some p → (n : ℕ) × (p ≡ InSlot n)
   pub own : (x y n : ℕ) → F x ≡ Some (InSlot n) → F y ≡ Some (InSlot n) → x ≡ y
@@ -46,7 +46,7 @@ pub cases_opt : (x : Option Place) → (x ≡ None) ⊎ ((p : Place) × (x ≡ S
 cases_opt None = inl refl
 cases_opt (Some p) = inr (p, refl)
 
--- and the same is known of earlier tables
+-- what is to come of later tables is to come of earlier ones
 pub to_come-back : (At : ℕ → Type 0) (F : ℕ → Option Place) (a b : StateValue) → ((c : _) → 0 < units_of a.slots c) → Grown At a b → ToCome F b → ToCome F a
 to_come-back At F a b units g h = record {
   only = h.only;
@@ -63,7 +63,7 @@ to_come-back At F a b units g h = record {
 
 -- A branch at the end of its block, the only writer of the slots of its definitions: the function and the places of its operands; F: the slots at the
 -- walk's end; the branch, allocated between the tables old and middle; u: the registers of the instruction after it.
-pub record EndsBlock : Type 1 where
+pub record LastBranch : Type 1 where
   pub code : ProperCode
   open code use {Known, f, placesf, proper}
   pub F : ℕ → Option Place
@@ -77,12 +77,12 @@ pub record EndsBlock : Type 1 where
   pub ends : ends_block (inst_at f last) ≡ true
   pub own_defs : (k : ℕ) → k < length (inst_at f last).operands → is_def (op_at (inst_at f last).operands k).kind ≡ true → (n : ℕ) →
       place_at (placesf last) k ≡ InSlot n → F (op_at (inst_at f last).operands k).vreg.number ≡ Some (InSlot n)
-  pub between : Between (last + 1) old
+  pub between : IsBetweenInsts (last + 1) old
   pub a : AllocsInst last (inst_at f last) blank here old middle
   pub u : InstRegs
   pub br : Branched code last here u old middle
 
-module _ (at_end : EndsBlock) where
+module _ (at_end : LastBranch) where
   open at_end.code use {Known, f, placesf, proper}
   open at_end use {code, F, last, blank, here, old, middle, within, are_listed, ends, own_defs, between, a, u, br}
   open at_end.code.proper use {knows}
@@ -100,7 +100,7 @@ module _ (at_end : EndsBlock) where
         (knows last within).same (op_at (inst_at f last).operands j).vreg v ((knows last within).reading j lt reads) known (sym number))
   ]
 
-  -- it leaves a vreg's slot to that vreg, unless it defines it
+  -- the branch leaves a vreg's slot to the vreg, unless it defines the vreg
   pub keeps_own : ToCome F middle → (v : VirtualRegister) → Known v → defined_by (inst_at f last).operands v.number ≡ false → (s : Place) →
       F v.number ≡ Some s →
       Keeps (inst_at f last).operands (placesf last) (inst_at f last).clobbers (at_point (listed middle.edits) (before last))
@@ -147,10 +147,10 @@ module _ (at_end : EndsBlock) where
     relied p n = (refl, elim (needed_parts (defined_by (inst_at f last).operands) middle v p n) [ inl at ↦ inl at | inr o ↦ inr (inl o.1) ])
 
     base : Carries v L Has (λ p. ⊥)
-    base = (alone code last blank here old middle within are_listed between a).returns ends v known
+    base = (carries_by_itself code last blank here old middle within are_listed between a).returns ends v known
 
-    nothing : ((p : Place) → E p → ⊥) → Carries v L On E
-    nothing none = carries_weaken v L Has On (λ p. ⊥) E relied none base
+    needed_nowhere : ((p : Place) → E p → ⊥) → Carries v L On E
+    needed_nowhere none = carries_weaken v L Has On (λ p. ⊥) E relied none base
 
     kept : (s : Place) → F v.number ≡ Some s → Carries v L (λ p. Has p ⊎ (p ≡ s)) (λ p. ⊥ ⊎ (p ≡ s))
     kept s is = carries_kept_walked v (inst_at f) (at_point (listed middle.edits)) placesf last Has (λ p. ⊥) (λ p. p ≡ s)
@@ -164,7 +164,7 @@ module _ (at_end : EndsBlock) where
         (λ p o. inr (let x : Some p ≡ Some s = sym (mine p o) ∙ is in cc)) (kept s is)
 
     by_table : (s : Place) → F v.number ≡ Some s → block ≡ true → (x : Option Place) → slots_at middle v.number ≡ x → Carries v L On E
-    by_table s is yes_block None none = nothing (λ p o.
+    by_table s is yes_block None none = needed_nowhere (λ p o.
         let now : slots_at middle v.number ≡ Some p = grown_slots (IsAt last) old middle
         (changes_grow (IsAt last) (allocs_inst_changes (λ p q. inr refl) (λ p q. inl refl) (λ k lt. any_operand (λ e. IsAt last e.0) _) a))
         v.number p (there yes_block p o) in
@@ -178,7 +178,7 @@ module _ (at_end : EndsBlock) where
     by_block s is true yes_block = by_table s is yes_block (slots_at middle v.number) refl
 
     by_slot : (x : Option Place) → F v.number ≡ x → Carries v L On E
-    by_slot None none = nothing (λ p o. let x : None ≡ Some p = sym none ∙ mine p o in cc)
+    by_slot None none = needed_nowhere (λ p o. let x : None ≡ Some p = sym none ∙ mine p o in cc)
     by_slot (Some s) is = by_block s is block refl
 
     pub own_moves : Carries v L On E

@@ -14,12 +14,12 @@ use Rattle.regalloc2_fastalloc_proofs.specs.InstSteps.{StateValue, ends_block}
 use Rattle.regalloc2_fastalloc_proofs.proofs.Safety.StepsKeepState.{place_in, slot_in}
 use Rattle.regalloc2_fastalloc_proofs.proofs.Operands.RecordOverState.{opt, stands_at, slots_at}
 use Rattle.regalloc2_fastalloc_proofs.proofs.Operands.DefinedNumbers.{defined_by}
-use Rattle.regalloc2_fastalloc_proofs.proofs.Inst.OneInstCarries.{Alone, Needed}
+use Rattle.regalloc2_fastalloc_proofs.proofs.Inst.OneInstCarries.{CarriesByItself, Needed}
 use Rattle.regalloc2_fastalloc_proofs.proofs.Walk.InstForOneVReg.{needed_parts}
 use Rattle.regalloc2_fastalloc_proofs.proofs.Walk.InstsBeforeLastCarry.{defined_from}
 use Rattle.regalloc2_fastalloc_proofs.proofs.Inst.ProperInsts.{ProperCode}
 
--- one instruction alone
+-- of one instruction, what is defined from it on is what it defines
 defined_from-one : (f : FunctionValue) (x i : ℕ) → defined_from f x i 1 ≡ (defined_by (inst_at f i).operands x || false)
 unfolding defined_from
 defined_from-one f x i = refl
@@ -29,13 +29,13 @@ module _ (code : ProperCode) (F : ℕ → Option Place) where
 
   -- a return carries what is needed before it
   pub return_owes : (last : ℕ) (old new : StateValue) (v : VirtualRegister) → Known v → (block : Bool) (E : Place → Type 0) →
-      Alone code last old new → ends_block (inst_at f last) ≡ true → ((p : Place) → E p → ⊥) →
+      CarriesByItself code last old new → ends_block (inst_at f last) ≡ true → ((p : Place) → E p → ⊥) →
       Carries v (walked (inst_at f) (at_point (listed new.edits)) placesf last 1)
       (Relied (defined_from f v.number last 1) block (stands_at new v.number) (slots_at new v.number) (F v.number)) E
-  return_owes last old new v known block E a ret nothing =
+  return_owes last old new v known block E a ret nowhere_needed =
       carries_weaken v (walked (inst_at f) (at_point (listed new.edits)) placesf last 1) (Needed (defined_by (inst_at f last).operands) new v)
       (Relied (defined_from f v.number last 1) block (stands_at new v.number) (slots_at new v.number) (F v.number))
-      (λ p. ⊥) E relied (λ p e. nothing p e) (a.returns ret v known)
+      (λ p. ⊥) E relied (λ p e. nowhere_needed p e) (a.returns ret v known)
     where
       relied : (p : Place) → Needed (defined_by (inst_at f last).operands) new v p →
           Relied (defined_from f v.number last 1) block (stands_at new v.number) (slots_at new v.number) (F v.number) p
@@ -64,11 +64,11 @@ pub owed_there : (f : FunctionValue) (F : ℕ → Option Place) (b : ℕ) (v : V
     → (place_in t v.number ≡ NoPlace) ⊎ ((k : ℕ) × (place_in t v.number ≡ InSlot k) × (slot_in t v.number ≡ InSlot k))
     → (block ≡ true → IsUnwritten f b v → ⊥) → (block ≡ true → (c : ℕ) → c < length f.blocks → c ≢ b → IsUsedIn f c v → place_in t v.number ≢ NoPlace)
     → (p : Place) → OwedOwn f F b v p → Relied false block (stands_at t v.number) (slots_at t v.number) (F v.number) p
-owed_there f F b v block t stays settled writes lives p (none, (edge, requirement), own) = elim (cases_Bool block) [
+owed_there f F b v block t stays in_slot_or_nowhere writes lives p (none, (edge, requirement), own) = elim (cases_Bool block) [
   | inr free ↦ (refl, inr (inr (free, own)))
   | inl is ↦ elim requirement [
     | inl unwritten ↦ absurd (writes is unwritten)
-    | inr used ↦ elim settled [
+    | inr used ↦ elim in_slot_or_nowhere [
       | inl nowhere ↦ absurd (lives is used.0 used.1 used.2 used.4 nowhere)
       | inr k ↦ (refl, inr (inl (ap opt k.2 ∙ sym (stays (InSlot k.0) (ap opt k.2)) ∙ own)))
     ]

@@ -11,12 +11,12 @@ use Rattle.regalloc2_names.specs.Place.{Place, NoPlace, InRegister, InSlot}
 use Rattle.regalloc2_function.specs.OutputValue.{MoveValue}
 use Rattle.regalloc2_semantics.proofs.Cells.{is_place-same, is_place-other}
 use Rattle.regalloc2_fastalloc_state.specs.declared.inst_regs.InstRegs.{InstRegs}
-use Rattle.regalloc2_steps.specs.declared.positions.Positions.{Positions}
+use Rattle.regalloc2_fastalloc_state.specs.declared.positions.Positions.{Positions}
 use Rattle.regalloc2_fastalloc_state.specs.declared.request.Requirement.TheVariants.{InPReg}
 use Rattle.regalloc2_fastalloc_state.specs.declared.request.OperandRequest.{OperandRequest}
 use Rattle.regalloc2_fastalloc_state.specs.StateParts.{VRegAllocsValue, IsSlotOrNone, alloc_of, vreg_of_preg}
 use Rattle.regalloc2_fastalloc_state.specs.InstRegs.{IsAvailableAt}
-use Rattle.regalloc2_steps.specs.Positions.{positions_of}
+use Rattle.regalloc2_fastalloc_state.specs.Positions.{positions_of}
 use Rattle.regalloc2_function.specs.FunctionValue.{op_at}
 use Rattle.regalloc2_fastalloc_proofs.specs.InstSteps.{StateValue, empty, cleared, EvictsOtherVRegs, own, others, SelectsPlace, ClaimsPlace, in_slot}
 use Rattle.regalloc2_fastalloc_proofs.specs.InstSteps.{in_register, AllocsOperand, AddsMoveIf, sent, unsent, FreesAlloc, NeedsFixedReg}
@@ -52,7 +52,7 @@ pub data Asks (ops : List OperandValue) (there : List Place) (k : ℕ) (r : Regi
   chosen : at_place there k ≡ InRegister r → p ≡ positions_of (op_at ops k) → Asks ops there k r p
 
 -- no move was pushed; registers of vregs are held, in the pass over late operands at both positions; a vreg that is defined is in none
-pub record Still (ops : List OperandValue) (pass : Bool) (edits : List (ℕ × MoveValue)) (u : InstRegs) (t : StateValue) : Type 0 where
+pub record NoMovePushed (ops : List OperandValue) (pass : Bool) (edits : List (ℕ × MoveValue)) (u : InstRegs) (t : StateValue) : Type 0 where
   pub edits_are : t.edits ≡ edits
   pub early : (r : Register) (v : VirtualRegister) → r.number < 64 → vreg_of_preg t.places r ≡ Some v → has_register u.early r ≡ false
   pub late : pass ≡ true → (r : Register) (v : VirtualRegister) → r.number < 64 → vreg_of_preg t.places r ≡ Some v → has_register u.late r ≡ false
@@ -120,21 +120,21 @@ module _ (point : ℕ) (ops : List OperandValue) (pass : Bool) (edits : List (�
   selects_place_nobody t o p old new (free r wants away may is_free first is en) = (ap (λ (x : StateValue). x.places) en, ap (λ (x : StateValue). x.edits) en)
 
   -- no other vreg is in the register that an operand got
-  alone : (t : InstRegs) (o : OperandRequest) (p : Place) (old : StateValue) (r : Register) (w : VirtualRegister) → Origin o p t old
-      → Still ops pass edits t old
+  only_vreg_there : (t : InstRegs) (o : OperandRequest) (p : Place) (old : StateValue) (r : Register) (w : VirtualRegister) → Origin o p t old
+      → NoMovePushed ops pass edits t old
       → ((q : Register) → o.requirement ≡ InPReg q → vreg_of_preg old.places q ≡ None)
       → ((q : Register) (v : VirtualRegister) → q.number < 64 → vreg_of_preg old.places q ≡ Some v → IsAvailableAt t o.positions q → ⊥)
       → p ≡ InRegister r → r.number < 64 → vreg_of_preg old.places r ≡ Some w → w.number ≡ o.vreg.number
-  alone t o p old r w (stood_there there real) still none taken is small held =
-      let s = still.located o.vreg.number r (there ∙ is) in
+  only_vreg_there t o p old r w (stood_there there real) no_move none taken is small held =
+      let s = no_move.located o.vreg.number r (there ∙ is) in
       let e : Some s.1.0 ≡ Some w = sym s.1.2 ∙ held in
       let same : s.1.0 ≡ w = cc in
       ap (λ (x : VirtualRegister). x.number) (sym same) ∙ s.1.1
-  alone t o p old r w (asked q at wants) still none taken is small held =
+  only_vreg_there t o p old r w (asked q at wants) no_move none taken is small held =
       absurd (none_some (vreg_of_preg old.places r) w (ap (vreg_of_preg old.places) (sym (same_register q r (sym at ∙ is))) ∙ none q wants) held)
-  alone t o p old r w (was_free q at lt is_free) still none taken is small held =
+  only_vreg_there t o p old r w (was_free q at lt is_free) no_move none taken is small held =
       absurd (taken q w lt (ap (vreg_of_preg old.places) (same_register q r (sym at ∙ is)) ∙ held) is_free)
-  alone t o p old r w (in_a_slot k at) still none taken is small held = absurd (no_register_slot k r (sym at ∙ is))
+  only_vreg_there t o p old r w (in_a_slot k at) no_move none taken is small held = absurd (no_register_slot k r (sym at ∙ is))
 
   -- no vreg is moved
   evicts_other_vregs_nobody : (o : OperandRequest) (r : Register) (t u : InstRegs) (old new : StateValue) → EvictsOtherVRegs point r o.vreg t u old new
@@ -169,15 +169,15 @@ module _ (point : ℕ) (ops : List OperandValue) (pass : Bool) (edits : List (�
       )
 
   -- an operand gets its place
-  pub allocs_operand_calm : (o : OperandRequest) (p : Place) (t u : InstRegs) (old new : StateValue) → AllocsOperand point o p t u old new →
-      Still ops pass edits t old
+  pub allocs_operand_no_move : (o : OperandRequest) (p : Place) (t u : InstRegs) (old new : StateValue) → AllocsOperand point o p t u old new →
+      NoMovePushed ops pass edits t old
       → ((q : Register) → o.requirement ≡ InPReg q → vreg_of_preg old.places q ≡ None)
       → ((q : Register) (v : VirtualRegister) → q.number < 64 → vreg_of_preg old.places q ≡ Some v → IsAvailableAt t o.positions q → ⊥)
       → Got o p t u old new
-  allocs_operand_calm o p t u old new g still none taken =
+  allocs_operand_no_move o p t u old new g no_move none taken =
       let a = selects_place_nobody t o p old g.middle g.picks in
       let from : Origin o p t old = origin_of t o p old g.middle g.picks in
-      let b = claims_place_nobody o p t u g.middle g.takes.claimed g.takes.occupies (λ r w is small held. alone t o p old r w from still none taken is small
+      let b = claims_place_nobody o p t u g.middle g.takes.claimed g.takes.occupies (λ r w is small held. only_vreg_there t o p old r w from no_move none taken is small
       (ap (λ (x : VRegAllocsValue). vreg_of_preg x r) (sym a.0) ∙ held)) in
       record {
         places = ap (λ (x : StateValue). x.places) (uses_rest g.takes.uses) ∙ ap (λ (x : StateValue). x.places) b.0 ∙ a.0;
@@ -204,18 +204,18 @@ same_places old new p e = record {
   held_by = λ r small. ap (λ (x : VRegAllocsValue). vreg_of_preg x r) p;
 }
 
-unsent_nothing : (point : ℕ) (v : VirtualRegister) (ret b : Bool) (from to : Place) (t u : InstRegs) (old new : StateValue) → ret ≡ true →
-    AddsMoveIf point v.class (not ret && b) from to t u old new → (u ≡ t) × (new ≡ old)
-unsent_nothing point v ret b from to t u old new yes_ret (sent made crosses) =
-    absurd (let x : (not true && b) ≡ true = ap (λ r. not r && b) (sym yes_ret) ∙ made in cc)
-unsent_nothing point v ret b from to t u old new yes_ret (unsent made eu en) = (eu, en)
+unsent_nothing : (point : ℕ) (v : VirtualRegister) (ends_block b : Bool) (from to : Place) (t u : InstRegs) (old new : StateValue) → ends_block ≡ true →
+    AddsMoveIf point v.class (not ends_block && b) from to t u old new → (u ≡ t) × (new ≡ old)
+unsent_nothing point v ends_block b from to t u old new at_end (sent made crosses) =
+    absurd (let x : (not true && b) ≡ true = ap (λ r. not r && b) (sym at_end) ∙ made in cc)
+unsent_nothing point v ends_block b from to t u old new at_end (unsent made eu en) = (eu, en)
 
--- a definition of a return, whose vreg is in no register, changes no register
-pub frees_alloc_calm : (point : ℕ) (v : VirtualRegister) (ret : Bool) (p : Place) (t u : InstRegs) (old new : StateValue) → ret ≡ true →
-    FreesAlloc point v ret p t u old new → ((r : Register) → alloc_of old.places v.number ≡ InRegister r → ⊥) → (u ≡ t) × SamePlaces old new
-frees_alloc_calm point v ret p t u old new yes_ret d nowhere =
-    let a = unsent_nothing point v ret _ p (alloc_of old.places v.number) t d.inst_regs d.left d.middle yes_ret d.awaited in
-    let b = unsent_nothing point v ret _ p _ d.inst_regs u d.middle new yes_ret d.stored in
+-- a definition of an instruction that ends its block, whose vreg is in no register, changes no register
+pub frees_alloc_no_move : (point : ℕ) (v : VirtualRegister) (ends_block : Bool) (p : Place) (t u : InstRegs) (old new : StateValue) → ends_block ≡ true →
+    FreesAlloc point v ends_block p t u old new → ((r : Register) → alloc_of old.places v.number ≡ InRegister r → ⊥) → (u ≡ t) × SamePlaces old new
+frees_alloc_no_move point v ends_block p t u old new at_end d nowhere =
+    let a = unsent_nothing point v ends_block _ p (alloc_of old.places v.number) t d.inst_regs d.left d.middle at_end d.expected in
+    let b = unsent_nothing point v ends_block _ p _ d.inst_regs u d.middle new at_end d.stored in
     let same : new ≡ d.left = b.1 ∙ a.1 in (
       b.0 ∙ a.0,
       record {

@@ -16,27 +16,27 @@ use Rattle.regalloc2_semantics.proofs.Cells.{is_place-same, is_place-other}
 use Rattle.regalloc2_semantics.proofs.Operands.{reads_use}
 use Rattle.regalloc2_semantics.proofs.Forms.{same_register}
 use Rattle.regalloc2_fastalloc_state.specs.declared.inst_regs.InstRegs.{InstRegs}
-use Rattle.regalloc2_steps.specs.declared.positions.Positions.{Positions}
+use Rattle.regalloc2_fastalloc_state.specs.declared.positions.Positions.{Positions}
 use Rattle.regalloc2_fastalloc_state.specs.declared.request.Requirement.TheVariants.{InPReg}
 use Rattle.regalloc2_fastalloc_state.specs.StateParts.{VRegAllocsValue, SetsAlloc, alloc_of, vreg_of_preg}
 use Rattle.regalloc2_fastalloc_state.specs.InstRegs.{IsAvailableAt}
-use Rattle.regalloc2_steps.specs.Positions.{positions_of}
+use Rattle.regalloc2_fastalloc_state.specs.Positions.{positions_of}
 use Rattle.regalloc2_function.specs.FunctionValue.{op_at}
 use Rattle.regalloc2_fastalloc_proofs.specs.InstSteps.{StateValue, use_request, def_request, reuse_request, LocatesUse, stays, located, AllocsUse}
 use Rattle.regalloc2_fastalloc_proofs.specs.InstSteps.{AllocsDefOp, ProcessesOperand, a_register, a_use, a_def, a_reuse, own, named}
 use Rattle.regalloc2_fastalloc_proofs.proofs.Safety.StepsKeepSafe.{settled_holder}
-use Rattle.regalloc2_fastalloc_proofs.proofs.Operands.AllocsSoFar.{at_place, IsTame, reads_allocated, asked_fixed, asked_as_fixed}
-use Rattle.regalloc2_fastalloc_proofs.proofs.BlockEnd.NoMoveForOperand.{Overlap, Asks, claims, chosen, Still, Awaiting, Origin}
+use Rattle.regalloc2_fastalloc_proofs.proofs.Operands.AllocsSoFar.{at_place, AreSoundOperands, reads_allocated, asked_fixed, asked_as_fixed}
+use Rattle.regalloc2_fastalloc_proofs.proofs.BlockEnd.NoMoveForOperand.{Overlap, Asks, claims, chosen, NoMovePushed, Awaiting, Origin}
 use Rattle.regalloc2_fastalloc_proofs.proofs.BlockEnd.NoMoveForOperand.{stood_there, asked, was_free, in_a_slot, Got, no_register_slot}
-use Rattle.regalloc2_fastalloc_proofs.proofs.BlockEnd.NoMoveForOperand.{none_some, allocs_operand_calm, SamePlaces, same_places, frees_alloc_calm}
+use Rattle.regalloc2_fastalloc_proofs.proofs.BlockEnd.NoMoveForOperand.{none_some, allocs_operand_no_move, SamePlaces, same_places, frees_alloc_no_move}
 use Rattle.regalloc2_fastalloc_proofs.proofs.Operands.OperandRules.{use_vreg}
 use Rattle.regalloc2_fastalloc_proofs.proofs.Evictions.PushedAndRemoved.{no_some}
 use Rattle.regalloc2_fastalloc_proofs.proofs.Moves.ScratchRegTaken.{Less, less_same}
 
 -- the tables, where the same vregs are located in the same places
-still_on : (ops : List OperandValue) (pass : Bool) (edits : List (ℕ × MoveValue)) (t u : InstRegs) (old new : StateValue) → Less t u → SamePlaces old new →
-    Still ops pass edits t old → Still ops pass edits u new
-still_on ops pass edits t u old new later same s = record {
+no_move_pushed_on : (ops : List OperandValue) (pass : Bool) (edits : List (ℕ × MoveValue)) (t u : InstRegs) (old new : StateValue) → Less t u → SamePlaces old new →
+    NoMovePushed ops pass edits t old → NoMovePushed ops pass edits u new
+no_move_pushed_on ops pass edits t u old new later same s = record {
   edits_are = same.edits ∙ s.edits_are;
   early = λ r v small held. later.early r (s.early r v small (sym (same.held_by r small) ∙ held));
   late = λ yes_pass r v small held. later.late r (s.late yes_pass r v small (sym (same.held_by r small) ∙ held));
@@ -45,14 +45,14 @@ still_on ops pass edits t u old new later same s = record {
   away = λ k r less def at. s.away k r less def (same.stood_at (op_at ops k).vreg.number r at);
 }
 
--- and if a vreg got a new location
+-- the walk of the last instruction goes on without moves if a vreg without a location gets one
 settled_still : (ops : List OperandValue) (pass : Bool) (edits : List (ℕ × MoveValue)) (v : VirtualRegister) (p : Place) (t u : InstRegs)
     (old new : StateValue) → Less t u → SetsAlloc old.places new.places v p → new.edits ≡ old.edits
     → alloc_of old.places v.number ≡ NoPlace
     → ((q : Register) → p ≡ InRegister q → (q.number < 64) × (vreg_of_preg old.places q ≡ None) × (has_register u.early q ≡ false)
     × (pass ≡ true → has_register u.late q ≡ false))
     → ((k : ℕ) → k < length ops → is_def (op_at ops k).kind ≡ true → (op_at ops k).vreg.number ≢ v.number)
-    → Still ops pass edits t old → Still ops pass edits u new
+    → NoMovePushed ops pass edits t old → NoMovePushed ops pass edits u new
 settled_still ops pass edits v p t u old new later z pushed nowhere mine other s = record {
   edits_are = pushed ∙ s.edits_are;
   early = λ r w small held. elim (settled_holder old.places new.places v w p r small z held) [
@@ -228,29 +228,29 @@ use_positions o NoPlace = refl
 use_positions o (InRegister r) = refl
 use_positions o (InSlot n) = refl
 
-free_at : (t : InstRegs) (p q : Positions) (r : Register) → p ≡ q → IsAvailableAt t p r → IsAvailableAt t q r
-free_at t p q r e h = subst (λ (x : Positions). IsAvailableAt t x r) e h
+available_at_same : (t : InstRegs) (p q : Positions) (r : Register) → p ≡ q → IsAvailableAt t p r → IsAvailableAt t q r
+available_at_same t p q r e h = subst (λ (x : Positions). IsAvailableAt t x r) e h
 
-module _ (Known : VirtualRegister → Type 0) (ops : List OperandValue) (tame : IsTame Known ops) (i : ℕ) (is_ret : Bool)
-    (ret : (k : ℕ) → k < length ops → is_def (op_at ops k).kind ≡ true → is_ret ≡ true) (pass : Bool) (edits : List (ℕ × MoveValue)) where
+module _ (Known : VirtualRegister → Type 0) (ops : List OperandValue) (sound_ops : AreSoundOperands Known ops) (i : ℕ) (ends_block : Bool)
+    (only_at_end : (k : ℕ) → k < length ops → is_def (op_at ops k).kind ≡ true → ends_block ≡ true) (pass : Bool) (edits : List (ℕ × MoveValue)) where
   -- an operand is allocated, and holds its register at least at one position of the pass
   abbrev pub Reaches : Positions → Type 0
   Reaches p = (p.early ≡ true) ⊎ ((pass ≡ true) × (p.late ≡ true))
 
-  not_free : (t : InstRegs) (old : StateValue) (p : Positions) → Reaches p → Still ops pass edits t old → (q : Register) (v : VirtualRegister) → q.number < 64 →
+  not_free : (t : InstRegs) (old : StateValue) (p : Positions) → Reaches p → NoMovePushed ops pass edits t old → (q : Register) (v : VirtualRegister) → q.number < 64 →
       vreg_of_preg old.places q ≡ Some v → IsAvailableAt t p q → ⊥
-  not_free t old p (inl early) still q v small held is_free = both_ways (has_register t.early q) (still.early q v small held) (is_free.early early)
-  not_free t old p (inr late) still q v small held is_free = both_ways (has_register t.late q) (still.late late.0 q v small held) (is_free.late late.1)
+  not_free t old p (inl early) no_move q v small held is_free = both_ways (has_register t.early q) (no_move.early q v small held) (is_free.early early)
+  not_free t old p (inr late) no_move q v small held is_free = both_ways (has_register t.late q) (no_move.late late.0 q v small held) (is_free.late late.1)
 
   -- no edit was added in the pass, operands that wait still have their registers, and the list of places is as long as before
-  abbrev pub Calm : (ℕ → Type 0) → List Place → InstRegs → StateValue → Type 0
-  Calm D there u t = Still ops pass edits u t × Awaiting ops D there u t × (length there ≡ length ops)
+  abbrev pub NoMoveSoFar : (ℕ → Type 0) → List Place → InstRegs → StateValue → Type 0
+  NoMoveSoFar D there u t = NoMovePushed ops pass edits u t × Awaiting ops D there u t × (length there ≡ length ops)
 
   -- if no vreg gets a new location
-  same_calm : (D E : ℕ → Type 0) (k : ℕ) (p : Place) (here : List Place) (t u : InstRegs) (old new : StateValue) → NextDone D E k → Less t u →
-      SamePlaces old new → Calm D here t old → Calm E (set here k p) u new
-  same_calm D E k p here t u old new next later same c = (
-    still_on ops pass edits t u old new later same c.0,
+  same_no_move : (D E : ℕ → Type 0) (k : ℕ) (p : Place) (here : List Place) (t u : InstRegs) (old new : StateValue) → NextDone D E k → Less t u →
+      SamePlaces old new → NoMoveSoFar D here t old → NoMoveSoFar E (set here k p) u new
+  same_no_move D E k p here t u old new next later same c = (
+    no_move_pushed_on ops pass edits t u old new later same c.0,
     awaiting_on ops D E here (set here k p) t u old new (λ j less not_e. (next.back j not_e).0)
         (λ j less not_e. get_or-set_other here k j p NoPlace (next.back j not_e).1) later
         (λ j r w less not_e asks. same.held_by r (c.1.small j r w less (next.back j not_e).0 asks) ∙ c.1.nobody j r w less (next.back j not_e).0 asks) c.1,
@@ -258,15 +258,15 @@ module _ (Known : VirtualRegister → Type 0) (ops : List OperandValue) (tame : 
   )
 
   -- a definition that is no reuse
-  def_calm : (D E : ℕ → Type 0) (k : ℕ) (p : Place) (here : List Place) (t u : InstRegs) (old new : StateValue) → k < length ops → NextDone D E k →
+  def_no_move : (D E : ℕ → Type 0) (k : ℕ) (p : Place) (here : List Place) (t u : InstRegs) (old new : StateValue) → k < length ops → NextDone D E k →
       Reaches (positions_of (op_at ops k)) → is_def (op_at ops k).kind ≡ true
-      → AllocsDefOp (after i) (def_request (op_at ops k)) is_ret p t u old new → Calm D here t old → Calm E (set here k p) u new
-  def_calm D E k p here t u old new less next reach def d c =
+      → AllocsDefOp (after i) (def_request (op_at ops k)) ends_block p t u old new → NoMoveSoFar D here t old → NoMoveSoFar E (set here k p) u new
+  def_no_move D E k p here t u old new less next reach def d c =
       let o : OperandValue = op_at ops k in
-      let g = allocs_operand_calm (after i) ops pass edits (def_request o) p t d.inst_regs old d.middle d.gets c.0
-      (λ q wants. c.1.nobody k q (positions_of o) less next.before_it (claims (own (tame.allocated k less def) (asked_fixed o.constraint q wants) refl)))
+      let g = allocs_operand_no_move (after i) ops pass edits (def_request o) p t d.inst_regs old d.middle d.gets c.0
+      (λ q wants. c.1.nobody k q (positions_of o) less next.before_it (claims (own (sound_ops.allocated k less def) (asked_fixed o.constraint q wants) refl)))
       (not_free t old (positions_of o) reach c.0) in
-      let z = frees_alloc_calm (after i) o.vreg is_ret p d.inst_regs u d.middle new (ret k less def) d.defines
+      let z = frees_alloc_no_move (after i) o.vreg ends_block p d.inst_regs u d.middle new (only_at_end k less def) d.defines
       (λ q at. c.0.away k q less def (ap (λ (x : VRegAllocsValue). alloc_of x o.vreg.number) (sym g.places) ∙ at)) in
       let later : Less t u = subst (Less t) (sym z.0) g.later in
       let both : SamePlaces old new = record {
@@ -275,16 +275,16 @@ module _ (Known : VirtualRegister → Type 0) (ops : List OperandValue) (tame : 
         stands_at = λ n r h. z.1.stands_at n r (ap (λ (x : VRegAllocsValue). alloc_of x n) g.places ∙ h);
         held_by = λ r small. z.1.held_by r small ∙ ap (λ (x : VRegAllocsValue). vreg_of_preg x r) g.places;
       } in
-      same_calm D E k p here t u old new next later both c
+      same_no_move D E k p here t u old new next later both c
 
   -- a reuse
-  reuse_calm : (D E : ℕ → Type 0) (k n : ℕ) (p : Place) (here : List Place) (t u : InstRegs) (old new : StateValue) → k < length ops → NextDone D E k →
+  reuse_no_move : (D E : ℕ → Type 0) (k n : ℕ) (p : Place) (here : List Place) (t u : InstRegs) (old new : StateValue) → k < length ops → NextDone D E k →
       (D n → ⊥) → is_def (op_at ops k).kind ≡ true → (op_at ops k).constraint ≡ Reuse n
-      → AllocsDefOp (after i) (reuse_request (op_at ops k) (op_at ops n)) is_ret p t u old new → Calm D here t old → Calm E (set (set here k p) n p) u new
-  reuse_calm D E k n p here t u old new less next not_n def reuses d c =
+      → AllocsDefOp (after i) (reuse_request (op_at ops k) (op_at ops n)) ends_block p t u old new → NoMoveSoFar D here t old → NoMoveSoFar E (set (set here k p) n p) u new
+  reuse_no_move D E k n p here t u old new less next not_n def reuses d c =
       let o : OperandValue = op_at ops k in
       let m : OperandValue = op_at ops n in
-      let name = tame.named k n less reuses in
+      let name = sound_ops.named k n less reuses in
       let use_it : is_def m.kind ≡ false = reads_use m name.2 in
       let mine : (q : Register) → (reuse_request o m).requirement ≡ InPReg q →
       Asks ops here k q (record { early = false; late = true }) = λ q wants. claims (named n reuses name.0 (asked_as_fixed m.constraint q wants) refl) in
@@ -292,8 +292,8 @@ module _ (Known : VirtualRegister → Type 0) (ops : List OperandValue) (tame : 
       vreg_of_preg old.places q ≡ None = λ q wants. c.1.nobody k q (record { early = false; late = true }) less next.before_it (mine q wants) in
       let taken : (q : Register) (v : VirtualRegister) → q.number < 64 → vreg_of_preg old.places q ≡ Some v → IsAvailableAt t (reuse_request o m).positions q →
       ⊥ = λ q v small held f. both_ways (has_register t.early q) (c.0.early q v small held) (f.early refl) in
-      let g = allocs_operand_calm (after i) ops pass edits (reuse_request o m) p t d.inst_regs old d.middle d.gets c.0 none taken in
-      let z = frees_alloc_calm (after i) o.vreg is_ret p d.inst_regs u d.middle new (ret k less def) d.defines
+      let g = allocs_operand_no_move (after i) ops pass edits (reuse_request o m) p t d.inst_regs old d.middle d.gets c.0 none taken in
+      let z = frees_alloc_no_move (after i) o.vreg ends_block p d.inst_regs u d.middle new (only_at_end k less def) d.defines
       (λ q at. c.0.away k q less def (ap (λ (x : VRegAllocsValue). alloc_of x o.vreg.number) (sym g.places) ∙ at)) in
       let later : Less t u = subst (Less t) (sym z.0) g.later in
       let both : SamePlaces old new = record {
@@ -305,7 +305,7 @@ module _ (Known : VirtualRegister → Type 0) (ops : List OperandValue) (tame : 
       let long_enough : (q : Register) → p ≡ InRegister q → (q.number < 64) × (vreg_of_preg old.places q ≡ None)
       × ((j : ℕ) (w : Positions) → j < length ops → (E j → ⊥) → j ≢ n → Asks ops here j q w → w.early ≡ true → ⊥) =
       λ q is. by_origin q is g.origin none taken mine in (
-        still_on ops pass edits t u old new later both c.0,
+        no_move_pushed_on ops pass edits t u old new later both c.0,
         awaiting_reuse ops D E n p here (set (set here k p) n p) t u old new name.0 use_it name.1 (λ j within not_e. (next.back j not_e).0)
             (get_or-set_same (set here k p) n p NoPlace (let l = c.2 in let q = length-set here k p in let w = name.0 in omega (arith, l, q, w)))
             (λ j within not_e ne. get_or-set_other (set here k p) n j p NoPlace ne ∙ get_or-set_other here k j p NoPlace (next.back j not_e).1) later
@@ -332,7 +332,7 @@ module _ (Known : VirtualRegister → Type 0) (ops : List OperandValue) (tame : 
       by_origin q is (asked r at wants) none taken mine =
           let same : r ≡ q = same_register r q (sym at ∙ is) in
           let asks : (reuse_request (op_at ops k) (op_at ops n)).requirement ≡ InPReg q = wants ∙ ap InPReg same in
-          let name = tame.named k n less reuses in
+          let name = sound_ops.named k n less reuses in
           let claim : Asks ops here n q (positions_of (op_at ops n)) = claims
           (own (reads_allocated (op_at ops n) name.2) (asked_as_fixed (op_at ops n).constraint q asks) refl) in (
             c.1.small k q (record { early = false; late = true }) less next.before_it (mine q asks),
@@ -352,12 +352,12 @@ module _ (Known : VirtualRegister → Type 0) (ops : List OperandValue) (tame : 
       by_origin q is (in_a_slot l at) none taken mine = absurd (no_register_slot l q (sym at ∙ is))
 
   -- a use
-  use_calm : (D E : ℕ → Type 0) (k : ℕ) (p : Place) (here : List Place) (t u : InstRegs) (old new : StateValue) → k < length ops → NextDone D E k →
+  use_no_move : (D E : ℕ → Type 0) (k : ℕ) (p : Place) (here : List Place) (t u : InstRegs) (old new : StateValue) → k < length ops → NextDone D E k →
       Reaches (positions_of (op_at ops k)) → is_reading (op_at ops k) ≡ true
       → (pass ≡ true → (positions_of (op_at ops k)).late ≡ true)
       → ((j : ℕ) (r : Register) (w : Positions) → j < length ops → (D j → ⊥) → Asks ops here j r w → Overlap (positions_of (op_at ops k)) w)
-      → AllocsUse (after i) (use_request (op_at ops k) (at_place here k)) p t u old new → Calm D here t old → Calm E (set here k p) u new
-  use_calm D E k p here t u old new less next reach reads lates covers d c = by_use d.uses
+      → AllocsUse (after i) (use_request (op_at ops k) (at_place here k)) p t u old new → NoMoveSoFar D here t old → NoMoveSoFar E (set here k p) u new
+  use_no_move D E k p here t u old new less next reach reads lates covers d c = by_use d.uses
     where
       asks_it : (q : Register) → (use_request (op_at ops k) (at_place here k)).requirement ≡ InPReg q → Asks ops here k q (positions_of (op_at ops k))
       asks_it q wants = elim (use_asks (op_at ops k) (at_place here k) q wants) [
@@ -371,10 +371,10 @@ module _ (Known : VirtualRegister → Type 0) (ops : List OperandValue) (tame : 
       taken : (q : Register) (v : VirtualRegister) → q.number < 64 → vreg_of_preg old.places q ≡ Some v →
           IsAvailableAt t (use_request (op_at ops k) (at_place here k)).positions q → ⊥
       taken q v small held f = not_free t old (positions_of (op_at ops k)) reach c.0 q v small held
-          (free_at t (use_request (op_at ops k) (at_place here k)).positions (positions_of (op_at ops k)) q (use_positions (op_at ops k) (at_place here k)) f)
+          (available_at_same t (use_request (op_at ops k) (at_place here k)).positions (positions_of (op_at ops k)) q (use_positions (op_at ops k) (at_place here k)) f)
 
       g : Got (use_request (op_at ops k) (at_place here k)) p t u old d.middle
-      g = allocs_operand_calm (after i) ops pass edits (use_request (op_at ops k) (at_place here k)) p t u old d.middle d.gets c.0 none taken
+      g = allocs_operand_no_move (after i) ops pass edits (use_request (op_at ops k) (at_place here k)) p t u old d.middle d.gets c.0 none taken
 
       early : (positions_of (op_at ops k)).early ≡ true
       early = (let e : is_def (op_at ops k).kind ≡ false = reads_use (op_at ops k) reads in rw e refl)
@@ -397,7 +397,7 @@ module _ (Known : VirtualRegister → Type 0) (ops : List OperandValue) (tame : 
       mine nowhere q is (was_free r at small is_free) =
           let same : r ≡ q = same_register r q (sym at ∙ is) in
           let lt : q.number < 64 = subst (λ (x : Register). x.number < 64) same small in
-          let f : IsAvailableAt t (positions_of (op_at ops k)) q = free_at t (use_request (op_at ops k) (at_place here k)).positions
+          let f : IsAvailableAt t (positions_of (op_at ops k)) q = available_at_same t (use_request (op_at ops k) (at_place here k)).positions
           (positions_of (op_at ops k)) q (use_positions (op_at ops k) (at_place here k))
           (subst (IsAvailableAt t (use_request (op_at ops k) (at_place here k)).positions) same is_free) in (
             lt,
@@ -412,8 +412,8 @@ module _ (Known : VirtualRegister → Type 0) (ops : List OperandValue) (tame : 
       same_number : (use_request (op_at ops k) (at_place here k)).vreg.number ≡ (op_at ops k).vreg.number
       same_number = ap (λ (v : VirtualRegister). v.number) (use_vreg (op_at ops k) (at_place here k))
 
-      by_use : LocatesUse (use_request (op_at ops k) (at_place here k)).vreg p d.middle new → Calm E (set here k p) u new
-      by_use (stays there en) = same_calm D E k p here t u old new next g.later
+      by_use : LocatesUse (use_request (op_at ops k) (at_place here k)).vreg p d.middle new → NoMoveSoFar E (set here k p) u new
+      by_use (stays there en) = same_no_move D E k p here t u old new next g.later
           (same_places old new (ap (λ (x : StateValue). x.places) en ∙ g.places) (ap (λ (x : StateValue). x.edits) en ∙ g.edits)) c
       by_use (located stood_nowhere settles slots pushed machine order) =
           let nowhere : alloc_of old.places (op_at ops k).vreg.number ≡ NoPlace = ap (alloc_of old.places) (sym same_number)
@@ -430,7 +430,7 @@ module _ (Known : VirtualRegister → Type 0) (ops : List OperandValue) (tame : 
                   g.claimed_early q is (ap (λ (x : Positions). x.early) positions ∙ early),
                   λ yes_pass. g.claimed_late q is (ap (λ (x : Positions). x.late) positions ∙ lates yes_pass),
                 ))
-                (λ j within def e. tame.unread j k within less def reads (sym (e ∙ same_number)))
+                (λ j within def e. sound_ops.unread j k within less def reads (sym (e ∙ same_number)))
                 c.0,
             awaiting_on ops D E here (set here k p) t u old new (λ j within not_e. (next.back j not_e).0)
                 (λ j within not_e. get_or-set_other here k j p NoPlace (next.back j not_e).1) g.later
@@ -441,19 +441,19 @@ module _ (Known : VirtualRegister → Type 0) (ops : List OperandValue) (tame : 
           )
 
   -- an operand is allocated
-  pub processes_operand_calm : {D E : ℕ → Type 0} {k : ℕ} {here there : List Place} {t u : InstRegs} {old new : StateValue} →
-      ProcessesOperand i is_ret ops k here there t u old new → k < length ops → NextDone D E k → Reaches (positions_of (op_at ops k))
+  pub processes_operand_no_move : {D E : ℕ → Type 0} {k : ℕ} {here there : List Place} {t u : InstRegs} {old new : StateValue} →
+      ProcessesOperand i ends_block ops k here there t u old new → k < length ops → NextDone D E k → Reaches (positions_of (op_at ops k))
       → ((n : ℕ) → (op_at ops k).constraint ≡ Reuse n → D n → ⊥)
       → (is_reading (op_at ops k) ≡ true → pass ≡ true → (positions_of (op_at ops k)).late ≡ true)
       → (is_reading (op_at ops k) ≡ true → (j : ℕ) (r : Register) (w : Positions) → j < length ops → (D j → ⊥) → Asks ops here j r w →
       Overlap (positions_of (op_at ops k)) w)
-      → Calm D here t old → Calm E there u new
-  processes_operand_calm {D} {E} {k} {here} {t} {u} {old} {new} (a_register r silent is written_it eu en) less next reach not_n lates covers c =
-      subst (λ l. Calm E l u new) (sym written_it) (same_calm D E k (InRegister r) here t u old new next (less_same t u eu)
+      → NoMoveSoFar D here t old → NoMoveSoFar E there u new
+  processes_operand_no_move {D} {E} {k} {here} {t} {u} {old} {new} (a_register r silent is written_it eu en) less next reach not_n lates covers c =
+      subst (λ l. NoMoveSoFar E l u new) (sym written_it) (same_no_move D E k (InRegister r) here t u old new next (less_same t u eu)
       (same_places old new (ap (λ (x : StateValue). x.places) en) (ap (λ (x : StateValue). x.edits) en)) c)
-  processes_operand_calm {D} {E} {k} {here} {t} {u} {old} {new} (a_use p reads places written_it) less next reach not_n lates covers c =
-      subst (λ l. Calm E l u new) (sym written_it) (use_calm D E k p here t u old new less next reach reads (lates reads) (covers reads) places c)
-  processes_operand_calm {D} {E} {k} {here} {t} {u} {old} {new} (a_def p def no_reuse places written_it) less next reach not_n lates covers c =
-      subst (λ l. Calm E l u new) (sym written_it) (def_calm D E k p here t u old new less next reach def places c)
-  processes_operand_calm {D} {E} {k} {here} {t} {u} {old} {new} (a_reuse n p def reuses places written_it) less next reach not_n lates covers c =
-      subst (λ l. Calm E l u new) (sym written_it) (reuse_calm D E k n p here t u old new less next (not_n n reuses) def reuses places c)
+  processes_operand_no_move {D} {E} {k} {here} {t} {u} {old} {new} (a_use p reads places written_it) less next reach not_n lates covers c =
+      subst (λ l. NoMoveSoFar E l u new) (sym written_it) (use_no_move D E k p here t u old new less next reach reads (lates reads) (covers reads) places c)
+  processes_operand_no_move {D} {E} {k} {here} {t} {u} {old} {new} (a_def p def no_reuse places written_it) less next reach not_n lates covers c =
+      subst (λ l. NoMoveSoFar E l u new) (sym written_it) (def_no_move D E k p here t u old new less next reach def places c)
+  processes_operand_no_move {D} {E} {k} {here} {t} {u} {old} {new} (a_reuse n p def reuses places written_it) less next reach not_n lates covers c =
+      subst (λ l. NoMoveSoFar E l u new) (sym written_it) (reuse_no_move D E k n p here t u old new less next (not_n n reuses) def reuses places c)

@@ -43,9 +43,9 @@ pub record Stepped (point : ℕ) (inst_regs : InstRegs) (class : RegClass) (give
   pub assigned : (m : Place × Place × Unit {0}) → Contains given m → came_from made m.1 ≡ m.0
 
 -- the ordered moves of one class bring each target the value of its source, and leave all but scratch and temporary places alone
-pub stepped : (point : ℕ) (inst_regs : InstRegs) (class : RegClass) (given : Moves) (old new : StateValue) → Pushes point inst_regs class given old new →
+pub class_moves_done : (point : ℕ) (inst_regs : InstRegs) (class : RegClass) (given : Moves) (old new : StateValue) → Pushes point inst_regs class given old new →
     Stepped point inst_regs class given old new
-stepped point inst_regs class given old new p =
+class_moves_done point inst_regs class given old new p =
     let o : OrdersMoves inst_regs class given p.made old p.middle = p.orders in
     let count : new.slots.count ≡ p.middle.slots.count = ap (λ (t : StateValue). t.slots.count) p.pushes in
     record {
@@ -95,7 +95,7 @@ spare_back inst_regs class old new q a d s = (
   ],
 )
 
--- The moves of a branch's arguments, class after class, at a point: the tables before them (g), and those once the moves of each class are pushed.
+-- The moves of a branch's arguments, class after class, at a point: the tables before them (g), and the tables once the moves of each class are pushed.
 pub record ClassSteps : Type 0 where
   pub point : ℕ
   pub inst_regs : InstRegs
@@ -129,7 +129,7 @@ steps_of point inst_regs given g ints floats new int float vector = record {
 module _ (steps : ClassSteps) where
   open steps use {point, inst_regs, given, g, ints, floats, new, int, float, vector}
 
-  -- the moves of all three classes as they are listed: those pushed last are first
+  -- the moves of all three classes as they are listed: the last pushed are first
   pub all_moves : List MoveValue
   all_moves = moves_of vector.made ++ (moves_of float.made ++ moves_of int.made)
 
@@ -202,7 +202,7 @@ module _ (steps : ClassSteps) where
       runs c q ∙ ap c (three q q q q (low_int q real (scratch_reserve Int) below (other Int)) (low_float q real (scratch_reserve Float) below (other Float))
       (low_vector q real (scratch_reserve Vector) below (other Vector)))
 
-  -- and so does a slot that is made later
+  -- all moves leave a slot alone that is made later
   pub all_above : (n : ℕ) → new.slots.count ≤ n → IsNeverTarget (InSlot n) → (c : Cells) → after_moves all_moves c (InSlot n) ≡ c (InSlot n)
   all_above n le other c =
       let a : floats.slots.count ≤ new.slots.count = vector.grows in

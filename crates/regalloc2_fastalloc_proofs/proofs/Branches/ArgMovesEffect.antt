@@ -35,7 +35,7 @@ one_slot m n e = cc
 
 -- The moves of the arguments of the block b's branch, class after class. F: the slots at the walk's end, each of one vreg; the parameters of the block's
 -- successors are known, of the classes of their arguments; the tables before the moves are whole, with no vreg in a register reserved for moves; and
--- the given moves are those of the arguments, except for those that the branch defines itself.
+-- each given move is of an argument that the branch doesn't define itself.
 pub record ArgMoves : Type 1 where
   pub Known : VirtualRegister → Type 0
   pub same : (v w : VirtualRegister) → Known v → Known w → v.number ≡ w.number → v ≡ w
@@ -96,7 +96,7 @@ module _ (args : ArgMoves) where
       let t : Target c n = whose c m n has to in
       ne (sym t.class_is ∙ ap (λ (w : VirtualRegister). w.class) (target_is v known n mine c t))
 
-  -- nor do the moves of any class, if the vreg is no parameter of a successor
+  -- no move of any class goes to the slot of a vreg that is no parameter of a successor
   no_parameter : (v : VirtualRegister) → Known v → ((e : ℕ) → HasEdge f b e → names v (params_on f b e) ≡ false) → (n : ℕ) → F v.number ≡ Some (InSlot n) →
       (c : RegClass) → IsNoTarget (of_class c given) (InSlot n)
   no_parameter v known free n mine c m has to =
@@ -104,7 +104,7 @@ module _ (args : ArgMoves) where
       let named : names v (params_on f b t.edge) ≡ true = names_at (params_on f b t.edge) t.at v t.less (target_is v known n mine c t) in
       let not_named : names v (params_on f b t.edge) ≡ false = free t.edge t.has in cc
 
-  -- and no move goes to a register
+  -- no move goes to a register
   no_register : (r : Register) (c : RegClass) → IsNoTarget (of_class c given) (InRegister r)
   no_register r c m has to =
       let g0 = of_class-from c given m has in

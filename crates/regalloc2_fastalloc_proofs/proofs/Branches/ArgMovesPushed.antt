@@ -33,7 +33,7 @@ at_pushed point (m ∷ ms) es =
     ∙ at_point-here point (record { from = m.0; to = m.1 }) (listed (es ++ pushed point ms))
     ∙ ap (λ l. record { from = m.0; to = m.1 } ∷ l) (at_pushed point ms es)
 
--- and at other points nothing changes
+-- at other points nothing changes
 pub other_pushed : (point q : ℕ) (made : Moves) (es : List (ℕ × MoveValue)) → (point ≡ q → ⊥) →
     at_point (listed (es ++ pushed point made)) q ≡ at_point (listed es) q
 other_pushed point q [] es ne = ap (λ l. at_point (listed l) q) (append-nil es)

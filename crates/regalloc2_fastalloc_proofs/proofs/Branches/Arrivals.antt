@@ -20,8 +20,8 @@ abbrev pub left_at : FunctionValue → (ℕ → List Place) → ℕ → ℕ → 
 left_at f placesf e j = place_at (placesf (last_of (block_at f e))) j
 
 -- a vreg that a branch defines is used by some other instruction
-abbrev pub IsNeeded : FunctionValue → VirtualRegister → Type 0
-IsNeeded f v = (b e k : ℕ) → IsEdgeInto f b e k → IsOwnDef f e v → IsUsedElsewhere f v
+abbrev pub IsUsedBeyondBranch : FunctionValue → VirtualRegister → Type 0
+IsUsedBeyondBranch f v = (b e k : ℕ) → IsEdgeInto f b e k → IsOwnDef f e v → IsUsedElsewhere f v
 
 -- The places that hold vregs at a block's start: those that the branch into it defines in the places of its operands, the parameters to which they
 -- are passed there too, and all others in their slots. A vreg that only its own branch passes is nowhere.
@@ -31,7 +31,7 @@ pub record Arrive (f : FunctionValue) (placesf : ℕ → List Place) (F : ℕ �
   pub given : (b e k n j : ℕ) → IsEdgeInto f b e k → n < length (block_at f b).params →
       DefinesNumber (branch_operands f e) (slice_index_or (arguments_at f e k) n no_vreg).number j →
       stand b (slice_index_or (block_at f b).params n no_vreg) ≡ Some (left_at f placesf e j)
-  pub other : (b : ℕ) (v : VirtualRegister) → IsNeeded f v → ((e k : ℕ) → IsEdgeInto f b e k → IsOwnDef f e v → ⊥) →
+  pub other : (b : ℕ) (v : VirtualRegister) → IsUsedBeyondBranch f v → ((e k : ℕ) → IsEdgeInto f b e k → IsOwnDef f e v → ⊥) →
       ((e k n : ℕ) → IsEdgeInto f b e k → n < length (block_at f b).params → slice_index_or (block_at f b).params n no_vreg ≡ v →
       IsOwnDef f e (slice_index_or (arguments_at f e k) n no_vreg) → ⊥) → stand b v ≡ F v.number
   pub unused : (b d e k : ℕ) (v : VirtualRegister) → IsEdgeInto f d e k → IsOwnDef f e v → (IsUsedElsewhere f v → ⊥) → stand b v ≡ None

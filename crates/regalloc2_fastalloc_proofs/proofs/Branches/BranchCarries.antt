@@ -31,25 +31,25 @@ use Rattle.regalloc2_fastalloc_proofs.specs.Safety.{IsWhole}
 use Rattle.regalloc2_fastalloc_proofs.proofs.Safety.StepsKeepState.{place_in, slot_in}
 use Rattle.regalloc2_fastalloc_proofs.proofs.Operands.RecordOverState.{opt, stands_at, slots_at, grown_slots}
 use Rattle.regalloc2_fastalloc_proofs.proofs.Moves.ScratchRegTaken.{of_machine, Fit}
-use Rattle.regalloc2_fastalloc_proofs.proofs.Operands.AllocsSoFar.{IsTame}
+use Rattle.regalloc2_fastalloc_proofs.proofs.Operands.AllocsSoFar.{AreSoundOperands}
 use Rattle.regalloc2_fastalloc_proofs.proofs.Slots.StepsKeepSlots.{IsAt, changes_grow}
 use Rattle.regalloc2_fastalloc_proofs.proofs.Operands.DefinedNumbers.{defined_by, defined_by-at}
 use Rattle.regalloc2_fastalloc_proofs.proofs.BlockEnd.NoMoveForOperand.{IsOutside}
-use Rattle.regalloc2_fastalloc_proofs.proofs.Moves.StepsAppendEdits.{Pushes, pushes_then, pushes_weaken, changes_push}
+use Rattle.regalloc2_fastalloc_proofs.proofs.Moves.StepsAppendEdits.{AppendsEdits, pushes_then, pushes_weaken, changes_push}
 use Rattle.regalloc2_fastalloc_proofs.proofs.Changes.WalkChanges.{any_passed, gathers_moves_changes}
-use Rattle.regalloc2_fastalloc_proofs.proofs.Inst.OneInstCarries.{Between, Alone, alone}
+use Rattle.regalloc2_fastalloc_proofs.proofs.Inst.OneInstCarries.{IsBetweenInsts, CarriesByItself, carries_by_itself}
 use Rattle.regalloc2_fastalloc_proofs.proofs.Walk.InstForOneVReg.{undefined_by}
 use Rattle.regalloc2_fastalloc_proofs.proofs.Walk.InstsBeforeLastCarry.{defined_from}
 use Rattle.regalloc2_fastalloc_proofs.proofs.Walk.BlockObligations.{defined_from-some}
 use Rattle.regalloc2_fastalloc_proofs.proofs.BlockEnd.LastInst.{OwedOwn, owed_there}
 use Rattle.regalloc2_fastalloc_proofs.proofs.BlockBegin.ReloadAtBegin.{IsReload}
 use Rattle.regalloc2_fastalloc_proofs.proofs.Branches.ArgMovesPushed.{walked_made}
-use Rattle.regalloc2_fastalloc_proofs.proofs.Branches.ArgMovesByClass.{Stepped, stepped, all_moves, all_at, all_other, all_places, all_slots, all_grow}
+use Rattle.regalloc2_fastalloc_proofs.proofs.Branches.ArgMovesByClass.{Stepped, class_moves_done, all_moves, all_at, all_other, all_places, all_slots, all_grow}
 use Rattle.regalloc2_fastalloc_proofs.proofs.Branches.EdgeArgsGathered.{passes_at, argument_at, params_on}
-use Rattle.regalloc2_fastalloc_proofs.proofs.BlockEnd.BranchAlone.{IsHeldHere, IsUseMove, Branched, branched, unmoved, none_below}
-use Rattle.regalloc2_fastalloc_proofs.proofs.BlockEnd.BranchEndsBlock.{EndsBlock, ToCome, to_come-back, reads_own, own_moves}
+use Rattle.regalloc2_fastalloc_proofs.proofs.BlockEnd.BranchAlone.{IsHeldHere, IsUseMove, Branched, branch_moves_uses_only, no_move_added_to, none_below}
+use Rattle.regalloc2_fastalloc_proofs.proofs.BlockEnd.BranchEndsBlock.{LastBranch, ToCome, to_come-back, reads_own, own_moves}
 use Rattle.regalloc2_fastalloc_proofs.proofs.Branches.ArgMovesEffect.{ArgMoves, names_at, relied_kept, passed_moved}
-use Rattle.regalloc2_fastalloc_proofs.proofs.Branches.BranchInParts.{settled_carries, Parted, parted}
+use Rattle.regalloc2_fastalloc_proofs.proofs.Branches.BranchInParts.{settled_carries, Parted, branch_in_parts}
 use Rattle.regalloc2_fastalloc_proofs.proofs.Inst.ProperInsts.{ProperCode}
 use Rattle.regalloc2_fastalloc_proofs.proofs.Branches.ArgMovesByClass.{ClassSteps, steps_of}
 use Rattle.regalloc2_fastalloc_proofs.proofs.Changes.InstChanges.{allocs_inst_changes, any_operand}
@@ -118,7 +118,7 @@ pub record BlockBranch : Type 1 where
   pub new : StateValue
   pub within : last < length f.insts
   pub are_listed : (k : ℕ) → k < length (inst_at f last).operands → place_at (placesf last) k ≡ slice_index_or here k NoPlace
-  pub tame : IsTame Known (inst_at f last).operands
+  pub sound_ops : AreSoundOperands Known (inst_at f last).operands
   pub ends : ends_block (inst_at f last) ≡ true
   pub own_defs : (k : ℕ) → k < length (inst_at f last).operands → is_def (op_at (inst_at f last).operands k).kind ≡ true → (n : ℕ) →
       place_at (placesf last) k ≡ InSlot n → F (op_at (inst_at f last).operands k).vreg.number ≡ Some (InSlot n)
@@ -128,7 +128,7 @@ pub record BlockBranch : Type 1 where
   pub classes : (e j : ℕ) → HasEdge f b e → j < length (params_on f b e) →
       (argument_at (arguments_at f b e) j).class ≡ (argument_at (params_on f b e) j).class
   pub unread_params : (e : ℕ) (w : VirtualRegister) → HasEdge f b e → names w (params_on f b e) ≡ true → Unread (inst_at f last).operands w
-  pub between : Between (last + 1) old
+  pub between : IsBetweenInsts (last + 1) old
   pub bare : IsOutside old
   pub a : AllocsInst last (inst_at f last) blank here old middle
   pub inst_regs : InstRegs
@@ -137,17 +137,17 @@ pub record BlockBranch : Type 1 where
 
 module _ (branch : BlockBranch) where
   open branch.code use {Known, f, placesf, proper}
-  open branch use {code, F, b, last, blank, here, old, middle, new, within, are_listed, tame, ends, own_defs, undefined_params, known_params, classes}
+  open branch use {code, F, b, last, blank, here, old, middle, new, within, are_listed, sound_ops, ends, own_defs, undefined_params, known_params, classes}
   open branch use {unread_params, between, bare, a, inst_regs, p, come}
 
-  by_itself : Alone code last old middle
-  by_itself = alone code last blank here old middle within are_listed between a
+  by_itself : CarriesByItself code last old middle
+  by_itself = carries_by_itself code last blank here old middle within are_listed between a
 
   br : Branched code last here a.ended old middle
-  br = branched code last blank here old middle within are_listed tame ends between bare a
+  br = branch_moves_uses_only code last blank here old middle within are_listed sound_ops ends between bare a
 
   -- the branch ends its block
-  abbrev at_end : EndsBlock
+  abbrev at_end : LastBranch
   at_end = record {
     code = code;
     F = F;
@@ -170,16 +170,16 @@ module _ (branch : BlockBranch) where
   edges = length (block_at f b).succs
 
   part : Parted f b last edges a.ended inst_regs middle p.gathered p.given
-  part = parted f b last a.ended inst_regs middle p.gathered edges p.given p.gathers by_itself.between br.scratch_reserve
+  part = branch_in_parts f b last a.ended inst_regs middle p.gathered edges p.given p.gathers by_itself.between br.scratch_reserve
 
   ints : Stepped (before last) inst_regs Int (of_class Int p.given) p.gathered p.ints
-  ints = stepped (before last) inst_regs Int (of_class Int p.given) p.gathered p.ints p.int
+  ints = class_moves_done (before last) inst_regs Int (of_class Int p.given) p.gathered p.ints p.int
 
   floats : Stepped (before last) inst_regs Float (of_class Float p.given) p.ints p.floats
-  floats = stepped (before last) inst_regs Float (of_class Float p.given) p.ints p.floats p.float
+  floats = class_moves_done (before last) inst_regs Float (of_class Float p.given) p.ints p.floats p.float
 
   vectors : Stepped (before last) inst_regs Vector (of_class Vector p.given) p.floats new
-  vectors = stepped (before last) inst_regs Vector (of_class Vector p.given) p.floats new p.vector
+  vectors = class_moves_done (before last) inst_regs Vector (of_class Vector p.given) p.floats new p.vector
 
   -- the moves of the arguments
   abbrev steps : ClassSteps
@@ -231,7 +231,7 @@ module _ (branch : BlockBranch) where
   abbrev arg_moves : ArgMoves
   arg_moves = record {
     Known = Known;
-    same = tame.same;
+    same = sound_ops.same;
     f = f;
     F = F;
     b = b;
@@ -264,13 +264,13 @@ module _ (branch : BlockBranch) where
       Untouched (InSlot n) L
   slot_untouched e w edge known named n mine =
       let P : (ℕ × MoveValue) → Type 0 = λ d. IsUseMove last (inst_at f last).operands here d ⊎ IsReload (before last) d in
-      let pushes : Pushes P old.edits p.gathered.edits =
+      let pushes : AppendsEdits P old.edits p.gathered.edits =
       pushes_then P old.edits middle.edits p.gathered.edits (pushes_weaken (IsUseMove last (inst_at f last).operands here) P old.edits middle.edits
       (λ d x. inl x) br.pushes)
       (pushes_weaken (IsReload (before last)) P middle.edits p.gathered.edits (λ d x. inr x)
       (changes_push (IsReload (before last)) (gathers_moves_changes (λ q r. (refl, (r, refl))) (any_passed (IsReload (before last)) f b) p.gathers))) in
       untouched_walked (InSlot n) (inst_at f) (at_point (listed p.gathered.edits)) placesf last 1
-      (λ q ge lt. unmoved P (InSlot n) q old.edits p.gathered.edits
+      (λ q ge lt. no_move_added_to P (InSlot n) q old.edits p.gathered.edits
       (λ d is to. elim is [
         | inl x ↦ elim x.1 [
           | inl r ↦ (let y : InRegister r.0 ≡ InSlot n = sym r.1 ∙ to in cc)
@@ -302,7 +302,7 @@ module _ (branch : BlockBranch) where
       (λ j le lt. let same : last ≡ j = omega (arith, le, lt) in subst (λ k. Undefined (inst_at f k).operands v) same (undefined_by f placesf F v last free))
 
   module _ (v : VirtualRegister) (known : Known v) (free : defined_by (inst_at f last).operands v.number ≡ false) (foreign : IsOwnDef f b v → ⊥) (block : Bool)
-      (settled : (place_in old v.number ≡ NoPlace) ⊎ ((k : ℕ) × (place_in old v.number ≡ InSlot k) × (slot_in old v.number ≡ InSlot k)))
+      (in_slot_or_nowhere : (place_in old v.number ≡ NoPlace) ⊎ ((k : ℕ) × (place_in old v.number ≡ InSlot k) × (slot_in old v.number ≡ InSlot k)))
       (writes_it : block ≡ true → IsUnwritten f b v → ⊥) (lives : block ≡ true → (c : ℕ) → c < length f.blocks → c ≢ b → IsUsedIn f c v →
       place_in old v.number ≢ NoPlace) where
     -- the places that must hold v
@@ -320,8 +320,8 @@ module _ (branch : BlockBranch) where
         br.scratch_reserve
         (own_moves at_end come_middle v known
         free block Own (λ q o. o.2)
-        (λ yes_block q o. elim (owed_there f F b v block old (stays_old v.number) settled writes_it lives q o).1 [
-          | inl at ↦ by_settled settled q at
+        (λ yes_block q o. elim (owed_there f F b v block old (stays_old v.number) in_slot_or_nowhere writes_it lives q o).1 [
+          | inl at ↦ by_settled in_slot_or_nowhere q at
           | inr (inl at) ↦ at
           | inr (inr at) ↦ (let x : block ≡ false = at.0 in cc)
         ]))

@@ -17,11 +17,11 @@ use Rattle.regalloc2_fastalloc_state.specs.declared.inst_regs.InstRegs.{InstRegs
 use Rattle.regalloc2_fastalloc_proofs.specs.InstSteps.{StateValue}
 use Rattle.regalloc2_fastalloc_proofs.specs.BranchSteps.{ClassMove, GathersMoves}
 use Rattle.regalloc2_fastalloc_proofs.proofs.Operands.RecordOverState.{stands_at, slots_at}
-use Rattle.regalloc2_fastalloc_proofs.proofs.Inst.OneInstCarries.{Between}
+use Rattle.regalloc2_fastalloc_proofs.proofs.Inst.OneInstCarries.{IsBetweenInsts}
 use Rattle.regalloc2_fastalloc_proofs.proofs.BlockBegin.ReloadAtBegin.{SpareHere}
 use Rattle.regalloc2_fastalloc_proofs.proofs.BlockBegin.CarriesFromSlot.{is_there, is_there-true, is_there-same, is_there-none}
 use Rattle.regalloc2_fastalloc_proofs.proofs.Branches.ArgsSpilled.{Stage}
-use Rattle.regalloc2_fastalloc_proofs.proofs.Branches.EdgeArgsGathered.{MovesByClass, gathered}
+use Rattle.regalloc2_fastalloc_proofs.proofs.Branches.EdgeArgsGathered.{MovesByClass, arguments_gathered}
 use Rattle.regalloc2_fastalloc_proofs.proofs.Operands.BlockTail.{tail_of}
 
 -- a slot that is made later is needed, if the block doesn't write its vreg
@@ -50,7 +50,7 @@ module _ (insts : ℕ → InstValue) (placesf : ℕ → List Place) (last : ℕ)
   abbrev StageHere : InstRegs → StateValue → Type 0
   StageHere u t = Stage (tail_of (λ w. w ≡ v) insts placesf last 0 (λ w. E)) branch_item (is_kept block v.number F) (kept-clear block v.number F only) u t
 
-  begin_stage : (u : InstRegs) (t : StateValue) → Between last t → SpareHere u t → Carries v (from_last t) (On t) E → StageHere u t
+  begin_stage : (u : InstRegs) (t : StateValue) → IsBetweenInsts last t → SpareHere u t → Carries v (from_last t) (On t) E → StageHere u t
   begin_stage u t b scratch_reserve c =
       let L : List Item = before_part insts (listed t.edits) placesf last 0 branch_item in
       let here : Carries v L (On t) E = subst (λ l. Carries v l (On t) E) (walked-more insts (listed t.edits) placesf last 0) c in
@@ -87,10 +87,10 @@ module _ (insts : ℕ → InstValue) (placesf : ℕ → List Place) (last : ℕ)
 
   -- all arguments are spilled
   pub settled_carries : {f : FunctionValue} {b : ℕ} {t u : InstRegs} {old new : StateValue} {k : ℕ} {given : List ClassMove} →
-      GathersMoves f b (before last) t old k u new given → Between last old → SpareHere t old → Carries v (from_last old) (On old) E →
+      GathersMoves f b (before last) t old k u new given → IsBetweenInsts last old → SpareHere t old → Carries v (from_last old) (On old) E →
       Carries v (from_last new) (On new) E
   settled_carries {f} {b} {t} {u} {old} {new} {k} {given} gathers between scratch_reserve c =
-      let d = gathered (tail_of (λ w. w ≡ v) insts placesf last 0 (λ w. E)) branch_item (is_kept block v.number F) (kept-clear block v.number F only) f b t old
+      let d = arguments_gathered (tail_of (λ w. w ≡ v) insts placesf last 0 (λ w. E)) branch_item (is_kept block v.number F) (kept-clear block v.number F only) f b t old
       (begin_stage t old between scratch_reserve c) k u new given gathers in
       end_stage u new d.stage
 
@@ -101,10 +101,10 @@ Parted f b last k t u old new given = MovesByClass (tail_of (λ v. ⊥) (inst_at
     f b k t u old new given
 
 -- once the arguments of k edges are gathered, each has a location, and the gathered moves go from their slots to the parameters' slots
-pub parted : (f : FunctionValue) (b last : ℕ) (t u : InstRegs) (old new : StateValue) (k : ℕ) (given : List ClassMove) →
-    GathersMoves f b (before last) t old k u new given → Between last old → SpareHere t old → Parted f b last k t u old new given
-parted f b last t u old new k given gathers between scratch_reserve =
-    gathered (tail_of (λ v. ⊥) (inst_at f) (λ j. []) last 0 (λ v p. ⊥)) (exec_item (inst_at f last) []) (λ p x. false) (λ r x. refl) f b t old
+pub branch_in_parts : (f : FunctionValue) (b last : ℕ) (t u : InstRegs) (old new : StateValue) (k : ℕ) (given : List ClassMove) →
+    GathersMoves f b (before last) t old k u new given → IsBetweenInsts last old → SpareHere t old → Parted f b last k t u old new given
+branch_in_parts f b last t u old new k given gathers between scratch_reserve =
+    arguments_gathered (tail_of (λ v. ⊥) (inst_at f) (λ j. []) last 0 (λ v p. ⊥)) (exec_item (inst_at f last) []) (λ p x. false) (λ r x. refl) f b t old
     (record {
       whole = between.whole;
       later = between.later;

@@ -35,20 +35,20 @@ use Rattle.regalloc2_fastalloc_proofs.proofs.Safety.StepsKeepState.{slot_in}
 use Rattle.regalloc2_fastalloc_proofs.proofs.Operands.RecordOverState.{stands_at, slots_at, opt_real}
 use Rattle.regalloc2_fastalloc_proofs.proofs.Operands.DefinedNumbers.{defined_by, defined_by-number, number_defined}
 use Rattle.regalloc2_fastalloc_proofs.proofs.Moves.StepsAppendEdits.{pushed_at}
-use Rattle.regalloc2_fastalloc_proofs.proofs.Safety.WellFormedKeepsSafe.{tame_at}
+use Rattle.regalloc2_fastalloc_proofs.proofs.Safety.WellFormedKeepsSafe.{sound_ops_at}
 use Rattle.regalloc2_fastalloc_proofs.proofs.Branches.EdgeArgsGathered.{argument_at, params_on, passes_at}
 use Rattle.regalloc2_fastalloc_proofs.proofs.Branches.ArgMovesEffect.{names_at}
-use Rattle.regalloc2_fastalloc_proofs.proofs.Branches.Arrivals.{left_at, IsNeeded, Arrive, DefsPlaced, own_slot_of, left_there, left_apart}
+use Rattle.regalloc2_fastalloc_proofs.proofs.Branches.Arrivals.{left_at, IsUsedBeyondBranch, Arrive, DefsPlaced, own_slot_of, left_there, left_apart}
 use Rattle.regalloc2_fastalloc_proofs.proofs.Branches.DefinitionsCarry.{made_walked}
 use Rattle.regalloc2_fastalloc_proofs.proofs.Branches.EdgesInto.{entered_by_one}
-use Rattle.regalloc2_fastalloc_proofs.proofs.BlockEnd.BranchAlone.{IsUseMove, branched}
+use Rattle.regalloc2_fastalloc_proofs.proofs.BlockEnd.BranchAlone.{IsUseMove, branch_moves_uses_only}
 use Rattle.regalloc2_fastalloc_proofs.proofs.BlockEnd.BranchEndsBlock.{ToCome}
 use Rattle.regalloc2_fastalloc_proofs.proofs.Branches.BranchCarries.{branch_carries}
 use Rattle.regalloc2_fastalloc_proofs.proofs.Branches.WellFormedBranch.{unread_parameters, argument_classes}
 use Rattle.regalloc2_fastalloc_proofs.proofs.Walk.InstBoundaries.{grown_pushes}
 use Rattle.regalloc2_fastalloc_proofs.proofs.Walk.InstsBeforeLastCarry.{defined_from}
 use Rattle.regalloc2_fastalloc_proofs.proofs.Walk.DefsBeforeUses.{used_made, used_somewhere}
-use Rattle.regalloc2_fastalloc_proofs.proofs.Walk.BlockCarries.{BlockEnd, EndCarries, BranchCarries, IsUnused, writes_in}
+use Rattle.regalloc2_fastalloc_proofs.proofs.Walk.BlockCarries.{BlockEnd, EndCarries, BranchCarries, IsPassedOnly, writes_in}
 use Rattle.regalloc2_fastalloc_proofs.proofs.Inst.ProperInsts.{all_proper, proper_of}
 use Rattle.regalloc2_fastalloc_proofs.proofs.Slots.StepsKeepSlots.{changes_grow, Grown}
 use Rattle.regalloc2_fastalloc_proofs.proofs.Changes.WalkChanges.{processes_branch_changes, any_passed}
@@ -96,7 +96,7 @@ module _ (env : MachineValue) (f : FunctionValue) (limited : IsLimited f) (ok : 
       into k j n edge d = record { block = lb; edge = edge; target = refl; definitions = (branch, (n, j, d)) }
 
       -- what the branch defines is in the operand's place after the block
-      own_out : IsNeeded f v ⊎ IsUnused f v → (j : ℕ) → DefinesNumber (branch_operands f b) v.number j → (p : Place) → GoesOut f stand b v p →
+      own_out : IsUsedBeyondBranch f v ⊎ IsPassedOnly f v → (j : ℕ) → DefinesNumber (branch_operands f b) v.number j → (p : Place) → GoesOut f stand b v p →
           p ≡ left_at f placesf b j
       own_out known j d p (inl h) = elim known [
         | inl needed ↦ (
@@ -112,8 +112,8 @@ module _ (env : MachineValue) (f : FunctionValue) (limited : IsLimited f) (ok : 
           let at = arrive.given (target_at f b h.0) b h.0 n.0 j (into h.0 j v.number h.2 d) n.1 arg in
           let same : Some p ≡ Some (left_at f placesf b j) = sym h.4 ∙ subst (λ w. stand (target_at f b h.0) w ≡ Some (left_at f placesf b j)) n.2 at in cc
 
-      -- and everything else is in slots
-      foreign_out : IsNeeded f v ⊎ IsUnused f v → (IsOwnDef f b v → ⊥) → (p : Place) → GoesOut f stand b v p → StandsAfter f (λ w. F w.number) b v p
+      -- what the branch doesn't define is needed in slots
+      foreign_out : IsUsedBeyondBranch f v ⊎ IsPassedOnly f v → (IsOwnDef f b v → ⊥) → (p : Place) → GoesOut f stand b v p → StandsAfter f (λ w. F w.number) b v p
       foreign_out known foreign p (inl h) = elim known [
         | inl needed ↦ (
             let at = arrive.other (target_at f b h.0) v needed
@@ -141,7 +141,7 @@ module _ (env : MachineValue) (f : FunctionValue) (limited : IsLimited f) (ok : 
 
   module _ (placesf : ℕ → List Place) (final : StateValue) (stand : ℕ → VirtualRegister → Option Place) (arrive : Arrive f placesf (slots_at final) stand)
       (placed : (b : ℕ) → b < length f.blocks → (inst_at f (last_of (block_at f b))).is_branch ≡ true → DefsPlaced f placesf (slots_at final) b)
-      (decide : (v : VirtualRegister) → IsUsed f v → IsNeeded f v ⊎ IsUnused f v) where
+      (decide : (v : VirtualRegister) → IsUsed f v → IsUsedBeyondBranch f v ⊎ IsPassedOnly f v) where
     module _ (b : ℕ) (old new : StateValue) (lb : b < length f.blocks) (e : BlockEnd f placesf (slots_at final) b (last_of (block_at f b)) old new)
         (branch : (inst_at f (last_of (block_at f b))).is_branch ≡ true) where
       abbrev last : ℕ
@@ -180,8 +180,8 @@ module _ (env : MachineValue) (f : FunctionValue) (limited : IsLimited f) (ok : 
       -- no move is listed after the branch
       quiet : at_point (listed new.edits) (after last) ≡ []
       quiet =
-          let br = branched (proper_of (Made f) f placesf (all_proper env f limited ok)) last e.allocates.allocates.blank
-          e.allocates.allocates.here old e.allocates.middle within e.at (tame_at env f limited ok taken last within) ends e.between e.bare
+          let br = branch_moves_uses_only (proper_of (Made f) f placesf (all_proper env f limited ok)) last e.allocates.allocates.blank
+          e.allocates.allocates.here old e.allocates.middle within e.at (sound_ops_at env f limited ok taken last within) ends e.between e.bare
           e.allocates.allocates.allocates in
           let p = e.allocates.branch branch in
           let g : Grown (λ n. n ≡ before last) e.allocates.middle new =
@@ -246,7 +246,7 @@ module _ (env : MachineValue) (f : FunctionValue) (limited : IsLimited f) (ok : 
               | inr slot ↦ (let s = (placed b lb branch).slotted k lk def slot in ap (is_clobbered (inst_at f last).clobbers) s.1)
             ]
 
-        -- and what it doesn't define
+        -- the branch carries what it doesn't define
         foreign_carries : (IsOwnDef f b v → ⊥) → Carries v L On (GoesOut f stand b v)
         foreign_carries foreign =
             carries_weaken v L On On (StandsAfter f (λ u. slots_at final u.number) b v) (GoesOut f stand b v) (λ p h. h)
@@ -263,7 +263,7 @@ module _ (env : MachineValue) (f : FunctionValue) (limited : IsLimited f) (ok : 
               new = new;
               within = within;
               are_listed = e.at;
-              tame = tame_at env f limited ok taken last within;
+              sound_ops = sound_ops_at env f limited ok taken last within;
               ends = ends;
               own_defs = own_slots;
               undefined_params = λ k w edge named.
@@ -278,7 +278,7 @@ module _ (env : MachineValue) (f : FunctionValue) (limited : IsLimited f) (ok : 
               inst_regs = e.allocates.inst_regs;
               p = e.allocates.branch branch;
               come = come;
-            }) v made (defined_not v foreign) foreign (writes_in f b last v.number) (e.settled v.number) (e.writes v made) (e.lives v))
+            }) v made (defined_not v foreign) foreign (writes_in f b last v.number) (e.in_slot_or_nowhere v.number) (e.writes v made) (e.lives v))
 
       at_last : EndCarries f placesf (slots_at final) stand b (last_of (block_at f b)) new
       at_last silent v used excused = elim (cases_Bool (defined_by (inst_at f last).operands v.number)) [

@@ -27,7 +27,7 @@ made_carries v ms ops places clobbers q makes unread =
     (λ p e. inl (subst (λ x. DefinesVRegAt ops places clobbers x v) (sym e) makes))
     (carries_nil v (λ p. p ≡ q) (λ p. p ≡ q) (λ p e. e)))
 
--- the same of an instruction after which no move is listed
+-- a definition carries from nowhere to its place over an instruction after which no move is listed
 pub made_walked : (v : VirtualRegister) (insts : ℕ → InstValue) (at : ℕ → List MoveValue) (placesf : ℕ → List Place) (i : ℕ) (q : Place) →
     DefinesVRegAt (insts i).operands (placesf i) (insts i).clobbers q v → Unread (insts i).operands v → at (after i) ≡ [] →
     Carries v (walked insts at placesf i 1) (λ p. ⊥) (λ p. p ≡ q)

@@ -1,4 +1,4 @@
--- The arguments of all edges are spilled, and the moves from their slots to those of the parameters are gathered.
+-- The arguments of all edges are spilled, and the moves from their slots to the parameters' slots are gathered.
 use Rattle.std.proofs.Common.{ℕ, zero, suc, ◌≡◌, ◌<◌, ◌⊎◌, inl, inr, Bool, true, false, cond, List, [], ◌∷◌, length, refl, sym, ap, ◌∙◌, subst, arith}
 use Rattle.std.specs.Prelude.{Some, Contains, slice_index_or}
 use Rattle.std.proofs.lemmas.Bool.{cases_eq}
@@ -19,7 +19,7 @@ use Rattle.regalloc2_fastalloc_proofs.specs.BranchSteps.{GathersMoves, no_edge, 
 use Rattle.regalloc2_fastalloc_proofs.proofs.Operands.RecordOverState.{opt, opt_some, slots_at, changes_slots}
 use Rattle.regalloc2_fastalloc_proofs.proofs.Changes.OneChange.{slot_given, changed, in_order}
 use Rattle.regalloc2_fastalloc_proofs.proofs.Changes.WalkChanges.{spills_argument_changes, gathers_edge_moves_changes}
-use Rattle.regalloc2_fastalloc_proofs.proofs.Branches.ArgsSpilled.{Comes, comes_all, comes_then, Stage, gets_spillslot_stage, argued}
+use Rattle.regalloc2_fastalloc_proofs.proofs.Branches.ArgsSpilled.{Comes, comes_all, comes_then, Stage, gets_spillslot_stage, argument_spilled}
 use Rattle.regalloc2_fastalloc_proofs.proofs.Operands.BlockTail.{BlockTail}
 
 contains_cases : {X : Type 0} → (x y : X) (xs : List X) → Contains (x ∷ xs) y → (x ≡ y) ⊎ Contains xs y
@@ -49,7 +49,7 @@ in_rest : {X : Type 0} → (b : Bool) (x y : X) (xs : List X) → Contains xs y 
 in_rest true x y xs h = (suc h.0, omega (arith, h.1), h.2)
 in_rest false x y xs h = h
 
--- the moves of a class are those of the gathered ones
+-- a gathered move is among the moves of its class
 pub of_class-has : (c : RegClass) (gs : List ClassMove) (g : ClassMove) → Contains gs g → g.class ≡ c → Contains (of_class c gs) (g.from, g.to, tt)
 unfolding of_class
 of_class-has c [] g has e = absurd (let lt : has.0 < 0 = has.1 in omega (arith, lt))
@@ -143,7 +143,7 @@ module _ (tail : BlockTail) (item : Item) (X : Place → ℕ → Bool) (clear : 
       settles foreign) =
       let a = gathers_edge_moves_done params arguments t old before_it h j u m had prev in
       let g = gets_spillslot_stage tail item X clear (argument_at params j) to u m p gives places edits machine a.stage in
-      let s = argued tail item X clear (argument_at arguments j) from u w p o settles g.0 in
+      let s = argument_spilled tail item X clear (argument_at arguments j) from u w p o settles g.0 in
       let slots : (x : ℕ) (r : Place) → slots_at m x ≡ Some r → slots_at o x ≡ Some r = changes_slots (in_order p
       (changed (slot_given (argument_at params j) to tt gives places edits machine)) (spills_argument_changes (λ q b. tt) tt tt settles)) in
       let one : ClassMove = record { class = (argument_at arguments j).class; from = from; to = to } in
@@ -199,17 +199,17 @@ module _ (tail : BlockTail) (item : Item) (X : Place → ℕ → Bool) (clear : 
         × IsArgued (params_on f b e) (arguments_at f b e) j new g
 
   -- gathering the arguments of the first k edges keeps the state at the branch, and gives the moves of all their arguments
-  pub gathered : (f : FunctionValue) (b : ℕ) (t : InstRegs) (old : StateValue) → Stage tail item X clear t old
+  pub arguments_gathered : (f : FunctionValue) (b : ℕ) (t : InstRegs) (old : StateValue) → Stage tail item X clear t old
       → (k : ℕ) (u : InstRegs) (new : StateValue) (given : List ClassMove) → GathersMoves f b (before i) t old k u new given
       → MovesByClass f b k t u old new given
-  gathered f b t old h k u new given no_edge = record {
+  arguments_gathered f b t old h k u new given no_edge = record {
     stage = h;
     comes = comes_all t old;
     origin = λ g has. absurd (let lt : has.0 < 0 = has.1 in omega (arith, lt));
     all = λ e j lt less not_own. absurd (omega arith);
   }
-  gathered f b t old h k u new given (one_edge d had more x w m o lt prev edge) =
-      let a = gathered f b t old h d x m had prev in
+  arguments_gathered f b t old h k u new given (one_edge d had more x w m o lt prev edge) =
+      let a = arguments_gathered f b t old h d x m had prev in
       let g = gathers_edge_moves_done (params_on f b d) (arguments_at f b d) x m had a.stage (length (params_on f b d)) u new given edge in
       let slots : (y : ℕ) (p : Place) → slots_at m y ≡ Some p → slots_at new y ≡ Some p =
       changes_slots (gathers_edge_moves_changes (λ q r. tt) (λ j less. record { target = tt; source = tt; spills = tt }) edge) in

@@ -11,7 +11,7 @@ use Rattle.regalloc2_fastalloc_proofs.proofs.Branches.WellFormedBranch.{few_or_m
 use Rattle.regalloc2_fastalloc_proofs.proofs.Branches.WellFormedMayBranch.{one_edge_each}
 
 module _ (env : MachineValue) (f : FunctionValue) (ok : IsWellFormed env f) where
-  -- any edge into the block is that one
+  -- a block entered by one edge is entered by no other
   pub entered_by_one : (b k : ℕ) → b < length f.blocks → HasEdge f b k → (e l : ℕ) → IsEdgeInto f (target_at f b k) e l → (b ≡ e) × (k ≡ l)
   entered_by_one b k lb edge e l into =
       let t : ℕ = target_at f b k in

@@ -21,10 +21,10 @@ use Rattle.regalloc2_analysis.proofs.BranchDefsLemmas.UsedOrNot.{Decided, below,
 use Rattle.regalloc2_fastalloc_proofs.specs.BranchSteps.{IsOwnDef}
 use Rattle.regalloc2_fastalloc_proofs.specs.StoreSteps.{branch_operands}
 use Rattle.regalloc2_fastalloc_proofs.proofs.Operands.DefinedNumbers.{defined_by, defined_by-number, number_defined}
-use Rattle.regalloc2_fastalloc_proofs.proofs.Branches.Arrivals.{Arrive, IsNeeded, left_at}
+use Rattle.regalloc2_fastalloc_proofs.proofs.Branches.Arrivals.{Arrive, IsUsedBeyondBranch, left_at}
 use Rattle.regalloc2_fastalloc_proofs.proofs.Branches.EdgesInto.{one_edge_into}
 use Rattle.regalloc2_fastalloc_proofs.proofs.Safety.StoredDefs.{last_within}
-use Rattle.regalloc2_fastalloc_proofs.proofs.Walk.BlockCarries.{IsUnused}
+use Rattle.regalloc2_fastalloc_proofs.proofs.Walk.BlockCarries.{IsPassedOnly}
 
 -- the operand j of the branch into the block b defines v, which something else uses
 pub record ComesByOwn (f : FunctionValue) (b : ℕ) (v : VirtualRegister) : Type 0 where
@@ -50,10 +50,10 @@ pub record ComesByParam (f : FunctionValue) (b : ℕ) (v : VirtualRegister) : Ty
 pub data Arrival (f : FunctionValue) (b : ℕ) (v : VirtualRegister) : Type 0 where
   by_own : ComesByOwn f b v → Arrival f b v
   by_param : ComesByParam f b v → Arrival f b v
-  nowhere : IsUnused f v → Arrival f b v
-  in_slot : (IsUnused f v → ⊥) → (ComesByOwn f b v → ⊥) → (ComesByParam f b v → ⊥) → Arrival f b v
+  nowhere : IsPassedOnly f v → Arrival f b v
+  in_slot : (IsPassedOnly f v → ⊥) → (ComesByOwn f b v → ⊥) → (ComesByParam f b v → ⊥) → Arrival f b v
 
--- its location then; F: the slots at the walk's end
+-- the location of v on arrival; F: the slots at the walk's end
 abbrev pub place_on : (f : FunctionValue) (placesf : ℕ → List Place) (F : ℕ → Option Place) (b : ℕ) (v : VirtualRegister) → Arrival f b v → Option Place
 place_on f placesf F b v (by_own c) = Some (left_at f placesf c.from c.index)
 place_on f placesf F b v (by_param c) = Some (left_at f placesf c.from c.index)
@@ -68,7 +68,7 @@ some_definition f e = elim (below (λ k. is_def (op_at (branch_operands f e) k).
       | inr none ↦ inr (λ d. none (d.1, d.2.operand, d.2.definition))
     ]
 
--- and whether that instruction is a branch
+-- whether a block's last instruction is a branch that defines something
 ends_in_definitions : (f : FunctionValue) (e : ℕ) → Decided (EndsInDefinitions f e)
 ends_in_definitions f e = both _ _ (is_so (inst_at f (last_of (block_at f e))).is_branch) (some_definition f e)
 
@@ -86,7 +86,7 @@ edge_or_none f b = elim (below (λ e. ((k : ℕ) × (k < length (block_at f e).s
     ]
 
 -- whether v is defined by a branch, and used by nothing else
-pub unused_or_not : (f : FunctionValue) (v : VirtualRegister) → Decided (IsUnused f v)
+pub unused_or_not : (f : FunctionValue) (v : VirtualRegister) → Decided (IsPassedOnly f v)
 unused_or_not f v = elim (used_or_not f v) [
   | inl used ↦ inr (λ u. u.5 used)
   | inr un ↦ elim (below (λ e. ((inst_at f (last_of (block_at f e))).is_branch ≡ true) × (defined_by (branch_operands f e) v.number ≡ true)
@@ -120,7 +120,7 @@ unused_or_not f v = elim (used_or_not f v) [
     ]
 
 -- each used vreg is needed elsewhere, or used by its own branch alone
-pub needed_or_unused : (f : FunctionValue) (v : VirtualRegister) → IsUsed f v → IsNeeded f v ⊎ IsUnused f v
+pub needed_or_unused : (f : FunctionValue) (v : VirtualRegister) → IsUsed f v → IsUsedBeyondBranch f v ⊎ IsPassedOnly f v
 needed_or_unused f v used = elim (unused_or_not f v) [
   | inl u ↦ inr u
   | inr not_unused ↦ inl (λ b e k edge own. elim (used_or_not f v) [
@@ -130,8 +130,8 @@ needed_or_unused f v used = elim (unused_or_not f v) [
 ]
 
 module _ (env : MachineValue) (f : FunctionValue) (ok : IsWellFormed env f) where
-  by_edge : (b : ℕ) (v : VirtualRegister) (e k : ℕ) → IsEdgeInto f b e k → (ComesByOwn f b v) ⊎ (ComesByParam f b v) ⊎ IsUnused f v
-      ⊎ ((IsUnused f v → ⊥) × (ComesByOwn f b v → ⊥) × (ComesByParam f b v → ⊥))
+  by_edge : (b : ℕ) (v : VirtualRegister) (e k : ℕ) → IsEdgeInto f b e k → (ComesByOwn f b v) ⊎ (ComesByParam f b v) ⊎ IsPassedOnly f v
+      ⊎ ((IsPassedOnly f v → ⊥) × (ComesByOwn f b v → ⊥) × (ComesByParam f b v → ⊥))
   by_edge b v e k edge = elim (is_so (defined_by (branch_operands f e) v.number)) [
     | inl is ↦ (
         let d = number_defined (branch_operands f e) v.number is in
@@ -186,7 +186,7 @@ module _ (env : MachineValue) (f : FunctionValue) (ok : IsWellFormed env f) wher
     ]
   ]
 
-  -- its location on entry
+  -- the location of v on entry into the block b
   abbrev pub stand_on : (ℕ → List Place) → (ℕ → Option Place) → ℕ → VirtualRegister → Option Place
   stand_on placesf F b v = place_on f placesf F b v (arrival b v)
 
@@ -242,7 +242,7 @@ module _ (env : MachineValue) (f : FunctionValue) (ok : IsWellFormed env f) wher
         by_kind (nowhere u) = absurd (given_not_defined b u.1 u.4.0 v me u.3.block u.4.1)
         by_kind (in_slot u own given) = absurd (given me)
 
-    on_other : (b : ℕ) (v : VirtualRegister) → IsNeeded f v → ((e k : ℕ) → IsEdgeInto f b e k → IsOwnDef f e v → ⊥) →
+    on_other : (b : ℕ) (v : VirtualRegister) → IsUsedBeyondBranch f v → ((e k : ℕ) → IsEdgeInto f b e k → IsOwnDef f e v → ⊥) →
         ((e k n : ℕ) → IsEdgeInto f b e k → n < length (block_at f b).params → slice_index_or (block_at f b).params n no_vreg ≡ v →
         IsOwnDef f e (slice_index_or (arguments_at f e k) n no_vreg) → ⊥) → (a : Arrival f b v) → place_on f placesf F b v a ≡ F v.number
     on_other b v needed no_own no_given (by_own c) = absurd (no_own c.from c.position c.edge (c.index, c.defines))
@@ -258,8 +258,8 @@ module _ (env : MachineValue) (f : FunctionValue) (ok : IsWellFormed env f) wher
     on_unused b d e k v edge own un (in_slot u c g) = absurd (u (d, e, k, edge, own, un))
 
     -- each vreg is at the location from which blocks carry it
-    pub arrives : Arrive f placesf F (stand_on placesf F)
-    arrives = record {
+    pub vregs_arrive : Arrive f placesf F (stand_on placesf F)
+    vregs_arrive = record {
       own = λ b e k j v edge d used. on_own b e k j v edge d used (arrival b v);
       given = λ b e k n j edge lt d. on_given b e k n j (slice_index_or (block_at f b).params n no_vreg) edge lt refl d
           (arrival b (slice_index_or (block_at f b).params n no_vreg));
@@ -297,6 +297,6 @@ live_used f v l (passed_there m k way has free) = elim (cases_lt m.block (length
 ]
 live_used f v l (later m w way free aside on) = live_used f v (next_of f m w) on
 
--- and is therefore needed
-pub live_needed : (f : FunctionValue) (v : VirtualRegister) (l : Location) → IsLive f v l → IsNeeded f v
+-- a live vreg is needed
+pub live_needed : (f : FunctionValue) (v : VirtualRegister) (l : Location) → IsLive f v l → IsUsedBeyondBranch f v
 live_needed f v l live = λ b e k edge own. live_used f v l live

@@ -13,9 +13,9 @@ use Rattle.regalloc2_fastalloc_proofs.specs.BlockSteps.{AllocsBlockInsts, Allocs
 use Rattle.regalloc2_fastalloc_proofs.specs.StoreSteps.{pushed_moves}
 use Rattle.regalloc2_fastalloc_proofs.proofs.Slots.StepsKeepSlots.{Grown, grown_then, changes_grow}
 use Rattle.regalloc2_fastalloc_proofs.proofs.Walk.InstsCarry.{AreListed}
-use Rattle.regalloc2_fastalloc_proofs.proofs.Walk.InstBoundaries.{IsEdge, IsWithin, grown_weaken, walk_grown, edge_next, kept_of}
+use Rattle.regalloc2_fastalloc_proofs.proofs.Walk.InstBoundaries.{IsEdge, IsWithin, grown_weaken, walk_grown, edge_next, kept_code_of}
 use Rattle.regalloc2_fastalloc_proofs.proofs.Walk.LastInstAndRest.{walk_listed}
-use Rattle.regalloc2_fastalloc_proofs.proofs.Walk.BlockCarries.{IsBelow}
+use Rattle.regalloc2_fastalloc_proofs.proofs.Walk.BlockCarries.{ComesBefore}
 use Rattle.regalloc2_fastalloc_proofs.proofs.Walk.FunctionLaws.{PlacedCode}
 use Rattle.regalloc2_fastalloc_proofs.proofs.Changes.WalkChanges.{begins_block_changes, any_begin}
 
@@ -30,14 +30,14 @@ pub record MetBlock (f : FunctionValue) (placesf : ℕ → List Place) (start : 
   pub listed : AreListed f placesf (block_at f b).range.first places
   pub begun : StateValue
   pub begins : BeginsBlock f b tables begun
-  pub rest : Grown (IsBelow (block_at f b).range.first) begun final
+  pub rest : Grown (ComesBefore (block_at f b).range.first) begun final
 
 module _ (code : PlacedCode) (start : List Place) (begin final : StateValue) (b : ℕ) (lb : b < length code.f.blocks) where
   open code use {Known, f, proper, kept, follow, ends, placesf}
 
   -- the walk reaches each block
   pub meet_block : {c : ℕ} {places : List Place} {t : StateValue} → AllocsBlocks f start begin c places t → (e : ℕ) → IsEdge f c e →
-      AreListed f placesf e places → Grown (IsBelow e) t final → c ≤ b → MetBlock f placesf start begin b final
+      AreListed f placesf e places → Grown (ComesBefore e) t final → c ≤ b → MetBlock f placesf start begin b final
   meet_block all_left = λ e edge are rest le. absurd (omega (arith, lb, le))
   meet_block {places} (one_block d p q s u w ld prev walk begins) = λ e edge are rest le.
       let first : ℕ = (block_at f d).range.first in
@@ -45,7 +45,7 @@ module _ (code : PlacedCode) (start : List Place) (begin final : StateValue) (b 
       let some : first < end = (follow d ld).0 in
       let here : e ≡ first = edge.0 ld in
       let are_here : AreListed f placesf first q = subst (λ m. AreListed f placesf m q) here are in
-      let rest_here : Grown (IsBelow first) w final = subst (λ m. Grown (IsBelow m) w final) here rest in
+      let rest_here : Grown (ComesBefore first) w final = subst (λ m. Grown (ComesBefore m) w final) here rest in
       elim (cases_eq d b) [
         | inl same ↦ (
             let found : MetBlock f placesf start begin d final = record {
@@ -63,11 +63,11 @@ module _ (code : PlacedCode) (start : List Place) (begin final : StateValue) (b 
             subst (λ (m : ℕ). MetBlock f placesf start begin m final) same found)
         | inr ne ↦ meet_block prev end (edge_next f follow d ld)
             (walk_listed code final d ld p s first q u walk are_here)
-            (grown_then (IsBelow end) s u final (grown_weaken (IsWithin first end) (IsBelow end) s u (λ m h. h.1)
-            (walk_grown (kept_of Known f proper kept) follow d ld p s first q u walk))
-            (grown_then (IsBelow end) u w final
-            (changes_grow (IsBelow end) (begins_block_changes (any_begin (λ e. IsBelow end e.0) f d (λ m r. omega (arith, some))) begins))
-            (grown_weaken (IsBelow first) (IsBelow end) w final (λ m h. omega (arith, h, some)) rest_here)))
+            (grown_then (ComesBefore end) s u final (grown_weaken (IsWithin first end) (ComesBefore end) s u (λ m h. h.1)
+            (walk_grown (kept_code_of Known f proper kept) follow d ld p s first q u walk))
+            (grown_then (ComesBefore end) u w final
+            (changes_grow (ComesBefore end) (begins_block_changes (any_begin (λ e. ComesBefore end e.0) f d (λ m r. omega (arith, some))) begins))
+            (grown_weaken (ComesBefore first) (ComesBefore end) w final (λ m h. omega (arith, h, some)) rest_here)))
             (omega (arith, le, ne))
       ]
 

@@ -1,4 +1,4 @@
--- What an instruction doesn't count: it defines no watched vreg, and those that it reads had a location before.
+-- What an instruction doesn't count: it defines no watched vreg, and the watched vregs that it reads had a location before.
 use Rattle.std.proofs.Common.{ℕ, ◌≡◌, ◌≢◌, ◌+◌, ◌-◌, ◌^◌, ◌<◌, ◌≤◌, ◌⊎◌, ◌&&◌, ◌||◌, inl, inr, Bool, true, false, List, length, refl, sym, ap, ◌∙◌, subst, arith, cond}
 use Rattle.std.specs.Prelude.{min, slice_index_or}
 use Rattle.std.proofs.lemmas.Bool.{cases_Bool, cases_eq}
@@ -63,7 +63,7 @@ up_rises : (a b : ℕ) → IsUp a b → Rises a b
 up_rises a b (inl x) = inl (omega (arith, x))
 up_rises a b (inr x) = inr x
 
--- one more, up to the greatest value
+-- a count rises by one, up to the greatest value
 one_up : (n : ℕ) → IsUp n (min (n + 1) greatest)
 one_up n = elim (cases_le (n + 1) greatest) [
   | inl le ↦ inl (let e = min-eq_left le in omega (arith, e))
@@ -84,7 +84,7 @@ count_up : (watched : List Bool) (n x : ℕ) (left place : Place) → (is_no_pla
     IsUp n (count_after watched n x left place)
 count_up watched n x left place none watches = rw (none, watches) (one_up n)
 
--- the same vregs are watched, and the count stays or rises
+-- the watched vregs stay, and the count stays or rises
 pub record Counted (old new : StateValue) : Type 0 where
   pub watched : new.places.watched ≡ old.places.watched
   pub rises : Rises old.places.changes new.places.changes
@@ -118,7 +118,7 @@ counted_then a b c f g = record {
   rises = rises_then a.places.changes b.places.changes c.places.changes f.rises g.rises;
 }
 
--- so over any changes
+-- any sequence of changes keeps the watched vregs, and the count stays or rises
 pub changes_counted : {old new : StateValue} → Changes Anything old new → Counted old new
 changes_counted = changes_keep (record { same = λ t. same_counted t t refl; over = counted_then; each = one_counted })
 
@@ -138,12 +138,12 @@ counts_between a b c d f g h = up_then a.places.changes c.places.changes d.place
     (then_up a.places.changes b.places.changes c.places.changes f.rises g) h.rises
 
 -- a definition
-def_counts : {point : ℕ} {v : VirtualRegister} {ret : Bool} {p : Place} {t u : InstRegs} {old new : StateValue} → FreesAlloc point v ret p t u old new →
+def_counts : {point : ℕ} {v : VirtualRegister} {ends_block : Bool} {p : Place} {t u : InstRegs} {old new : StateValue} → FreesAlloc point v ends_block p t u old new →
     Watches old v.number → CountsUp old new
 def_counts {v} {old} {new} d watches = counts_between old old d.left new (same_counted old old refl)
     (rw d.settles.changes (count_up old.places.watched old.places.changes v.number (alloc_of old.places v.number) NoPlace
     (none_right (is_no_place (alloc_of old.places v.number))) watches))
-    (changes_counted (in_order d.middle (adds_move_if_changes (λ q r. tt) (λ q. tt) d.awaited) (adds_move_if_changes (λ q r. tt) (λ q. tt) d.stored)))
+    (changes_counted (in_order d.middle (adds_move_if_changes (λ q r. tt) (λ q. tt) d.expected) (adds_move_if_changes (λ q r. tt) (λ q. tt) d.stored)))
   where
     none_right : (b : Bool) → (b || is_no_place NoPlace) ≡ true
     none_right true = refl
@@ -156,19 +156,19 @@ use_counts (use_stays there e) none watches = absurd (there none)
 use_counts {v} {p} {old} (located nowhere settles slots edits machine order) none watches =
     rw settles.changes (count_up old.places.watched old.places.changes v.number (alloc_of old.places v.number) p (rw nowhere refl) watches)
 
-module _ (i : ℕ) (ret : Bool) (ops : List OperandValue) where
-  operand_counted : {k : ℕ} {here there : List Place} {t u : InstRegs} {old new : StateValue} → ProcessesOperand i ret ops k here there t u old new →
+module _ (i : ℕ) (ends_block : Bool) (ops : List OperandValue) where
+  operand_counted : {k : ℕ} {here there : List Place} {t u : InstRegs} {old new : StateValue} → ProcessesOperand i ends_block ops k here there t u old new →
       Counted old new
   operand_counted {k} one = changes_counted (processes_operand_changes (λ p q. tt) (free_operand (op_at ops k)) one)
 
-  by_parts : {o : OperandRequest} {p : Place} {t u : InstRegs} {old new : StateValue} → AllocsDefOp (after i) o ret p t u old new →
+  by_parts : {o : OperandRequest} {p : Place} {t u : InstRegs} {old new : StateValue} → AllocsDefOp (after i) o ends_block p t u old new →
       Watches old o.vreg.number → CountsUp old new
   by_parts {o} {old} {new} d watches =
       let got : Counted old d.middle = changes_counted (allocs_operand_changes (λ q r. tt) tt d.gets) in
       then_up old.places.changes d.middle.places.changes new.places.changes got.rises (def_counts d.defines (still_watched old d.middle o.vreg.number got watches))
 
   -- an operand that defines a watched vreg
-  one_def : (k : ℕ) (here there : List Place) (t u : InstRegs) (old new : StateValue) → ProcessesOperand i ret ops k here there t u old new →
+  one_def : (k : ℕ) (here there : List Place) (t u : InstRegs) (old new : StateValue) → ProcessesOperand i ends_block ops k here there t u old new →
       is_def (op_at ops k).kind ≡ true → is_fixed_nonallocatable (op_at ops k) ≡ false → Watches old (op_at ops k).vreg.number → CountsUp old new
   one_def k here there t u old new (a_register r f c e eu en) def allocated watches = absurd (let z : true ≡ false = sym f ∙ allocated in cc)
   one_def k here there t u old new (a_use p reads d e) def allocated watches = absurd (let z = reads_use (op_at ops k) reads in cc)
@@ -176,7 +176,7 @@ module _ (i : ℕ) (ret : Bool) (ops : List OperandValue) where
   one_def k here there t u old new (a_reuse n p is reuses d e) def allocated watches = by_parts d watches
 
   -- an operand that reads a watched vreg without a location
-  one_use : (k : ℕ) (here there : List Place) (t u : InstRegs) (old new : StateValue) → ProcessesOperand i ret ops k here there t u old new →
+  one_use : (k : ℕ) (here there : List Place) (t u : InstRegs) (old new : StateValue) → ProcessesOperand i ends_block ops k here there t u old new →
       is_reading (op_at ops k) ≡ true → Watches old (op_at ops k).vreg.number → Absent (op_at ops k).vreg.number old → CountsUp old new
   one_use k here there t u old new (a_register r f c e eu en) reading watches absent = absurd (reads_no_fixed (op_at ops k) reading f)
   one_use k here there t u old new (a_def p is plain d e) reading watches absent = absurd (let z = reads_use (op_at ops k) reading in cc)
@@ -193,12 +193,12 @@ module _ (i : ℕ) (ret : Bool) (ops : List OperandValue) where
   -- the operands of a pass
   module _ (late : Bool) (before_it : List Place) (began : InstRegs) (first : StateValue) where
     abbrev Pass : ℕ → List Place → InstRegs → StateValue → Type 0
-    Pass = ProcessesOperandsAt i ret late ops before_it began first
+    Pass = ProcessesOperandsAt i ends_block late ops before_it began first
 
     pass_counted : (n : ℕ) (list : List Place) (u : InstRegs) (m : StateValue) → Pass n list u m → Counted first m
     pass_counted n list u m pass = changes_counted (processes_operands_at_changes (λ p q. tt) (λ j lt at. free_operand (op_at ops j)) pass)
 
-    -- one of them that defines a watched vreg
+    -- an operand of the pass that defines a watched vreg is counted
     pub pass_def : (k : ℕ) → is_def (op_at ops k).kind ≡ true → is_fixed_nonallocatable (op_at ops k) ≡ false → is_late (op_at ops k).position ≡ late →
         Watches first (op_at ops k).vreg.number → (n : ℕ) (list : List Place) (u : InstRegs) (m : StateValue) → Pass n list u m → k < n → CountsUp first m
     pass_def k def allocated at watches n list u m none_placed lt = absurd (omega (arith, lt))
@@ -207,7 +207,7 @@ module _ (i : ℕ) (ret : Bool) (ops : List OperandValue) where
         pass_def k def allocated at watches j list u m prev (omega (arith, lt, ne))
     pass_def k def allocated at watches n list u m (one_placed j l next w y s z prev of_pass one) lt = elim (cases_eq j k) [
       | inl e ↦ then_up first.places.changes s.places.changes m.places.changes (pass_counted j l w s prev).rises
-          (one_def k l list w u s m (subst (λ (q : ℕ). ProcessesOperand i ret ops q l list w u s m) e one) def allocated
+          (one_def k l list w u s m (subst (λ (q : ℕ). ProcessesOperand i ends_block ops q l list w u s m) e one) def allocated
           (still_watched first s (op_at ops k).vreg.number (pass_counted j l w s prev) watches))
       | inr ne ↦ up_then first.places.changes s.places.changes m.places.changes
           (pass_def k def allocated at watches j l w s prev (omega (arith, lt, ne))) (operand_counted one).rises
@@ -232,7 +232,7 @@ module _ (i : ℕ) (ret : Bool) (ops : List OperandValue) where
       ]
     ]
 
-    -- one of them that reads it
+    -- an operand of the pass that reads a watched vreg without a location is counted
     pub pass_use : (k : ℕ) → is_reading (op_at ops k) ≡ true → is_late (op_at ops k).position ≡ late → Watches first (op_at ops k).vreg.number →
         Absent (op_at ops k).vreg.number first → (n : ℕ) (list : List Place) (u : InstRegs) (m : StateValue) → Pass n list u m → k < n → CountsUp first m
     pass_use k reading at watches absent n list u m none_placed lt = absurd (omega (arith, lt))
@@ -245,7 +245,7 @@ module _ (i : ℕ) (ret : Bool) (ops : List OperandValue) where
       | inl e ↦ elim (pass_absent (op_at ops k).vreg.number watches absent j l w s prev) [
         | inr up ↦ up_then first.places.changes s.places.changes m.places.changes up (operand_counted one).rises
         | inl still ↦ then_up first.places.changes s.places.changes m.places.changes (pass_counted j l w s prev).rises
-            (one_use k l list w u s m (subst (λ (q : ℕ). ProcessesOperand i ret ops q l list w u s m) e one) reading
+            (one_use k l list w u s m (subst (λ (q : ℕ). ProcessesOperand i ends_block ops q l list w u s m) e one) reading
             (still_watched first s (op_at ops k).vreg.number (pass_counted j l w s prev) watches) still)
       ]
     ]
@@ -288,7 +288,7 @@ module _ (f : FunctionValue) (b i : ℕ) (before_it places : List Place) (old ne
   passes_counted : Counted old a.allocates.allocates.after_late
   passes_counted = counted_then old a.allocates.allocates.after_clobbers a.allocates.allocates.after_late before_late late_counted
 
-  -- it counts each watched vreg that it defines
+  -- the instruction counts each watched vreg that it defines
   pub inst_def : (k : ℕ) → k < length (inst_at f i).operands → is_def (op_at (inst_at f i).operands k).kind ≡ true →
       is_fixed_nonallocatable (op_at (inst_at f i).operands k) ≡ false → Watches old (op_at (inst_at f i).operands k).vreg.number → CountsUp old new
   inst_def k lt def allocated watches = elim (cases_Bool (is_late (op_at ops k).position)) [
@@ -300,7 +300,7 @@ module _ (f : FunctionValue) (b i : ℕ) (before_it places : List Place) (old ne
         (still_watched old a.allocates.allocates.after_late (op_at ops k).vreg.number passes_counted watches) (length ops) a.allocates.here a.allocates.allocates.early a.allocates.allocates.after_early a.allocates.allocates.earlies lt) after_both
   ]
 
-  -- and each that it reads while it has no location
+  -- the instruction counts each watched vreg that it reads while the vreg has no location
   pub inst_use : (k : ℕ) → k < length (inst_at f i).operands → is_reading (op_at (inst_at f i).operands k) ≡ true →
       Watches old (op_at (inst_at f i).operands k).vreg.number → Absent (op_at (inst_at f i).operands k).vreg.number old → CountsUp old new
   inst_use k lt reading watches absent = elim (cases_Bool (is_late (op_at ops k).position)) [
@@ -318,7 +318,7 @@ module _ (f : FunctionValue) (b i : ℕ) (before_it places : List Place) (old ne
         ]
   ]
 
-  -- so one that leaves the count as it is adds nothing to live ranges
+  -- an instruction that leaves the count as it is adds nothing to live ranges
   pub unchanged_adds_nothing : IsLimited f → (env : MachineValue) → IsWellFormed env f → i < length f.insts → LocatedAreUsed f (i + 1) old →
       new.places.changes ≡ old.places.changes → old.places.changes < 2 ^ 64 - 1 → AddsNothing f (IsWanted old.places.watched) i
   unchanged_adds_nothing limited env ok inside used same few = record {
@@ -336,7 +336,7 @@ module _ (f : FunctionValue) (b i : ℕ) (before_it places : List Place) (old ne
       not_up (inl up) = omega (arith, up, same)
       not_up (inr most) = omega (arith, most, same, few)
 
--- the same vregs are watched throughout
+-- the watched vregs stay over all instructions of a block
 pub insts_watched : {f : FunctionValue} {b i : ℕ} {blank places : List Place} {old new : StateValue} → AllocsBlockInsts f b blank old i places new →
     new.places.watched ≡ old.places.watched
 insts_watched {f} {b} walk = (changes_counted (allocs_block_insts_changes (λ n ge lt. free_inst f b n) walk)).watched

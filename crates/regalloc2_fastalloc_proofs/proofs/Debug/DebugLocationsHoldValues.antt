@@ -18,8 +18,8 @@ use Rattle.regalloc2_analysis.specs.declared.live_ranges.LiveRange.{LiveRange}
 use Rattle.regalloc2_analysis.specs.LiveRanges.LiveRanges.{IsKeptRange, IsShownBy}
 use Rattle.regalloc2_analysis.specs.LiveRanges.LiveRanges.IsShownBy.{by_late_use, by_early_use, by_argument, by_definition}
 use Rattle.regalloc2_fastalloc_state.specs.StateParts.{SlotsHaveOneOwner, IsSlotOrNone, slot_name}
-use Rattle.regalloc2_fastalloc_proofs.proofs.Operands.AllocsSoFar.{IsTame, reads_allocated}
-use Rattle.regalloc2_fastalloc_proofs.proofs.Safety.OutputOfWalk.{IsMade, made_proper}
+use Rattle.regalloc2_fastalloc_proofs.proofs.Operands.AllocsSoFar.{AreSoundOperands, reads_allocated}
+use Rattle.regalloc2_fastalloc_proofs.proofs.Safety.OutputOfWalk.{IsOutputOfWalk, made_proper}
 use Rattle.regalloc2_fastalloc_proofs.proofs.Safety.BlocksKeepSafe.{MayInBlocks}
 use Rattle.regalloc2_fastalloc_proofs.proofs.Safety.BranchArgsKeepState.{processes_branch_between}
 use Rattle.regalloc2_fastalloc_proofs.proofs.Walk.BlocksCarryFromFreshState.{passed_slots}
@@ -45,7 +45,7 @@ module _ (env : MachineValue) (f : FunctionValue) (limited : IsLimited f) (ok : 
       by_operand o.inst o.index (record { inst = d.inst; operand = d.index; definition = d.definition; number = ap (λ (w : VirtualRegister). w.number) d.vreg })
       d.vreg
 
-module _ (walk : WholeWalk) (m : IsMade walk.f walk.env (Made walk.f) (MayInBlocks walk.f) walk.last walk.out) where
+module _ (walk : WholeWalk) (m : IsOutputOfWalk walk.f walk.env (Made walk.f) (MayInBlocks walk.f) walk.last walk.out) where
   open walk use {env, f, limited, ok, blank, begin, last, out, empty, fit, walks}
 
   -- an operand's place is valid for its vreg
@@ -84,14 +84,14 @@ module _ (walk : WholeWalk) (m : IsMade walk.f walk.env (Made walk.f) (MayInBloc
       by_slot (InSlot n) e below = subst (λ (c : ℕ). n < c) (sym m.count) below
 
   -- what a debug location must satisfy for its label
-  pub label_shown : MachineFits f env → IsWrittenFirst f → SlotsHaveOneOwner last.slots → ((i : ℕ) → i < length f.insts → IsTame (Made f)
+  pub label_shown : MachineFits f env → IsWrittenFirst f → SlotsHaveOneOwner last.slots → ((i : ℕ) → i < length f.insts → AreSoundOperands (Made f)
       (inst_at f i).operands) → ReadsAgreeOnPaths f out → (stand : ℕ → VirtualRegister → Option Place) → AreAtBegin env f blank begin last out stand →
       (l : Label) (r : LiveRange) → IsKeptRange f l r →
       (let p : Place = shown_place out (slot_name last.slots r.vreg.number) r.by in IsProperPlace env out l.vreg.class p × HoldsValue f out l.vreg p)
-  label_shown fits written owned tame agree stand begins l r k =
+  label_shown fits written owned sound_ops agree stand begins l r k =
       subst (λ (n : ℕ). IsProperPlace env out l.vreg.class (shown_place out (slot_name last.slots n) r.by)
       × HoldsValue f out l.vreg (shown_place out (slot_name last.slots n) r.by)) (ap (λ (w : VirtualRegister). w.number) (sym k.vreg)) (
         place_proper written l.vreg k.by,
-        shown walk m written l.vreg ((shown_made env f limited ok) l.vreg k.by) fits owned tame
+        shown walk m written l.vreg ((shown_made env f limited ok) l.vreg k.by) fits owned sound_ops
             agree stand begins k.by,
       )

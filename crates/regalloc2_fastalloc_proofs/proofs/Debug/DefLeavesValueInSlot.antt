@@ -29,7 +29,7 @@ use Rattle.regalloc2_fastalloc_proofs.proofs.Operands.RecordOverState.{stands_at
 use Rattle.regalloc2_fastalloc_proofs.proofs.Operands.RecordOfInst.{Orderly, Turned, LayingContext, laying_of}
 use Rattle.regalloc2_fastalloc_proofs.proofs.Operands.UsesAndPlainDefs.{laid_pass}
 use Rattle.regalloc2_fastalloc_proofs.proofs.Operands.AllOperands.{LaidAt, laid_one_more, laid_all}
-use Rattle.regalloc2_fastalloc_proofs.proofs.Moves.StepsAppendEdits.{Pushes, none_pushed, pushes_then}
+use Rattle.regalloc2_fastalloc_proofs.proofs.Moves.StepsAppendEdits.{AppendsEdits, none_pushed, pushes_then}
 use Rattle.regalloc2_fastalloc_proofs.proofs.Slots.StepsKeepSlots.{Grown, grown_then, changes_grow, AnyPlace}
 use Rattle.regalloc2_fastalloc_proofs.proofs.Changes.InstChanges.{free_operand, adds_move_if_changes, processes_operand_changes, frees_alloc_changes}
 use Rattle.regalloc2_fastalloc_proofs.specs.Located.{Absent}
@@ -38,7 +38,7 @@ use Rattle.regalloc2_fastalloc_proofs.proofs.Debug.DefStoresIntoSlot.{Off, alloc
 use Rattle.regalloc2_fastalloc_proofs.proofs.Debug.DefStoresIntoSlot.{off_none, moves_of}
 use Rattle.regalloc2_fastalloc_proofs.proofs.Operands.BlockTail.{tail_of}
 
--- A definition of an instruction that is no return, and its vreg's slot: the known vregs; the instructions and the places of their
+-- A definition of an instruction that doesn't end its block, and its vreg's slot: the known vregs; the instructions and the places of their
 -- operands; the instruction i; its operands, which are orderly, with the numbers that had a location and the clobbered places; the
 -- operand d; and the slot's number n.
 pub record DefSlot : Type 1 where
@@ -49,9 +49,9 @@ pub record DefSlot : Type 1 where
   pub ops : List OperandValue
   pub lived : ℕ → Bool
   pub clob : Place → Bool
-  pub ret : Bool
+  pub ends_block : Bool
   pub orderly : Orderly ops
-  pub plain : ret ≡ false
+  pub plain : ends_block ≡ false
   pub d : ℕ
   pub within : d < length ops
   pub def : is_def (op_at ops d).kind ≡ true
@@ -59,7 +59,7 @@ pub record DefSlot : Type 1 where
 
 -- a value that an operand writes
 module _ (def_slot : DefSlot) where
-  open def_slot use {Known, insts, placesf, i, ops, lived, clob, ret, orderly, plain, d, within, def, n}
+  open def_slot use {Known, insts, placesf, i, ops, lived, clob, ends_block, orderly, plain, d, within, def, n}
 
   abbrev v : VirtualRegister
   v = (op_at ops d).vreg
@@ -75,20 +75,20 @@ module _ (def_slot : DefSlot) where
   real e = cc
 
   -- what the listing must establish: nothing, or that the slot holds the value
-  abbrev Nothing : VirtualRegister → Place → Type 0
-  Nothing u p = ⊥
+  abbrev Nowhere : VirtualRegister → Place → Type 0
+  Nowhere u p = ⊥
 
   abbrev pub Into : VirtualRegister → Place → Type 0
   Into u p = (u ≡ v) × (p ≡ s)
 
-  abbrev pub asks_nothing : LayingContext
-  asks_nothing = laying_of (tail_of Known insts placesf i 0 Nothing) ops lived clob ret orderly
+  abbrev pub asks_nowhere : LayingContext
+  asks_nowhere = laying_of (tail_of Known insts placesf i 0 Nowhere) ops lived clob ends_block orderly
 
   abbrev pub asks_value : LayingContext
-  asks_value = laying_of (tail_of Known insts placesf i 0 Into) ops lived clob ret orderly
+  asks_value = laying_of (tail_of Known insts placesf i 0 Into) ops lived clob ends_block orderly
 
   abbrev pub Bare : Bool → ℕ → List Place → InstRegs → StateValue → Type 0
-  Bare = LaidAt asks_nothing
+  Bare = LaidAt asks_nowhere
 
   abbrev pub Full : Bool → ℕ → List Place → InstRegs → StateValue → Type 0
   Full = LaidAt asks_value
@@ -108,7 +108,7 @@ module _ (def_slot : DefSlot) where
     ready = record {
       located = L.ready.located;
       owes = record { later = L.ready.owes.later; claims = claims };
-      nothing = λ e. absurd (let y : true ≡ false = sym e ∙ plain in cc);
+      nowhere_needed = λ e. absurd (let y : true ≡ false = sym e ∙ plain in cc);
       held = L.ready.held;
       scratch_reserve = L.ready.scratch_reserve;
       fit = L.ready.fit;
@@ -142,18 +142,18 @@ module _ (def_slot : DefSlot) where
     others_slots : (t : StateValue) → Grown AnyPlace t final → (x : ℕ) → x ≢ v.number → slot_in t x ≢ s
     others_slots t g x ne e = ne (whole.own x v.number n (g.stay x (λ z. real (sym e ∙ z)) ∙ e) mine)
 
-    another_off : (w : VirtualRegister) (p : Place) (t u : InstRegs) (old new : StateValue) → (df : FreesAlloc (after i) w ret p t u old new) →
+    another_off : (w : VirtualRegister) (p : Place) (t u : InstRegs) (old new : StateValue) → (df : FreesAlloc (after i) w ends_block p t u old new) →
         w.number ≢ v.number → IsWhole old → Grown AnyPlace old final →
-        Pushes (Off s slotted) old.edits new.edits
+        AppendsEdits (Off s slotted) old.edits new.edits
     another_off w p t u old new df ne h g =
-        frees_alloc_off s slotted (after i) w ret p t u old new df (λ e. others_slots old g w.number ne (h.own_slot w.number n e))
+        frees_alloc_off s slotted (after i) w ends_block p t u old new df (λ e. others_slots old g w.number ne (h.own_slot w.number n e))
         (others_slots old g w.number ne)
 
     processes_operand_off : (k : ℕ) (here there : List Place) (t u : InstRegs) (old new : StateValue) → (Counts ops k → (op_at ops k).vreg.number ≢ v.number) →
-        k < length ops → ProcessesOperand i ret ops k here there t u old new → IsWhole old → Grown AnyPlace new final →
-        Pushes (Off s slotted) old.edits new.edits
+        k < length ops → ProcessesOperand i ends_block ops k here there t u old new → IsWhole old → Grown AnyPlace new final →
+        AppendsEdits (Off s slotted) old.edits new.edits
     processes_operand_off k here there t u old new ne lt (a_register r silent is at eu en) h g =
-        subst (λ (y : StateValue). Pushes (Off s slotted) old.edits y.edits) (sym en) none_pushed
+        subst (λ (y : StateValue). AppendsEdits (Off s slotted) old.edits y.edits) (sym en) none_pushed
     processes_operand_off k here there t u old new ne lt (a_use p reads y at) h g =
         pushes_then (Off s slotted) old.edits y.middle.edits new.edits (allocs_operand_off s slotted (after i) _ p t u old y.middle y.gets)
         (locates_use_off s slotted (after i) _ p y.middle new y.uses)
@@ -169,19 +169,19 @@ module _ (def_slot : DefSlot) where
         (grown_then AnyPlace y.middle new final (changes_grow AnyPlace (frees_alloc_changes (λ q s. tt) (λ q. tt) (λ q. tt) tt y.defines)) g))
 
     -- the definition itself
-    define_into : (w : VirtualRegister) (p : Place) (t u : InstRegs) (old new : StateValue) → w ≡ v → (df : FreesAlloc (after i) w ret p t u old new) →
+    define_into : (w : VirtualRegister) (p : Place) (t u : InstRegs) (old new : StateValue) → w ≡ v → (df : FreesAlloc (after i) w ends_block p t u old new) →
         IsWhole old → slot_in new v.number ≡ s → NoMoveTo s (moves old) →
         (c : Cells) → after_moves (moves new) c s ≡ c p
     define_into w p t u old new e df h at none =
-        let left : Absent w.number df.left = defined_absent w.number (after i) w ret p t u old new refl df h in
-        let a = changes_out w.number (adds_move_if_changes (λ q r. tt) (λ q. tt) df.awaited) left in
+        let left : Absent w.number df.left = defined_absent w.number (after i) w ends_block p t u old new refl df h in
+        let a = changes_out w.number (adds_move_if_changes (λ q r. tt) (λ q. tt) df.expected) left in
         let b = changes_out w.number (adds_move_if_changes (λ q r. tt) (λ q. tt) df.stored) a.0 in
         let same : slot_in old w.number ≡ s = ap (λ z. slot_name z w.number) (sym df.slots) ∙ sym a.1 ∙ sym b.1
         ∙ ap (λ (z : VirtualRegister). slot_in new z.number) e ∙ at in
-        frees_alloc_into s slotted (after i) w ret p t u old new real plain same df none
+        frees_alloc_into s slotted (after i) w ends_block p t u old new real plain same df none
 
     processes_operand_into : (here there : List Place) (t u : InstRegs) (old new : StateValue) → length here ≡ length ops →
-        ProcessesOperand i ret ops d here there t u old new → IsWhole old → slot_in new v.number ≡ s → NoMoveTo s (moves old) →
+        ProcessesOperand i ends_block ops d here there t u old new → IsWhole old → slot_in new v.number ≡ s → NoMoveTo s (moves old) →
         (c : Cells) → after_moves (moves new) c s ≡ c (slice_index_or there d NoPlace)
     processes_operand_into here there t u old new long (a_register r silent is at eu en) h mine_new none = λ c. absurd
         (let y = orderly.allocated d within def in cc)
@@ -213,15 +213,15 @@ module _ (def_slot : DefSlot) where
 
     -- operands before it is allocated
     pub before_off : {late : Bool} {here : List Place} {t : InstRegs} {old : StateValue} {k : ℕ} {list : List Place} {u : InstRegs} {m : StateValue} →
-        ProcessesOperandsAt i ret late ops here t old k list u m → k ≤ length ops → (d < k → is_late (op_at ops d).position ≡ late → ⊥) →
-        Bare late 0 here t old → Grown AnyPlace m final → Pushes (Off s slotted) old.edits m.edits
+        ProcessesOperandsAt i ends_block late ops here t old k list u m → k ≤ length ops → (d < k → is_late (op_at ops d).position ≡ late → ⊥) →
+        Bare late 0 here t old → Grown AnyPlace m final → AppendsEdits (Off s slotted) old.edits m.edits
     before_off none_placed = λ le out L g. none_pushed
     before_off {late} {here} {t} {old} (of_other j there w y prev other) =
         λ le out L g. before_off prev (omega (arith, le)) (λ lt e. out (omega (arith, lt)) e) L g
     before_off {late} {here} {t} {old} {list} {u} {m} (one_placed j there next w y z q prev inst_regs one) = λ le out L g.
         let grows : Grown AnyPlace z final = grown_then AnyPlace z m final
         (changes_grow AnyPlace (processes_operand_changes (λ p q. tt) (free_operand _) one)) g in
-        let at : Bare late j there w z = laid_all asks_nothing late here t old j there w z prev
+        let at : Bare late j there w z = laid_all asks_nowhere late here t old j there w z prev
         (omega (arith, le)) L in
         let ne : j ≢ d = λ e. out (omega (arith, e)) (ap (λ (a : ℕ). is_late (op_at ops a).position) (sym e) ∙ inst_regs) in
         pushes_then (Off s slotted) old.edits z.edits m.edits
@@ -231,7 +231,7 @@ module _ (def_slot : DefSlot) where
     -- once it is allocated
     pub pass_into : {late : Bool} {here : List Place} {t : InstRegs} {old : StateValue} → is_late (op_at ops d).position ≡ late → NoMoveTo s (moves old) →
         Bare late 0 here t old →
-        {k : ℕ} {list : List Place} {u : InstRegs} {m : StateValue} → ProcessesOperandsAt i ret late ops here t old k list u m → k ≤ length ops → d < k →
+        {k : ℕ} {list : List Place} {u : InstRegs} {m : StateValue} → ProcessesOperandsAt i ends_block late ops here t old k list u m → k ≤ length ops → d < k →
         Grown AnyPlace m final → slot_in m v.number ≡ s → Full late k list u m
     pass_into of_pass none L none_placed = λ le lt g at. absurd (omega (arith, lt))
     pass_into {late} {here} {t} {old} of_pass none L {list} {u} {m} (of_other j there w y prev other) = λ le lt g at.
@@ -239,7 +239,7 @@ module _ (def_slot : DefSlot) where
         laid_pass asks_value late j list u m
         (pass_into of_pass none L prev (omega (arith, le)) (omega (arith, lt, ne)) g at) other
     pass_into {late} {here} {t} {old} of_pass none L {list} {u} {m} (one_placed j there next w y z q prev inst_regs one) = λ le lt g at.
-        let bare : Bare late j there w z = laid_all asks_nothing late here t old j there w z prev
+        let bare : Bare late j there w z = laid_all asks_nowhere late here t old j there w z prev
         (omega (arith, le)) L in
         let grows : Grown AnyPlace z final = grown_then AnyPlace z m final
         (changes_grow AnyPlace (processes_operand_changes (λ p q. tt) (free_operand _) one)) g in
@@ -250,7 +250,7 @@ module _ (def_slot : DefSlot) where
               let gone : bare.out v.number ≡ true = bare.ready.located.placed.outs d (bare.all d (within, inl def) (had_turn late j of_pass lj)) def in
               let absent : Absent v.number z = whole_absent v.number z bare.ready.located.whole
               (opt_none (place_in z v.number) (bare.ready.located.placed.gone v.number gone)) in
-              let stays = processes_operand_out v.number i ret ops j there list w u z m (omega (arith, le)) (other_number j ne) one absent in
+              let stays = processes_operand_out v.number i ends_block ops j there list w u z m (omega (arith, le)) (other_number j ne) one absent in
               laid_one_more asks_value late j there list w u z m (omega (arith, le)) inst_regs one
               (pass_into of_pass none L prev (omega (arith, le)) lj grows (sym stays.1 ∙ at)))
         ]
@@ -260,18 +260,18 @@ module _ (def_slot : DefSlot) where
         had_turn false a e lt = inr (refl, inr lt)
 
         at_turn : (late : Bool) (here : List Place) (t : InstRegs) (old : StateValue) → NoMoveTo s (moves old) → Bare late 0 here t old →
-            (j : ℕ) (there list : List Place) (w u : InstRegs) (z m : StateValue) → ProcessesOperandsAt i ret late ops here t old j there w z → j < length ops →
-            j ≡ d → is_late (op_at ops j).position ≡ late → Bare late j there w z → ProcessesOperand i ret ops j there list w u z m → Grown AnyPlace m final →
+            (j : ℕ) (there list : List Place) (w u : InstRegs) (z m : StateValue) → ProcessesOperandsAt i ends_block late ops here t old j there w z → j < length ops →
+            j ≡ d → is_late (op_at ops j).position ≡ late → Bare late j there w z → ProcessesOperand i ends_block ops j there list w u z m → Grown AnyPlace m final →
             slot_in m v.number ≡ s → Full late (j + 1) list u m
         at_turn late here t old none L j there list w u z m prev less e inst_regs bare one g at =
             let grows : Grown AnyPlace z final = grown_then AnyPlace z m final
             (changes_grow AnyPlace (processes_operand_changes (λ p q. tt) (free_operand _) one)) g in
             let quiet : NoMoveTo s (moves z) = off_none s slotted (after i) old.edits z.edits
             (before_off prev (omega (arith, less)) (λ lt h. absurd (omega (arith, lt, e))) L grows) none in
-            let next : Bare late (j + 1) list u m = laid_one_more asks_nothing late j there list w u z m less
+            let next : Bare late (j + 1) list u m = laid_one_more asks_nowhere late j there list w u z m less
             inst_regs one bare in
             let done : next.done d ≡ true = next.all d (within, inl def)
             (had_turn late (j + 1) (ap (λ (a : ℕ). is_late (op_at ops a).position) (sym e) ∙ inst_regs) (omega (arith, e))) in
             into late (j + 1) list u m next done
-            (λ c. processes_operand_into there list w u z m bare.long (subst (λ (a : ℕ). ProcessesOperand i ret ops a there list w u z m) e one)
+            (λ c. processes_operand_into there list w u z m bare.long (subst (λ (a : ℕ). ProcessesOperand i ends_block ops a there list w u z m) e one)
             bare.ready.located.whole at quiet c ∙ ap c (next.placed d done))

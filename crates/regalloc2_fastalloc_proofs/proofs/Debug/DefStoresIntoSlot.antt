@@ -25,7 +25,7 @@ use Rattle.regalloc2_fastalloc_proofs.specs.Safety.{IsWhole}
 use Rattle.regalloc2_fastalloc_proofs.proofs.Safety.StepsKeepState.{place_in, slot_in}
 use Rattle.regalloc2_fastalloc_proofs.proofs.Safety.BranchArgsKeepState.{changes_steady}
 use Rattle.regalloc2_fastalloc_proofs.proofs.Operands.DefRecord.{another_is}
-use Rattle.regalloc2_fastalloc_proofs.proofs.Moves.StepsAppendEdits.{Pushes, none_pushed, one_pushed, changes_push}
+use Rattle.regalloc2_fastalloc_proofs.proofs.Moves.StepsAppendEdits.{AppendsEdits, none_pushed, one_pushed, changes_push}
 use Rattle.regalloc2_fastalloc_proofs.proofs.Changes.InstChanges.{allocs_scratch_reg_changes, adds_move_if_changes, allocs_operand_changes}
 use Rattle.regalloc2_fastalloc_proofs.proofs.Changes.InstChanges.{locates_use_changes, frees_alloc_changes, evicts_fixed_changes, evicts_each_changes}
 
@@ -48,7 +48,7 @@ module _ (s : Place) (slotted : (r : Register) → s ≡ InRegister r → ⊥) w
   off_more m ms ne h = (λ e. ne (sym e), h)
 
   -- no move at a point goes to s
-  pub off_none : (q : ℕ) (a b : List (ℕ × MoveValue)) → Pushes Off a b → NoMoveTo s (at_point (listed a) q) → NoMoveTo s (at_point (listed b) q)
+  pub off_none : (q : ℕ) (a b : List (ℕ × MoveValue)) → AppendsEdits Off a b → NoMoveTo s (at_point (listed a) q) → NoMoveTo s (at_point (listed b) q)
   off_none q a b none_pushed h = h
   off_none q a b (one_pushed es e prev off) h =
       let rest : NoMoveTo s (at_point (listed es) q) = off_none q a es prev h in
@@ -63,32 +63,32 @@ module _ (s : Place) (slotted : (r : Register) → s ≡ InRegister r → ⊥) w
   module _ (point : ℕ) where
     -- allocating an operand's place adds no move to s
     pub allocs_operand_off : (o : OperandRequest) (p : Place) (t u : InstRegs) (old new : StateValue) → AllocsOperand point o p t u old new
-        → Pushes Off old.edits new.edits
+        → AppendsEdits Off old.edits new.edits
     allocs_operand_off o p t u old new g = changes_push Off (allocs_operand_changes (to_register point) tt g)
 
     -- locating a use adds no move to s
-    pub locates_use_off : (v : VirtualRegister) (p : Place) (old new : StateValue) → LocatesUse v p old new → Pushes Off old.edits new.edits
+    pub locates_use_off : (v : VirtualRegister) (p : Place) (old new : StateValue) → LocatesUse v p old new → AppendsEdits Off old.edits new.edits
     locates_use_off v p old new h = changes_push Off (locates_use_changes tt h)
 
     -- evicting the vregs of fixed registers adds no move to s
     pub evicts_fixed_off : (ops : List OperandValue) (t : InstRegs) (old : StateValue) (k : ℕ) (u : InstRegs) (m : StateValue) →
         EvictsFixed point ops t old k u m →
-        Pushes Off old.edits m.edits
+        AppendsEdits Off old.edits m.edits
     evicts_fixed_off ops t old k u m h = changes_push Off (evicts_fixed_changes (to_register point) h)
 
     -- evicting the vregs of a list of registers adds no move to s
     pub evicts_each_off : (rs : List Register) (t : InstRegs) (old : StateValue) (u : InstRegs) (new : StateValue) → EvictsEach point rs t old u new
-        → Pushes Off old.edits new.edits
+        → AppendsEdits Off old.edits new.edits
     evicts_each_off rs t old u new h = changes_push Off (evicts_each_changes (to_register point) h)
 
     adds_move_if_off : (class : RegClass) (made : Bool) (from to : Place) (t u : InstRegs) (old new : StateValue) → to ≢ s →
-        AddsMoveIf point class made from to t u old new → Pushes Off old.edits new.edits
+        AddsMoveIf point class made from to t u old new → AppendsEdits Off old.edits new.edits
     adds_move_if_off class made from to t u old new ne h = changes_push Off (adds_move_if_changes (to_register point) (λ q. ne) h)
 
     -- freeing the definition of another vreg adds no move to s
-    pub frees_alloc_off : (v : VirtualRegister) (ret : Bool) (p : Place) (t u : InstRegs) (old new : StateValue) → FreesAlloc point v ret p t u old new →
-        place_in old v.number ≢ s → slot_in old v.number ≢ s → Pushes Off old.edits new.edits
-    frees_alloc_off v ret p t u old new d awaited stored = changes_push Off (frees_alloc_changes (to_register point) (λ q. awaited) (λ q. stored) tt d)
+    pub frees_alloc_off : (v : VirtualRegister) (ends_block : Bool) (p : Place) (t u : InstRegs) (old new : StateValue) → FreesAlloc point v ends_block p t u old new →
+        place_in old v.number ≢ s → slot_in old v.number ≢ s → AppendsEdits Off old.edits new.edits
+    frees_alloc_off v ends_block p t u old new d expected stored = changes_push Off (frees_alloc_changes (to_register point) (λ q. expected) (λ q. stored) tt d)
 
     -- the moves at the point
     abbrev pub moves_of : StateValue → List MoveValue
@@ -126,31 +126,31 @@ module _ (s : Place) (slotted : (r : Register) → s ≡ InRegister r → ⊥) w
     adds_move_if_into class made p t u old new real yes_made (sent is crosses) = adds_move_into class p t u old new real crosses
     adds_move_if_into class made p t u old new real yes_made (unsent is eu en) = absurd (let y : true ≡ false = sym yes_made ∙ is in cc)
 
-    is_sent : (ret : Bool) (q p : Place) → ret ≡ false → q ≢ NoPlace → q ≢ p → (not ret && is_another q p) ≡ true
-    is_sent ret q p plain real other = rw (plain, is_place-other q NoPlace real, is_place-other q p other) refl
+    is_sent : (ends_block : Bool) (q p : Place) → ends_block ≡ false → q ≢ NoPlace → q ≢ p → (not ends_block && is_another q p) ≡ true
+    is_sent ends_block q p plain real other = rw (plain, is_place-other q NoPlace real, is_place-other q p other) refl
 
     -- the definition of the slot's own vreg: its moves copy its place to the slot
-    pub frees_alloc_into : (v : VirtualRegister) (ret : Bool) (p : Place) (t u : InstRegs) (old new : StateValue) → s ≢ NoPlace → ret ≡ false →
-        slot_in old v.number ≡ s → FreesAlloc point v ret p t u old new → NoMoveTo s (moves_of old) →
+    pub frees_alloc_into : (v : VirtualRegister) (ends_block : Bool) (p : Place) (t u : InstRegs) (old new : StateValue) → s ≢ NoPlace → ends_block ≡ false →
+        slot_in old v.number ≡ s → FreesAlloc point v ends_block p t u old new → NoMoveTo s (moves_of old) →
         (c : Cells) → after_moves (moves_of new) c s ≡ c p
-    frees_alloc_into v ret p t u old new real plain mine d none =
+    frees_alloc_into v ends_block p t u old new real plain mine d none =
         let left_none : NoMoveTo s (moves_of d.left) = subst (λ l. NoMoveTo s (at_point (listed l) point)) (sym d.edits) none in
         let stored_at : AddsMoveIf point v.class
-        (not ret && (is_another s p && not (is_place s (alloc_of old.places v.number)))) p s d.inst_regs u d.middle new =
-        subst (λ z. AddsMoveIf point v.class (not ret && (is_another z p && not (is_place z (alloc_of old.places v.number)))) p z d.inst_regs u d.middle new)
+        (not ends_block && (is_another s p && not (is_place s (alloc_of old.places v.number)))) p s d.inst_regs u d.middle new =
+        subst (λ z. AddsMoveIf point v.class (not ends_block && (is_another z p && not (is_place z (alloc_of old.places v.number)))) p z d.inst_regs u d.middle new)
         mine d.stored in
-        let awaited_off : alloc_of old.places v.number ≢ s → NoMoveTo s (moves_of d.middle) =
-        λ ne. off_none point d.left.edits d.middle.edits (adds_move_if_off v.class _ p _ t d.inst_regs d.left d.middle ne d.awaited) left_none in
+        let expected_off : alloc_of old.places v.number ≢ s → NoMoveTo s (moves_of d.middle) =
+        λ ne. off_none point d.left.edits d.middle.edits (adds_move_if_off v.class _ p _ t d.inst_regs d.left d.middle ne d.expected) left_none in
         elim (cases_place s p) [
           | inl own_place ↦ (
-              let unmoved : NoMoveTo s (moves_of new) = never_stored own_place stored_at (never_awaited own_place d.awaited left_none) in
+              let unmoved : NoMoveTo s (moves_of new) = never_stored own_place stored_at (never_expected own_place d.expected left_none) in
               λ c. moves_kept s (moves_of new) c unmoved ∙ ap c own_place)
           | inr elsewhere ↦ elim (cases_place s (alloc_of old.places v.number)) [
-            | inl there ↦ (λ c. by_awaited elsewhere there (subst (λ z. AddsMoveIf point v.class (not ret && is_another z p) p z t d.inst_regs d.left d.middle)
-                (sym there) d.awaited) left_none stored_at c)
+            | inl there ↦ (λ c. by_expected elsewhere there (subst (λ z. AddsMoveIf point v.class (not ends_block && is_another z p) p z t d.inst_regs d.left d.middle)
+                (sym there) d.expected) left_none stored_at c)
             | inr ne ↦ adds_move_if_into v.class _ p d.inst_regs u d.middle new real
                 (rw (plain, is_place-other s NoPlace real, is_place-other s p elsewhere, is_place-other s (alloc_of old.places v.number) ne) refl) stored_at
-                (awaited_off (λ e. ne (sym e)))
+                (expected_off (λ e. ne (sym e)))
           ]
         ]
       where
@@ -158,32 +158,32 @@ module _ (s : Place) (slotted : (r : Register) → s ≡ InRegister r → ⊥) w
         c₀ = alloc_of old.places v.number
 
         -- the place is the slot itself
-        never_awaited : s ≡ p → AddsMoveIf point v.class (not ret && is_another c₀ p) p c₀ t d.inst_regs d.left d.middle → NoMoveTo s (moves_of d.left) →
+        never_expected : s ≡ p → AddsMoveIf point v.class (not ends_block && is_another c₀ p) p c₀ t d.inst_regs d.left d.middle → NoMoveTo s (moves_of d.left) →
             NoMoveTo s (moves_of d.middle)
-        never_awaited e (unsent is eu en) h = subst (λ (y : StateValue). NoMoveTo s (moves_of y)) (sym en) h
-        never_awaited e (sent is crosses) h =
+        never_expected e (unsent is eu en) h = subst (λ (y : StateValue). NoMoveTo s (moves_of y)) (sym en) h
+        never_expected e (sent is crosses) h =
             let made : is_another c₀ p ≡ true = sym (ap (λ b. not b && is_another c₀ p) plain) ∙ is in
             let ne : c₀ ≢ s = λ z. (another_is c₀ p made).1 (z ∙ e) in
             off_none point d.left.edits d.middle.edits (adds_move_if_off v.class _ p c₀ t d.inst_regs d.left d.middle ne (sent is crosses)) h
 
-        never_stored : s ≡ p → AddsMoveIf point v.class (not ret && (is_another s p && not (is_place s c₀))) p s d.inst_regs u d.middle new →
+        never_stored : s ≡ p → AddsMoveIf point v.class (not ends_block && (is_another s p && not (is_place s c₀))) p s d.inst_regs u d.middle new →
             NoMoveTo s (moves_of d.middle) → NoMoveTo s (moves_of new)
         never_stored e (unsent is eu en) h = subst (λ (y : StateValue). NoMoveTo s (moves_of y)) (sym en) h
         never_stored e (sent is crosses) h =
             let same : is_place s p ≡ true = ap (is_place s) (sym e) ∙ is_place-same s in
-            let no_move : (not ret && (is_another s p && not (is_place s c₀))) ≡ false = rw (plain, same)
+            let no_move : (not ends_block && (is_another s p && not (is_place s c₀))) ≡ false = rw (plain, same)
             (and_left (not (is_place s NoPlace) && false) (not (is_place s c₀)) (and_right (not (is_place s NoPlace)) false refl)) in
             absurd (let y : true ≡ false = sym is ∙ no_move in cc)
 
         -- the vreg was expected in its slot
-        by_awaited : s ≢ p → s ≡ c₀ → AddsMoveIf point v.class (not ret && is_another s p) p s t d.inst_regs d.left d.middle → NoMoveTo s (moves_of d.left) →
-            AddsMoveIf point v.class (not ret && (is_another s p && not (is_place s c₀))) p s d.inst_regs u d.middle new → (c : Cells) →
+        by_expected : s ≢ p → s ≡ c₀ → AddsMoveIf point v.class (not ends_block && is_another s p) p s t d.inst_regs d.left d.middle → NoMoveTo s (moves_of d.left) →
+            AddsMoveIf point v.class (not ends_block && (is_another s p && not (is_place s c₀))) p s d.inst_regs u d.middle new → (c : Cells) →
             after_moves (moves_of new) c s ≡ c p
-        by_awaited ne there sends h (unsent is eu en) c =
+        by_expected ne there sends h (unsent is eu en) c =
             ap (λ (y : StateValue). after_moves (moves_of y) c s) en ∙ adds_move_if_into v.class _ p t d.inst_regs d.left d.middle real
-            (is_sent ret s p plain real ne)
+            (is_sent ends_block s p plain real ne)
             sends h c
-        by_awaited ne there sends h (sent is crosses) c =
+        by_expected ne there sends h (sent is crosses) c =
             let same : is_place s c₀ ≡ true = ap (is_place s) (sym there) ∙ is_place-same s in
-            let no_move : (not ret && (is_another s p && not (is_place s c₀))) ≡ false = rw (plain, same) (and_right (is_another s p) false refl) in
+            let no_move : (not ends_block && (is_another s p && not (is_place s c₀))) ≡ false = rw (plain, same) (and_right (is_another s p) false refl) in
             absurd (let y : true ≡ false = sym is ∙ no_move in cc)

@@ -21,20 +21,20 @@ use Rattle.regalloc2_fastalloc_proofs.specs.InstSteps.{StateValue, AllocsInst, e
 use Rattle.regalloc2_fastalloc_proofs.proofs.Safety.StepsKeepState.{place_in, slot_in}
 use Rattle.regalloc2_fastalloc_proofs.proofs.Operands.RecordOverState.{stands_at, slots_at, opt_none}
 use Rattle.regalloc2_fastalloc_proofs.proofs.Inst.AcrossInst.{lives_in}
-use Rattle.regalloc2_fastalloc_proofs.proofs.Inst.BoundaryToFirstOperand.{CarriedBut, opened}
-use Rattle.regalloc2_fastalloc_proofs.proofs.Inst.LastOperandToBoundary.{closed}
+use Rattle.regalloc2_fastalloc_proofs.proofs.Inst.BoundaryToFirstOperand.{CarriedBut, ready_for_operands}
+use Rattle.regalloc2_fastalloc_proofs.proofs.Inst.LastOperandToBoundary.{listing_carries}
 use Rattle.regalloc2_fastalloc_proofs.proofs.Operands.DefinedNumbers.{defined_by, defined_by-at}
 use Rattle.regalloc2_fastalloc_proofs.proofs.Operands.AllOperands.{laid_all, laid_over}
 use Rattle.regalloc2_fastalloc_proofs.proofs.Moves.StepsAppendEdits.{pushes_then}
 use Rattle.regalloc2_fastalloc_proofs.proofs.Slots.StepsKeepSlots.{Grown, grown_then, changes_grow, AnyPlace}
 use Rattle.regalloc2_fastalloc_proofs.proofs.Changes.InstChanges.{free_operand, processes_operands_at_changes, moves_uses_changes}
-use Rattle.regalloc2_fastalloc_proofs.proofs.Inst.OneInstCarries.{Between, Alone, alone, carried_nil, Needed}
+use Rattle.regalloc2_fastalloc_proofs.proofs.Inst.OneInstCarries.{IsBetweenInsts, CarriesByItself, carries_by_itself, carried_nil, Needed}
 use Rattle.regalloc2_fastalloc_proofs.specs.Located.{Absent}
 use Rattle.regalloc2_fastalloc_proofs.proofs.Debug.UnnamedStaysUnlocated.{out_then, processes_operands_at_out, changes_out, whole_absent}
 use Rattle.regalloc2_fastalloc_proofs.proofs.Debug.DefStoresIntoSlot.{Off, evicts_fixed_off, evicts_each_off, off_none}
 use Rattle.regalloc2_fastalloc_proofs.proofs.Debug.DefLeavesValueInSlot.{Into, Bare, Full, before_off, pass_into, other_number, slotted}
 use Rattle.regalloc2_fastalloc_proofs.proofs.Operands.BlockTail.{tail_of}
-use Rattle.regalloc2_fastalloc_proofs.proofs.Debug.DefLeavesValueInSlot.{DefSlot, asks_nothing, asks_value}
+use Rattle.regalloc2_fastalloc_proofs.proofs.Debug.DefLeavesValueInSlot.{DefSlot, asks_nowhere, asks_value}
 use Rattle.regalloc2_fastalloc_proofs.proofs.Inst.ProperInsts.{ProperCode}
 
 module _ (code : ProperCode) where
@@ -43,7 +43,7 @@ module _ (code : ProperCode) where
 
   module _ (i : ℕ) (blank here : List Place) (old new : StateValue) (lt : i < length f.insts)
       (at : (k : ℕ) → k < length (inst_at f i).operands → place_at (placesf i) k ≡ slice_index_or here k NoPlace)
-      (b : Between (i + 1) old) (a : AllocsInst i (inst_at f i) blank here old new) (plain : ends_block (inst_at f i) ≡ false)
+      (b : IsBetweenInsts (i + 1) old) (a : AllocsInst i (inst_at f i) blank here old new) (plain : ends_block (inst_at f i) ≡ false)
       (d : ℕ) (within : d < length (inst_at f i).operands) (def : is_def (op_at (inst_at f i).operands d).kind ≡ true) (n : ℕ)
       (mine : slot_in new (op_at (inst_at f i).operands d).vreg.number ≡ InSlot n) where
     abbrev ops : List OperandValue
@@ -65,7 +65,7 @@ module _ (code : ProperCode) where
       ops = ops;
       lived = lives_in old;
       clob = clob;
-      ret = ends_block (inst_at f i);
+      ends_block = ends_block (inst_at f i);
       orderly = orderly i lt;
       plain = plain;
       d = d;
@@ -80,11 +80,11 @@ module _ (code : ProperCode) where
     abbrev FullAt : Bool → ℕ → List Place → InstRegs → StateValue → Type 0
     FullAt = Full def_slot
 
-    by_itself : Alone code i old new
-    by_itself = alone code i blank here old new lt at b a
+    by_itself : CarriesByItself code i old new
+    by_itself = carries_by_itself code i blank here old new lt at b a
 
     begun : BareAt true 0 blank a.quiet a.after_clobbers
-    begun = opened (tail_of Known (inst_at f) placesf i 0 (λ w p. ⊥)) (inst_at f i) blank here old new (orderly i lt) (avoids i lt)
+    begun = ready_for_operands (tail_of Known (inst_at f) placesf i 0 (λ w p. ⊥)) (inst_at f i) blank here old new (orderly i lt) (avoids i lt)
         (λ e. absurd (let y : true ≡ false = sym e ∙ plain in cc))
         (record {
           whole = b.whole;
@@ -124,15 +124,15 @@ module _ (code : ProperCode) where
         (changes_grow AnyPlace (processes_operands_at_changes (λ p q. tt) (λ j lt at. free_operand _) a.earlies)) grown_moved
 
     late_done : BareAt true (length ops) a.half a.late a.after_late
-    late_done = laid_all (asks_nothing def_slot) true blank a.quiet
+    late_done = laid_all (asks_nowhere def_slot) true blank a.quiet
         a.after_clobbers (length ops) a.half a.late a.after_late a.lates (omega arith) begun
 
     early_begun : BareAt false 0 a.half a.late a.after_late
-    early_begun = laid_over (asks_nothing def_slot) a.half a.late a.after_late
+    early_begun = laid_over (asks_nowhere def_slot) a.half a.late a.after_late
         late_done
 
     early_done : BareAt false (length ops) here a.early a.after_early
-    early_done = laid_all (asks_nothing def_slot) false a.half a.late a.after_late
+    early_done = laid_all (asks_nowhere def_slot) false a.half a.late a.after_late
         (length ops) here a.early a.after_early a.earlies (omega arith) early_begun
 
     -- if the definition is late
@@ -178,7 +178,7 @@ module _ (code : ProperCode) where
         let is : defined_by ops v.number ≡ true = defined_by-at ops d within def in
         let nowhere : stands_at new v.number ≡ None = by_itself.ends.gone v.number is in
         let c : CarriedBut Known (inst_at f) placesf E (defined_by ops) i 1 new =
-        closed (tail_of Known (inst_at f) placesf i 0 E) (lives_in old) (ends_block (inst_at f i)) here a.early a.ended a.after_early new (orderly i lt)
+        listing_carries (tail_of Known (inst_at f) placesf i 0 E) (lives_in old) (ends_block (inst_at f i)) here a.early a.ended a.after_early new (orderly i lt)
         (knows i lt) at all_placed a.moves in
         carries_weaken v (walked (inst_at f) (at_point (listed new.edits)) placesf i 1)
         (Need (lives_in new) (defined_by ops) (λ p x. false) (stands_at new) (slots_at new) v.number) (λ p. ⊥) (E v) (λ p. p ≡ InSlot n)

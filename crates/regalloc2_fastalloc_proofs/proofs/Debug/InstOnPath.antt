@@ -32,7 +32,7 @@ module _ (f : FunctionValue) (out : OutputValue) (rising : Rising out.edits) whe
   abbrev pub behind : List Way → Cells
   behind ws = after_moves (moves_on (after (end_of f ws).inst)) (cells_before f out (Onward ∷ ws))
 
-  -- if a path went on within its block: the cells before its instruction follow from those after the previous one
+  -- if a path went on within its block: the cells before its instruction follow from the cells after the previous one
   pub onward_front : (ws : List Way) → (block_at f (end_of f ws).block).range.first ≤ (end_of f ws).inst → Fronts (Onward ∷ ws) (behind ws)
   onward_front ws le = front (
       ap (λ ms. after_moves ms (cells_before f out (Onward ∷ ws))) (moves_before-later out (block_at f (end_of f ws).block).range.first (end_of f ws).inst le

@@ -16,12 +16,12 @@ use Rattle.regalloc2_fastalloc_proofs.specs.BlockSteps.{AllocsInstInBlock, Alloc
 use Rattle.regalloc2_fastalloc_proofs.proofs.Walk.InstsCarry.{AreListed}
 use Rattle.regalloc2_fastalloc_proofs.proofs.Slots.StepsKeepSlots.{Grown, grown_none, grown_then, changes_grow}
 use Rattle.regalloc2_fastalloc_proofs.proofs.Safety.StateKept.{ends_in_branch}
-use Rattle.regalloc2_fastalloc_proofs.proofs.Inst.OneInstCarries.{Between}
+use Rattle.regalloc2_fastalloc_proofs.proofs.Inst.OneInstCarries.{IsBetweenInsts}
 use Rattle.regalloc2_fastalloc_proofs.proofs.Walk.InstBoundaries.{IsEdge, IsWithin, grown_weaken, walk_between, walk_grown, edge_next, allocs_blocks_between}
 use Rattle.regalloc2_fastalloc_proofs.proofs.Walk.LastInstAndRest.{listed_behind, walk_listed}
 use Rattle.regalloc2_fastalloc_proofs.proofs.Debug.UnnamedStaysUnlocated.{StaysOut, IsUnpassed, IsUnstored, out_then, allocs_inst_in_block_out, begins_block_out}
 use Rattle.regalloc2_fastalloc_proofs.proofs.Walk.FunctionLaws.{PlacedCode}
-use Rattle.regalloc2_fastalloc_proofs.proofs.Walk.InstBoundaries.{kept_of}
+use Rattle.regalloc2_fastalloc_proofs.proofs.Walk.InstBoundaries.{kept_code_of}
 use Rattle.regalloc2_fastalloc_proofs.proofs.Changes.WalkChanges.{allocs_inst_in_block_changes, any_inst, begins_block_changes, any_begin}
 
 -- a block begins at the instruction
@@ -29,8 +29,8 @@ abbrev pub IsStart : FunctionValue → ℕ → Type 0
 IsStart f i = (b : ℕ) × (b < length f.blocks) × ((block_at f b).range.first ≡ i)
 
 -- points before an instruction; if a block begins there, the point in front of it too
-abbrev pub IsBefore : FunctionValue → ℕ → ℕ → Type 0
-IsBefore f i p = (p < before i) ⊎ ((p ≡ before i) × IsStart f i)
+abbrev pub IsBeforeInst : FunctionValue → ℕ → ℕ → Type 0
+IsBeforeInst f i p = (p < before i) ⊎ ((p ≡ before i) × IsStart f i)
 
 -- nothing before the instruction i names the number
 pub record IsUnnamedBefore (f : FunctionValue) (x i : ℕ) : Type 0 where
@@ -56,14 +56,14 @@ pub record Met (f : FunctionValue) (placesf : ℕ → List Place) (start : List 
   pub blocks : AllocsBlocks f start begin (block + 1) end_places end_tables
   pub inside : AllocsBlockInsts f block end_places end_tables (i + 1) blank old
   pub listed : AreListed f placesf (i + 1) blank
-  pub behind : Between (i + 1) old
-  pub rest : Grown (IsBefore f i) new final
+  pub behind : IsBetweenInsts (i + 1) old
+  pub rest : Grown (IsBeforeInst f i) new final
   pub out : (x : ℕ) → IsUnnamedBefore f x i → StaysOut x new final
 
 module _ (code : PlacedCode) (start : List Place) (begin : StateValue) (i : ℕ) where
   open code use {Known, f, proper, kept, follow, ends, placesf}
 
-  extend : (t u : StateValue) → Grown (IsBefore f i) t u → ((x : ℕ) → IsUnnamedBefore f x i → StaysOut x t u) → Met f placesf start begin i t →
+  extend : (t u : StateValue) → Grown (IsBeforeInst f i) t u → ((x : ℕ) → IsUnnamedBefore f x i → StaysOut x t u) → Met f placesf start begin i t →
       Met f placesf start begin i u
   extend t u g o m = record {
     block = m.block;
@@ -82,11 +82,11 @@ module _ (code : PlacedCode) (start : List Place) (begin : StateValue) (i : ℕ)
     inside = m.inside;
     listed = m.listed;
     behind = m.behind;
-    rest = grown_then (IsBefore f i) m.new t u m.rest g;
+    rest = grown_then (IsBeforeInst f i) m.new t u m.rest g;
     out = λ x n. out_then x m.new t u (m.out x n) (o x n);
   }
 
-  module _ (b : ℕ) (lb : b < length f.blocks) (blank : List Place) (old : StateValue) (h : Between (block_at f b).range.end old)
+  module _ (b : ℕ) (lb : b < length f.blocks) (blank : List Place) (old : StateValue) (h : IsBetweenInsts (block_at f b).range.end old)
       (prev_blocks : AllocsBlocks f start begin (b + 1) blank old) where
     within : (j : ℕ) → j < (block_at f b).range.end → j < length f.insts
     within j less = (let e = ends_within f follow b lb in omega (arith, less, e))
@@ -112,8 +112,8 @@ module _ (code : PlacedCode) (start : List Place) (begin : StateValue) (i : ℕ)
       | inr ne ↦ (
           let sooner : k < i = omega (arith, le, ne) in
           extend s u
-          (changes_grow (IsBefore f i)
-          (allocs_inst_in_block_changes (any_inst (λ e. IsBefore f i e.0) f b k (λ n r. inl (omega (arith, sooner))) (λ n r. inl (omega (arith, sooner)))) a))
+          (changes_grow (IsBeforeInst f i)
+          (allocs_inst_in_block_changes (any_inst (λ e. IsBeforeInst f i e.0) f b k (λ n r. inl (omega (arith, sooner))) (λ n r. inl (omega (arith, sooner)))) a))
           (one_out_of k p q s u ge less sooner a)
           (meet_in lt (k + 1) p s prev (listed_behind code s b k p q s u (within k less) a are)
           (omega (arith, sooner))))
@@ -137,33 +137,33 @@ module _ (code : PlacedCode) (start : List Place) (begin : StateValue) (i : ℕ)
           blocks = prev_blocks;
           inside = prev;
           listed = listed_behind code s b k p q s u (within k less) a are;
-          behind = walk_between (kept_of Known f proper kept) follow b lb blank old h (k + 1) p s prev;
-          rest = grown_none (IsBefore f k) u u refl;
+          behind = walk_between (kept_code_of Known f proper kept) follow b lb blank old h (k + 1) p s prev;
+          rest = grown_none (IsBeforeInst f k) u u refl;
           out = λ x n. (λ a. (a, refl));
         }
 
   -- the walk reaches each instruction
-  pub meet : Between (length f.insts) begin → i < length f.insts → {b : ℕ} {places : List Place} {t : StateValue} → AllocsBlocks f start begin b places t →
+  pub walk_reaches : IsBetweenInsts (length f.insts) begin → i < length f.insts → {b : ℕ} {places : List Place} {t : StateValue} → AllocsBlocks f start begin b places t →
       (e : ℕ) → IsEdge f b e → AreListed f placesf e places → e ≤ i → Met f placesf start begin i t
-  meet fresh lt all_left = λ e edge are le. (let same : e ≡ length f.insts = edge.1 refl in absurd (omega (arith, same, le, lt)))
-  meet fresh lt (one_block c p q s u w lc prev walk begins) = λ e edge are le.
+  walk_reaches fresh lt all_left = λ e edge are le. (let same : e ≡ length f.insts = edge.1 refl in absurd (omega (arith, same, le, lt)))
+  walk_reaches fresh lt (one_block c p q s u w lc prev walk begins) = λ e edge are le.
       let first : ℕ = (block_at f c).range.first in
       let end : ℕ = (block_at f c).range.end in
       let at_first : e ≡ first = edge.0 lc in
       let from : first ≤ i = omega (arith, at_first, le) in
       let some : first < end = (follow c lc).0 in
-      let behind : Between end s = allocs_blocks_between (kept_of Known f proper kept) follow start begin fresh (c + 1) p s prev end
+      let behind : IsBetweenInsts end s = allocs_blocks_between (kept_code_of Known f proper kept) follow start begin fresh (c + 1) p s prev end
       (edge_next f follow c lc) in
       let here_listed : AreListed f placesf first q = subst (λ (m : ℕ). AreListed f placesf m q) at_first are in
-      let beginning : Grown (IsBefore f i) u w = changes_grow (IsBefore f i) (begins_block_changes (any_begin (λ e. IsBefore f i e.0) f c
+      let beginning : Grown (IsBeforeInst f i) u w = changes_grow (IsBeforeInst f i) (begins_block_changes (any_begin (λ e. IsBeforeInst f i e.0) f c
       (λ n r. elim (cases_eq first i) [ inl same ↦ inr (ap before same, (c, lc, same)) | inr ne ↦ inl (omega (arith, from, ne)) ])) begins) in
       let aside : (x : ℕ) → IsUnnamedBefore f x i → StaysOut x u w = λ x n. begins_block_out x f c u w (n.params c lc) (n.stores c lc) begins in
       elim (cases_lt i end) [
         | inl inside ↦ extend u w beginning aside (meet_in c lc p s behind prev inside first q u walk here_listed from)
         | inr past ↦ extend u w beginning aside
-            (extend s u (grown_weaken (IsWithin first end) (IsBefore f i) s u (λ z y. inl (omega (arith, y.1, past)))
-            (walk_grown (kept_of Known f proper kept) follow c lc p s first q u walk))
+            (extend s u (grown_weaken (IsWithin first end) (IsBeforeInst f i) s u (λ z y. inl (omega (arith, y.1, past)))
+            (walk_grown (kept_code_of Known f proper kept) follow c lc p s first q u walk))
             (walk_out c lc p s behind prev first q u walk past)
-            (meet fresh lt prev end (edge_next f follow c lc)
+            (walk_reaches fresh lt prev end (edge_next f follow c lc)
             (walk_listed code s c lc p s first q u walk here_listed) past))
       ]

@@ -58,7 +58,7 @@ module _ (x : ℕ) where
   one_stays old new (temps_added inst_regs class given made o) a = changes_absent x (changed (temps_added inst_regs class given made o)) a
   one_stays old new (registers_used e) a = changes_absent x (changed (registers_used e)) a
 
-  -- such changes leave it absent
+  -- changes that name other vregs alone leave x absent
   pub stays_absent : {old new : StateValue} → Changes Elsewhere old new → Absent x old → Absent x new
   stays_absent = changes_keep (record { same = λ t a. a; over = λ a b c f g h. g (f h); each = one_stays })
 
@@ -92,7 +92,7 @@ module _ (f : FunctionValue) (follow : BlocksFollow f) (ends : BlocksEnd f) (cou
     };
   }) a) (h x (λ j le u. unused j (omega (arith, le)) u))
 
-  -- its last instructions
+  -- located vregs are used, before each of the block's last instructions
   pub insts_located : {blank : List Place} {old : StateValue} {i : ℕ} {places : List Place} {new : StateValue} → (block_at f b).range.end ≤ length f.insts →
       AllocsBlockInsts f b blank old i places new → LocatedAreUsed f (block_at f b).range.end old → LocatedAreUsed f i new
   insts_located few at_end h = h

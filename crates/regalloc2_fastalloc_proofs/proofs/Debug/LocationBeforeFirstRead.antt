@@ -20,7 +20,7 @@ use Rattle.regalloc2_fastalloc_proofs.proofs.Operands.RecordOfInst.{Orderly}
 use Rattle.regalloc2_fastalloc_proofs.proofs.Operands.UsesAndPlainDefs.{reads_no_fixed, use_number}
 use Rattle.regalloc2_fastalloc_proofs.specs.Located.{Absent}
 use Rattle.regalloc2_fastalloc_proofs.proofs.Debug.UnnamedStaysUnlocated.{out_then, changes_absent, changes_out, processes_operands_at_out}
-use Rattle.regalloc2_fastalloc_proofs.proofs.Debug.LocatedStaysOrHasSlot.{Holds, changes_hold, processes_operand_hold}
+use Rattle.regalloc2_fastalloc_proofs.proofs.Debug.LocatedStaysOrHasSlot.{StaysOrHasSlot, changes_hold, processes_operand_hold}
 use Rattle.regalloc2_fastalloc_proofs.proofs.Changes.InstChanges.{allocs_operand_changes, moves_uses_changes, evicts_fixed_changes, evicts_each_changes}
 
 -- the operand that is allocated first of those that name a number: a late one before an early one, and by their order
@@ -32,28 +32,28 @@ pub data ComesFirst (ops : List OperandValue) (x k : ℕ) : Type 0 where
       → ((j : ℕ) → j < k → Counts ops j → is_late (op_at ops j).position ≡ false → (op_at ops j).vreg.number ≢ x) → ComesFirst ops x k
 
 -- the list of places keeps its length
-processes_operands_at_long : (i : ℕ) (ret late : Bool) (ops : List OperandValue) (here : List Place) (t : InstRegs) (old : StateValue) (k : ℕ)
+processes_operands_at_long : (i : ℕ) (ends_block late : Bool) (ops : List OperandValue) (here : List Place) (t : InstRegs) (old : StateValue) (k : ℕ)
     (list : List Place)
-    (u : InstRegs) (m : StateValue) → ProcessesOperandsAt i ret late ops here t old k list u m → length list ≡ length here
-processes_operands_at_long i ret late ops here t old k list u m none_placed = refl
-processes_operands_at_long i ret late ops here t old k list u m (of_other j l w s prev other) = processes_operands_at_long i ret late ops here t old j list u
+    (u : InstRegs) (m : StateValue) → ProcessesOperandsAt i ends_block late ops here t old k list u m → length list ≡ length here
+processes_operands_at_long i ends_block late ops here t old k list u m none_placed = refl
+processes_operands_at_long i ends_block late ops here t old k list u m (of_other j l w s prev other) = processes_operands_at_long i ends_block late ops here t old j list u
     m prev
-processes_operands_at_long i ret late ops here t old k list u m (one_placed j l next w y s z prev inst_regs one) = by_one one
-    ∙ processes_operands_at_long i ret late ops here t old j l w s prev
+processes_operands_at_long i ends_block late ops here t old k list u m (one_placed j l next w y s z prev inst_regs one) = by_one one
+    ∙ processes_operands_at_long i ends_block late ops here t old j l w s prev
   where
-    by_one : ProcessesOperand i ret ops j l list w u s m → length list ≡ length l
+    by_one : ProcessesOperand i ends_block ops j l list w u s m → length list ≡ length l
     by_one (a_register r f c e eu en) = ap (λ (q : List Place). length q) e ∙ length-set l j (InRegister r)
     by_one (a_use p reads d e) = ap (λ (q : List Place). length q) e ∙ length-set l j p
     by_one (a_def p def plain d e) = ap (λ (q : List Place). length q) e ∙ length-set l j p
     by_one (a_reuse n p def reuses d e) = ap (λ (q : List Place). length q) e ∙ length-set (slice_set l j p) n p ∙ length-set l j p
 
-module _ (i : ℕ) (ret : Bool) (ops : List OperandValue) (orderly : Orderly ops) (x k : ℕ) (within : k < length ops) (reads : is_reading (op_at ops k) ≡ true)
+module _ (i : ℕ) (ends_block : Bool) (ops : List OperandValue) (orderly : Orderly ops) (x k : ℕ) (within : k < length ops) (reads : is_reading (op_at ops k) ≡ true)
     (is : (op_at ops k).vreg.number ≡ x) where
   undefined : (j : ℕ) → j < length ops → is_def (op_at ops j).kind ≡ true → x ≢ (op_at ops j).vreg.number
   undefined j less def e = orderly.once.unread j k (less, inl def) (within, inr reads) def (reads_use (op_at ops k) reads) (sym e ∙ sym is)
 
   -- another operand leaves its place
-  list_same : (j : ℕ) (here there : List Place) (t u : InstRegs) (old new : StateValue) → ProcessesOperand i ret ops j here there t u old new → j ≢ k →
+  list_same : (j : ℕ) (here there : List Place) (t u : InstRegs) (old new : StateValue) → ProcessesOperand i ends_block ops j here there t u old new → j ≢ k →
       ((m : ℕ) → (op_at ops j).constraint ≡ Reuse m → m ≢ k) →
       slice_index_or there k NoPlace ≡ slice_index_or here k NoPlace
   list_same j here there t u old new (a_register r f c e eu en) ne named = ap (λ (q : List Place). slice_index_or q k NoPlace) e
@@ -73,13 +73,13 @@ module _ (i : ℕ) (ret : Bool) (ops : List OperandValue) (orderly : Orderly ops
       let b : is_late (op_at ops m).position ≡ true = ap (λ (z : ℕ). is_late (op_at ops z).position) e ∙ of_late refl in cc)
   not_named false j less inst_regs of_late m reuse e = (let a = (orderly.late_reuse j m less reuse).1 in cc)
 
-  -- its location
+  -- the location of x is its operand's place, or x has a slot
   abbrev At : StateValue → List Place → Type 0
   At m list = (place_in m x ≡ slice_index_or list k NoPlace) ⊎ (slot_in m x ≢ NoPlace)
 
   -- the operand's turn
   turn_at : (here there : List Place) (t u : InstRegs) (old new : StateValue) → k < length here → Absent x old →
-      ProcessesOperand i ret ops k here there t u old new → place_in new x ≡ slice_index_or there k NoPlace
+      ProcessesOperand i ends_block ops k here there t u old new → place_in new x ≡ slice_index_or there k NoPlace
   turn_at here there t u old new less absent (a_register r f c e eu en) = absurd (reads_no_fixed (op_at ops k) reads f)
   turn_at here there t u old new less absent (a_def p def plain d e) = absurd (let z = reads_use (op_at ops k) reads in cc)
   turn_at here there t u old new less absent (a_reuse n p def reuses d e) = absurd (let z = reads_use (op_at ops k) reads in cc)
@@ -94,22 +94,22 @@ module _ (i : ℕ) (ret : Bool) (ops : List OperandValue) (orderly : Orderly ops
           ∙ (changes_absent x (allocs_operand_changes (λ q r. tt) tt d.gets) absent).nowhere))
       used (located none settles slots edits machine order) = ap (alloc_of new.places) (sym number) ∙ settles.here
 
-  -- one more operand
-  hold_one : (j : ℕ) (here there : List Place) (t u : InstRegs) (old new : StateValue) → j < length ops → ProcessesOperand i ret ops j here there t u old new →
+  -- one operand more keeps the location
+  hold_one : (j : ℕ) (here there : List Place) (t u : InstRegs) (old new : StateValue) → j < length ops → ProcessesOperand i ends_block ops j here there t u old new →
       slice_index_or there k NoPlace ≡ slice_index_or here k NoPlace → slice_index_or there k NoPlace ≢ NoPlace → At old here → At new there
   hold_one j here there t u old new less one same real at = elim at [
     | inl e ↦ elim (h.same (λ z. real (same ∙ sym e ∙ z))) [ inl d ↦ inl (d ∙ e ∙ sym same) | inr s ↦ inr s ]
     | inr s ↦ inr (h.slots s)
   ]
     where
-      h : Holds x old new
-      h = processes_operand_hold x i ret ops j here there t u old new (undefined j less) one
+      h : StaysOrHasSlot x old new
+      h = processes_operand_hold x i ends_block ops j here there t u old new (undefined j less) one
 
   -- once it is allocated
   pass_at : (late : Bool) (here : List Place) (t : InstRegs) (old : StateValue) → is_late (op_at ops k).position ≡ late → length here ≡ length ops
       → Absent x old
       → ((j : ℕ) → j < k → Counts ops j → is_late (op_at ops j).position ≡ late → (op_at ops j).vreg.number ≢ x)
-      → (n : ℕ) (list : List Place) (u : InstRegs) (m : StateValue) → ProcessesOperandsAt i ret late ops here t old n list u m → n ≤ length ops → k < n →
+      → (n : ℕ) (list : List Place) (u : InstRegs) (m : StateValue) → ProcessesOperandsAt i ends_block late ops here t old n list u m → n ≤ length ops → k < n →
       slice_index_or list k NoPlace ≢ NoPlace → At m list
   pass_at late here t old of_pass long absent first n list u m none_placed = λ le lt real. absurd (omega (arith, lt))
   pass_at late here t old of_pass long absent first n list u m (of_other j l w s prev other) = λ le lt real.
@@ -118,8 +118,8 @@ module _ (i : ℕ) (ret : Bool) (ops : List OperandValue) (orderly : Orderly ops
   pass_at late here t old of_pass long absent first n list u m (one_placed j l next w y s z prev inst_regs one) = λ le lt real. elim (cases_eq j k) [
     | inl e ↦ (
         let there = (processes_operands_at_out x k (omega (arith, within)) first prev (omega (arith, e))) absent in
-        let less : k < length l = (let q = processes_operands_at_long i ret late ops here t old j l w s prev in omega (arith, q, long, within)) in
-        inl (turn_at l list w u s m less there.0 (subst (λ (z : ℕ). ProcessesOperand i ret ops z l list w u s m) e one)))
+        let less : k < length l = (let q = processes_operands_at_long i ends_block late ops here t old j l w s prev in omega (arith, q, long, within)) in
+        inl (turn_at l list w u s m less there.0 (subst (λ (z : ℕ). ProcessesOperand i ends_block ops z l list w u s m) e one)))
     | inr ne ↦ (
         let less : j < length ops = omega (arith, le) in
         let same : slice_index_or list k NoPlace ≡ slice_index_or l k NoPlace = list_same j l list w u s m one ne
@@ -130,7 +130,7 @@ module _ (i : ℕ) (ret : Bool) (ops : List OperandValue) (orderly : Orderly ops
 
   -- the pass over early operands, if it was allocated before
   over_list : (of_late : is_late (op_at ops k).position ≡ true) (here : List Place) (t : InstRegs) (old : StateValue) (n : ℕ) (list : List Place) (u : InstRegs)
-      (m : StateValue) → ProcessesOperandsAt i ret false ops here t old n list u m → n ≤ length ops →
+      (m : StateValue) → ProcessesOperandsAt i ends_block false ops here t old n list u m → n ≤ length ops →
       slice_index_or list k NoPlace ≡ slice_index_or here k NoPlace
   over_list of_late here t old n list u m none_placed le = refl
   over_list of_late here t old n list u m (of_other j l w s prev other) le = over_list of_late here t old j list u m prev (omega (arith, le))
@@ -140,7 +140,7 @@ module _ (i : ℕ) (ret : Bool) (ops : List OperandValue) (orderly : Orderly ops
       ∙ over_list of_late here t old j l w s prev (omega (arith, le))
 
   over_at : (of_late : is_late (op_at ops k).position ≡ true) (here : List Place) (t : InstRegs) (old : StateValue) → At old here →
-      (n : ℕ) (list : List Place) (u : InstRegs) (m : StateValue) → ProcessesOperandsAt i ret false ops here t old n list u m → n ≤ length ops →
+      (n : ℕ) (list : List Place) (u : InstRegs) (m : StateValue) → ProcessesOperandsAt i ends_block false ops here t old n list u m → n ≤ length ops →
       slice_index_or list k NoPlace ≢ NoPlace → At m list
   over_at of_late here t old at n list u m none_placed le real = at
   over_at of_late here t old at n list u m (of_other j l w s prev other) le real = over_at of_late here t old at j list u m prev (omega (arith, le)) real
@@ -152,11 +152,11 @@ module _ (i : ℕ) (ret : Bool) (ops : List OperandValue) (orderly : Orderly ops
       hold_one j l list w u s m less one same real (over_at of_late here t old at j l w s prev (omega (arith, le)) (λ q. real (same ∙ q)))
 
 -- the instruction
-pub reads_at : (i : ℕ) (inst : InstValue) (blank here : List Place) (old new : StateValue) → Orderly inst.operands → (x k : ℕ) → k < length inst.operands →
+pub read_location : (i : ℕ) (inst : InstValue) (blank here : List Place) (old new : StateValue) → Orderly inst.operands → (x k : ℕ) → k < length inst.operands →
     is_reading (op_at inst.operands k) ≡ true → (op_at inst.operands k).vreg.number ≡ x → ComesFirst inst.operands x k →
     AllocsInst i inst blank here old new → Absent x old → slice_index_or here k NoPlace ≢ NoPlace → (place_in new x ≡ slice_index_or here k NoPlace)
     ⊎ (slot_in new x ≢ NoPlace)
-reads_at i inst blank here old new orderly x k within reads is first a absent real =
+read_location i inst blank here old new orderly x k within reads is first a absent real =
     let ops : List OperandValue = inst.operands in
     let n : ℕ = length ops in
     let quiet = out_then x old a.prepares.middle a.after_clobbers (changes_out x (evicts_fixed_changes (λ q r. tt) a.prepares.fixed))

@@ -21,9 +21,9 @@ use Rattle.regalloc2_fastalloc_proofs.proofs.Walk.InstBoundaries.{IsEdge, grown_
 use Rattle.regalloc2_fastalloc_proofs.proofs.Walk.LastInstAndRest.{listed_behind}
 use Rattle.regalloc2_fastalloc_proofs.specs.Located.{Absent}
 use Rattle.regalloc2_fastalloc_proofs.proofs.Debug.UnnamedStaysUnlocated.{IsUnpassed, allocs_inst_in_block_out, begins_block_absent}
-use Rattle.regalloc2_fastalloc_proofs.proofs.Debug.LocatedStaysOrHasSlot.{Holds, hold_then, allocs_inst_hold, branch_hold}
-use Rattle.regalloc2_fastalloc_proofs.proofs.Debug.InstWithinWalk.{Met, IsBefore}
-use Rattle.regalloc2_fastalloc_proofs.proofs.Debug.LocationBeforeFirstRead.{ComesFirst, reads_at}
+use Rattle.regalloc2_fastalloc_proofs.proofs.Debug.LocatedStaysOrHasSlot.{StaysOrHasSlot, hold_then, allocs_inst_hold, branch_hold}
+use Rattle.regalloc2_fastalloc_proofs.proofs.Debug.InstWithinWalk.{Met, IsBeforeInst}
+use Rattle.regalloc2_fastalloc_proofs.proofs.Debug.LocationBeforeFirstRead.{ComesFirst, read_location}
 use Rattle.regalloc2_fastalloc_proofs.proofs.Walk.FunctionLaws.{PlacedCode}
 use Rattle.regalloc2_fastalloc_proofs.proofs.Changes.WalkChanges.{allocs_inst_in_block_changes, any_inst}
 
@@ -41,7 +41,7 @@ pub record IsUnslotted (f : FunctionValue) (placesf : ℕ → List Place) (final
   pub real : place_at (placesf il) ko ≢ NoPlace
   pub unslotted : slot_in final x ≡ NoPlace
 
--- its location before the instruction j
+-- the location of x before the instruction j
 pub record Stays (placesf : ℕ → List Place) (x id il ko j : ℕ) (t : StateValue) : Type 0 where
   pub after_it : il < j → Absent x t
   pub there : id < j → j ≤ il → place_in t x ≡ place_at (placesf il) ko
@@ -79,8 +79,8 @@ module _ (code : PlacedCode) (final : StateValue) (x id il ko : ℕ) (un : IsUns
     at_last p q s u lt a at rest absent =
         let here : place_at (placesf il) ko ≡ slice_index_or a.allocates.here ko NoPlace = at ko un.within in
         let none : slot_in u x ≡ NoPlace = none_before u rest in
-        let h : Holds x a.middle u = branch_hold x f b il p q s u a in
-        elim (reads_at il (inst_at f il) a.allocates.blank a.allocates.here s a.middle (orderly il lt) x ko un.within un.reads un.number un.first
+        let h : StaysOrHasSlot x a.middle u = branch_hold x f b il p q s u a in
+        elim (read_location il (inst_at f il) a.allocates.blank a.allocates.here s a.middle (orderly il lt) x ko un.within un.reads un.number un.first
         a.allocates.allocates absent (λ z. un.real (here ∙ z))) [
           | inl e ↦ elim (h.same (λ z. un.real (here ∙ sym e ∙ z))) [ inl d ↦ (d ∙ e ∙ sym here) | inr has ↦ absurd (has none) ]
           | inr has ↦ absurd (h.slots has none)
@@ -90,11 +90,11 @@ module _ (code : PlacedCode) (final : StateValue) (x id il ko : ℕ) (un : IsUns
     amid : (j : ℕ) (p q : List Place) (s u : StateValue) → id < j → j < length f.insts → AllocsInstInBlock f b j p q s u → Grown AnyPlace u final →
         place_in s x ≡ place_at (placesf il) ko → place_in u x ≡ place_at (placesf il) ko
     amid j p q s u sooner lt a rest at =
-        let h : Holds x s u = hold_then x s a.middle u (allocs_inst_hold x j (inst_at f j) a.allocates.blank a.allocates.here s a.middle
+        let h : StaysOrHasSlot x s u = hold_then x s a.middle u (allocs_inst_hold x j (inst_at f j) a.allocates.blank a.allocates.here s a.middle
         (un.undefined j sooner lt) a.allocates.allocates) (branch_hold x f b j p q s u a) in
         elim (h.same (λ z. un.real (sym at ∙ z))) [ inl e ↦ (e ∙ at) | inr has ↦ absurd (has (none_before u rest)) ]
 
-    -- one instruction of the walk keeps this: from x's location before the next instruction to the one before this instruction
+    -- one instruction of the walk keeps `Stays`, from before the next instruction to before this one
     pub step_stays : {j : ℕ} {p q : List Place} {s u : StateValue} → (block_at f b).range.first ≤ j → j < (block_at f b).range.end →
         (a : AllocsInstInBlock f b j p q s u) → ((k : ℕ) → k < length (inst_at f j).operands →
         place_at (placesf j) k ≡ slice_index_or a.allocates.here k NoPlace) →
@@ -151,9 +151,9 @@ module _ (code : PlacedCode) (final : StateValue) (x id il ko : ℕ) (un : IsUns
         }) w.inside w.listed
         (grown_then AnyPlace w.old w.new final
         (changes_grow AnyPlace (allocs_inst_in_block_changes (any_inst (λ e. AnyPlace e.0) f w.block j (λ n r. tt) (λ n r. tt)) w.allocates))
-        (grown_weaken (IsBefore f j) AnyPlace w.new final (λ n y. tt) w.rest))
+        (grown_weaken (IsBeforeInst f j) AnyPlace w.new final (λ n y. tt) w.rest))
 
     -- in the state with which the walk leaves the instruction, x has its location before this one
     pub new_stays : Stays placesf x id il ko j w.new
     new_stays = step_stays w.block w.within w.ge w.less w.allocates w.at
-        (grown_weaken (IsBefore f j) AnyPlace w.new final (λ n y. tt) w.rest) old_stays
+        (grown_weaken (IsBeforeInst f j) AnyPlace w.new final (λ n y. tt) w.rest) old_stays

@@ -54,7 +54,7 @@ module _ (f : FunctionValue) (out : OutputValue) (v : VirtualRegister) (p : Plac
   abbrev Fine : ℕ → List MoveValue → Type 0
   Fine i ms = NoMoveTo p ms ⊎ ((k : ℕ) × ReadsInPlace f out v p i k)
 
-  -- one more move that doesn't go to the slot
+  -- moves stay fine with one more that doesn't go to the slot
   one_more : (i : ℕ) (m : MoveValue) (ms : List MoveValue) → (p ≡ m.to → ⊥) → Fine i ms → Fine i (m ∷ ms)
   unfolding Untouched with_moves
   one_more i m ms ne (inl h) = inl (ne, h)

@@ -25,7 +25,7 @@ use Rattle.regalloc2_semantics.proofs.Order.{ends_within, stands_later, reads_la
 use Rattle.regalloc2_fastalloc_proofs.proofs.Walk.BlocksCarryFromFreshState.{used_slots}
 use Rattle.regalloc2_fastalloc_proofs.proofs.Walk.InstBoundaries.{grown_weaken, grown_pushes}
 use Rattle.regalloc2_fastalloc_proofs.proofs.Inst.OneInstCarries.{Needed}
-use Rattle.regalloc2_fastalloc_proofs.proofs.Safety.OutputOfWalk.{IsMade}
+use Rattle.regalloc2_fastalloc_proofs.proofs.Safety.OutputOfWalk.{IsOutputOfWalk}
 use Rattle.regalloc2_fastalloc_proofs.proofs.Safety.StepsKeepState.{place_in, slot_in}
 use Rattle.regalloc2_fastalloc_proofs.proofs.Operands.DefinedNumbers.{defined_by, defined_by-at}
 use Rattle.regalloc2_fastalloc_proofs.proofs.Moves.StepsAppendEdits.{pushed_at}
@@ -38,16 +38,16 @@ use Rattle.regalloc2_fastalloc_proofs.specs.Debug.SlotHoldsValue.{ShowsAt}
 use Rattle.regalloc2_fastalloc_proofs.specs.Located.{Absent}
 use Rattle.regalloc2_fastalloc_proofs.proofs.Debug.SlotHoldsDefinedValue.{branch, rising, met_at, listed_at, allocated, by_itself, from_nowhere, front_of}
 use Rattle.regalloc2_fastalloc_proofs.proofs.Debug.InstOnPath.{Fronts, front, onward_front, carried_on, behind, moves_on}
-use Rattle.regalloc2_fastalloc_proofs.proofs.Debug.SlotHoldsToUses.{IsPlain, start_path, goes_live, goes_source}
-use Rattle.regalloc2_fastalloc_proofs.proofs.Debug.InstWithinWalk.{Met, IsStart, IsBefore}
-use Rattle.regalloc2_fastalloc_proofs.proofs.Debug.PlaceKeepsValueOverMoves.{observed}
+use Rattle.regalloc2_fastalloc_proofs.proofs.Debug.SlotHoldsToUses.{StepsArePlain, start_path, goes_live, goes_source}
+use Rattle.regalloc2_fastalloc_proofs.proofs.Debug.InstWithinWalk.{Met, IsStart, IsBeforeInst}
+use Rattle.regalloc2_fastalloc_proofs.proofs.Debug.PlaceKeepsValueOverMoves.{value_kept_over_moves}
 use Rattle.regalloc2_fastalloc_proofs.proofs.Debug.WellFormedPaths.{op_is, inst_in, inst_lt, within, plain_function}
 use Rattle.regalloc2_fastalloc_proofs.proofs.Debug.LocationWithoutSlot.{IsUnslotted, none_before, old_stays, new_stays}
 use Rattle.regalloc2_fastalloc_proofs.proofs.Walk.WholeWalk.{WholeWalk}
 use Rattle.regalloc2_fastalloc_proofs.proofs.Walk.FunctionLaws.{PlacedCode, code_of}
 use Rattle.regalloc2_fastalloc_proofs.proofs.Slots.StepsKeepSlots.{AnyPlace}
 
-module _ (walk : WholeWalk) (m : IsMade walk.f walk.env (Made walk.f) (MayInBlocks walk.f) walk.last walk.out) (written : IsWrittenFirst walk.f)
+module _ (walk : WholeWalk) (m : IsOutputOfWalk walk.f walk.env (Made walk.f) (MayInBlocks walk.f) walk.last walk.out) (written : IsWrittenFirst walk.f)
     (v : VirtualRegister) (known : Made walk.f v) (id d il ko : ℕ) (un : IsUnslotted walk.f (allocs_of walk.out) walk.last v.number id il ko)
     (defines : defined.DefinesAt walk.f v.number id d) (reads_v : (op_at (inst_at walk.f il).operands ko).vreg ≡ v) (il_lt : il < length walk.f.insts)
     (last_use : (j : ℕ) → UsesAt walk.f v j → j ≤ il) where
@@ -63,10 +63,10 @@ module _ (walk : WholeWalk) (m : IsMade walk.f walk.env (Made walk.f) (MayInBloc
   abbrev MetAt : ℕ → Type 0
   MetAt j = Met f (allocs_of out) blank begin j last
 
-  plain : IsPlain f v
+  plain : StepsArePlain f v
   plain = plain_function env f ok written v
 
-  -- it is live at no block's start on any path
+  -- v is live at no block's start on any path
   never_entered : (ws : List Way) → IsPath f ws → HasEntered f ws → IsLive f v (end_of f ws) → ⊥
   never_entered ws path entered live = used_slots walk (processes_branch_between f) v
       (live_is_used env f ok written ws path entered v live) un.unslotted
@@ -96,7 +96,7 @@ module _ (walk : WholeWalk) (m : IsMade walk.f walk.env (Made walk.f) (MayInBloc
         un.unslotted))
   ]
 
-  -- so all instructions between are in that block
+  -- all instructions between are in the block of its definition
   upto : (j : ℕ) (w : MetAt j) → id ≤ j → j ≤ il → il < (block_at f w.block).range.end
   upto j w low high =
       let u : MetAt il = meets il il_lt in
@@ -140,19 +140,19 @@ module _ (walk : WholeWalk) (m : IsMade walk.f walk.env (Made walk.f) (MayInBloc
   none_new : (j : ℕ) (w : MetAt j) → slot_in w.new v.number ≡ NoPlace
   none_new j w =
       none_before code last v.number id il ko un w.new
-      (grown_weaken (IsBefore f j) AnyPlace w.new last (λ n y. tt) w.rest)
+      (grown_weaken (IsBeforeInst f j) AnyPlace w.new last (λ n y. tt) w.rest)
 
   -- what an instruction carries into the place
   module _ (j : ℕ) (lt : j < length f.insts) (flat : (inst_at f j).is_branch ≡ false) (onward : (inst_at f j).is_ret ≡ false) where
-    alone_law : (w : MetAt j) → Carries v (walked (inst_at f) (at_point (listed w.new.edits)) (allocs_of out) j 1)
+    carried_by_itself : (w : MetAt j) → Carries v (walked (inst_at f) (at_point (listed w.new.edits)) (allocs_of out) j 1)
         (Needed (defined_by (inst_at f j).operands) w.new v) (Needed (λ x. false) w.old v)
-    alone_law w = ((by_itself walk m j w lt flat).carries (rw (flat, onward) refl) v known)
+    carried_by_itself w = ((by_itself walk m j w lt flat).carries (rw (flat, onward) refl) v known)
 
     law : (w : MetAt j) → (IsStart f j → ⊥) → Carries v (walked (inst_at f) (at_point out.edits) (allocs_of out) j 1)
         (Needed (defined_by (inst_at f j).operands) w.new v) (Needed (λ x. false) w.old v)
     law w never = subst (λ l. Carries v l (Needed (defined_by (inst_at f j).operands) w.new v) (Needed (λ x. false) w.old v))
         (listed_at walk m j w never)
-        (alone_law w)
+        (carried_by_itself w)
 
     to_place : (w : MetAt j) → place_in w.old v.number ≡ p → (q : Place) → q ≡ p → Needed (λ x. false) w.old v q
     to_place w at q e = parts_needed (λ x. false) w.old v q (inl (ap opt at ∙ opt_some p un.real ∙ ap Some (sym e)))
@@ -172,7 +172,7 @@ module _ (walk : WholeWalk) (m : IsMade walk.f walk.env (Made walk.f) (MayInBloc
               ∙ at in cc)
           | inr s ↦ (let z : true ≡ false = sym is ∙ s.0 in cc)
         ])
-        (to_place w (old_at j w (omega (arith, e)) (let s = sooner in omega (arith, e, s)))) (alone_law w))
+        (to_place w (old_at j w (omega (arith, e)) (let s = sooner in omega (arith, e, s)))) (carried_by_itself w))
 
     -- an instruction after it
     carries_next : id < j → j < il → Carries v (walked (inst_at f) (at_point out.edits) (allocs_of out) j 1) (λ q. q ≡ p) (λ q. q ≡ p)
@@ -191,11 +191,11 @@ module _ (walk : WholeWalk) (m : IsMade walk.f walk.env (Made walk.f) (MayInBloc
       after_moves (at_point out.edits (before j)) c p ≡ source_before f ws v
   seen j lt flat low high ws c held =
       let w : MetAt j = meets j lt in
-      let same : at_point (listed last.edits) (before j) ≡ at_point (listed w.new.edits) (before j) = pushed_at (λ e. IsBefore f j e.0) (before j) w.new.edits
+      let same : at_point (listed last.edits) (before j) ≡ at_point (listed w.new.edits) (before j) = pushed_at (λ e. IsBeforeInst f j e.0) (before j) w.new.edits
       last.edits (λ e h is. elim h [ inl before_it ↦ omega (arith, before_it, is) | inr at ↦ not_start j w low high at.1 ])
-      (grown_pushes (IsBefore f j) w.new last w.rest) in
+      (grown_pushes (IsBeforeInst f j) w.new last w.rest) in
       ap (λ es. after_moves (at_point es (before j)) c p) m.edits ∙ ap (λ ms. after_moves ms c p) same
-      ∙ observed (proper_of (Made f) f (allocs_of out) (all_proper env f limited ok)) j
+      ∙ value_kept_over_moves (proper_of (Made f) f (allocs_of out) (all_proper env f limited ok)) j
       w.allocates.allocates.blank w.allocates.allocates.here w.old w.new lt w.behind
       (allocated walk m j w flat) v p
       (record { known = known; real = un.real; alloc_of = new_at j w low high; unslotted = none_new j w }) (source_before f ws) c held

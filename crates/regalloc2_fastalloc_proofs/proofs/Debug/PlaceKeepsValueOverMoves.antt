@@ -28,12 +28,12 @@ use Rattle.regalloc2_fastalloc_proofs.proofs.Operands.RecordOverState.{stands_at
 use Rattle.regalloc2_fastalloc_proofs.proofs.Evictions.EvictVReg.{kept_all}
 use Rattle.regalloc2_fastalloc_proofs.proofs.Inst.AcrossInst.{lives_in}
 use Rattle.regalloc2_fastalloc_proofs.proofs.Operands.RecordOfInst.{progress, Laid, laying_of}
-use Rattle.regalloc2_fastalloc_proofs.proofs.Moves.UsesMoved.{Moves, moves_uses_done}
-use Rattle.regalloc2_fastalloc_proofs.proofs.Inst.BoundaryToFirstOperand.{opened}
+use Rattle.regalloc2_fastalloc_proofs.proofs.Moves.UsesMoved.{UsesMovedFrom, moves_uses_done}
+use Rattle.regalloc2_fastalloc_proofs.proofs.Inst.BoundaryToFirstOperand.{ready_for_operands}
 use Rattle.regalloc2_fastalloc_proofs.proofs.Inst.LastOperandToBoundary.{turned_all}
 use Rattle.regalloc2_fastalloc_proofs.proofs.Slots.StepsKeepSlots.{cases_none}
 use Rattle.regalloc2_fastalloc_proofs.proofs.Operands.AllOperands.{laid_both}
-use Rattle.regalloc2_fastalloc_proofs.proofs.Inst.OneInstCarries.{Between, carried_nil, Needed}
+use Rattle.regalloc2_fastalloc_proofs.proofs.Inst.OneInstCarries.{IsBetweenInsts, carried_nil, Needed}
 use Rattle.regalloc2_fastalloc_proofs.proofs.Debug.UnnamedStaysUnlocated.{changes_out, whole_absent}
 use Rattle.regalloc2_fastalloc_proofs.proofs.Debug.LocatedStaysOrHasSlot.{changes_hold}
 use Rattle.regalloc2_fastalloc_proofs.proofs.Changes.InstChanges.{moves_uses_changes}
@@ -60,9 +60,9 @@ module _ (code : ProperCode) where
   open code use {Known, f, placesf, proper}
   open code.proper use {orderly, avoids}
 
-  module _ (i : ℕ) (blank here : List Place) (old new : StateValue) (lt : i < length f.insts) (b : Between (i + 1) old)
-      (a : AllocsInst i (inst_at f i) blank here old new) (v : VirtualRegister) (p : Place) (alone : IsUnslottedAt Known new v p) where
-    open alone use {known, real, alloc_of, unslotted}
+  module _ (i : ℕ) (blank here : List Place) (old new : StateValue) (lt : i < length f.insts) (b : IsBetweenInsts (i + 1) old)
+      (a : AllocsInst i (inst_at f i) blank here old new) (v : VirtualRegister) (p : Place) (unslotted_at : IsUnslottedAt Known new v p) where
+    open unslotted_at use {known, real, alloc_of, unslotted}
 
     abbrev ops : List OperandValue
     ops = (inst_at f i).operands
@@ -80,7 +80,7 @@ module _ (code : ProperCode) where
         laid_both (laying_of (tail_of Known (inst_at f) placesf i 0 (λ w q. ⊥)) ops (lives_in old) (is_clobbered (inst_at f i).clobbers)
         (ends_block (inst_at f i)) (orderly i lt)) blank
         a.half here a.quiet a.late a.early a.after_clobbers a.after_late t a.lates a.earlies
-        (opened (tail_of Known (inst_at f) placesf i 0 (λ w q. ⊥)) (inst_at f i) blank here old new (orderly i lt) (avoids i lt)
+        (ready_for_operands (tail_of Known (inst_at f) placesf i 0 (λ w q. ⊥)) (inst_at f i) blank here old new (orderly i lt) (avoids i lt)
         (λ e w k. carried_nil code (λ u q. ⊥) (i + 1) old (λ u q. ⊥) (λ u q h. h) w)
         (record {
           whole = b.whole;
@@ -129,7 +129,7 @@ module _ (code : ProperCode) where
     counted : (j : ℕ) → laid.done j ≡ true → Counts ops j
     counted j d = laid.ready.within j (laid.ready.located.placed.claims j d)
 
-    moved : Moves (tail_of Known (inst_at f) placesf i 0 (λ w q. ⊥)) item (what_of ops) far (length ops) a.ended t new
+    moved : UsesMovedFrom (tail_of Known (inst_at f) placesf i 0 (λ w q. ⊥)) item (what_of ops) far (length ops) a.ended t new
     moved =
         let crossed : Claims Known (item ∷ after_part (inst_at f) (listed t.edits) placesf i 0)
         (Pending (what_of ops) laid.here laid.done laid.out (stands_at t) (slots_at t) 0) (λ w q. ⊥) =
@@ -155,9 +155,9 @@ module _ (code : ProperCode) where
         }) (length ops) a.ended new a.moves (omega arith)
 
     -- what it held before the moves, it holds after them
-    pub observed : (s : Source) (c : Cells) → c p ≡ s v → after_moves (at_point (listed new.edits) (before i)) c p ≡ s v
+    pub value_kept_over_moves : (s : Source) (c : Cells) → c p ≡ s v → after_moves (at_point (listed new.edits) (before i)) c p ≡ s v
     unfolding Carries CarriesFrom
-    observed s c held =
+    value_kept_over_moves s c held =
         let there : (q : Place) → Pending (what_of ops) laid.here laid.done laid.out (stands_at new) (slots_at new) (length ops) v.number q →
         c q ≡ s v = λ q y. elim y [
           | still e ↦ (let z : q ≡ p = sym (opt_from (place_in new v.number) q e) ∙ alloc_of in ap c z ∙ held)

@@ -27,8 +27,8 @@ use Rattle.regalloc2_analysis.proofs.LiveRangesLemmas.UsesInSSA.{defines_number}
 use Rattle.regalloc2_analysis.specs.LiveRanges.LiveRanges.IsShownBy.{by_late_use, by_early_use, by_argument, by_definition}
 use Rattle.regalloc2_fastalloc_state.specs.StateParts.{SlotsHaveOneOwner, IsSlotOrNone, slot_name}
 use Rattle.regalloc2_fastalloc_proofs.proofs.Walk.BlocksCarryFromFreshState.{at_walks_end, used_slots, passed_slots}
-use Rattle.regalloc2_fastalloc_proofs.proofs.Operands.AllocsSoFar.{IsTame, reads_allocated}
-use Rattle.regalloc2_fastalloc_proofs.proofs.Safety.OutputOfWalk.{IsMade, operand_good}
+use Rattle.regalloc2_fastalloc_proofs.proofs.Operands.AllocsSoFar.{AreSoundOperands, reads_allocated}
+use Rattle.regalloc2_fastalloc_proofs.proofs.Safety.OutputOfWalk.{IsOutputOfWalk, operand_good}
 use Rattle.regalloc2_fastalloc_proofs.proofs.Safety.StepsKeepState.{slot_in}
 use Rattle.regalloc2_fastalloc_proofs.proofs.Safety.BlocksKeepSafe.{MayInBlocks}
 use Rattle.regalloc2_fastalloc_proofs.proofs.Walk.DefsBeforeUses.{used_made}
@@ -69,7 +69,7 @@ use_by f v i k lt less reads is = by (op_at (inst_at f i).operands k).position r
     by Early e = inl (reads_by f v Early i k lt less reads e is)
     by Late e = inr (inl (reads_by f v Late i k lt less reads e is))
 
-module _ (walk : WholeWalk) (m : IsMade walk.f walk.env (Made walk.f) (MayInBlocks walk.f) walk.last walk.out) (written : IsWrittenFirst walk.f)
+module _ (walk : WholeWalk) (m : IsOutputOfWalk walk.f walk.env (Made walk.f) (MayInBlocks walk.f) walk.last walk.out) (written : IsWrittenFirst walk.f)
     (v : VirtualRegister) (known : Made walk.f v) where
   open walk use {env, f, limited, ok, blank, begin, last, out, empty, fit, walks}
 
@@ -206,17 +206,17 @@ module _ (walk : WholeWalk) (m : IsMade walk.f walk.env (Made walk.f) (MayInBloc
   operand_shows (by_definition o never d) none = λ given w here used s path is_given source on later_on uses no_branch. absurd (never (end_of f used).inst uses)
 
   -- the place that debug locations name for it holds its value
-  pub shown : MachineFits f env → SlotsHaveOneOwner last.slots → ((i : ℕ) → i < length f.insts → IsTame (Made f) (inst_at f i).operands) →
+  pub shown : MachineFits f env → SlotsHaveOneOwner last.slots → ((i : ℕ) → i < length f.insts → AreSoundOperands (Made f) (inst_at f i).operands) →
       ReadsAgreeOnPaths f out → (stand : ℕ → VirtualRegister → Option Place) → AreAtBegin env f blank begin last out stand → {by : Option InstOperand} →
       IsShownBy f v by →
       HoldsValue f out v (shown_place out (slot_name last.slots v.number) by)
-  shown fits owned tame agree stand begins {by} is = by_slot (slot_name last.slots v.number) refl
+  shown fits owned sound_ops agree stand begins {by} is = by_slot (slot_name last.slots v.number) refl
       ((at_walks_end walk (processes_branch_between f)).whole.below v.number)
     where
       by_slot : (q : Place) → slot_name last.slots v.number ≡ q → IsSlotOrNone last.slots.count q → HoldsValue f out v (shown_place out q by)
       by_slot NoPlace e below = operand_shows is e
       by_slot (InRegister r) e below = absurd below
-      by_slot (InSlot n) e below = left_slot_shows env f ok written last out m owned tame agree v known n e
-          (defined_shows walk m written agree owned tame v known n e)
-          (λ ws path entered live undefined plain. entered_shows walk fits m written stand begins v known n e agree owned tame ws
+      by_slot (InSlot n) e below = left_slot_shows env f ok written last out m owned sound_ops agree v known n e
+          (defined_shows walk m written agree owned sound_ops v known n e)
+          (λ ws path entered live undefined plain. entered_shows walk fits m written stand begins v known n e agree owned sound_ops ws
           (record { path = path; entered = entered; live = live; undefined = undefined; plain = plain }))

@@ -19,8 +19,8 @@ use Rattle.regalloc2_semantics.specs.Carry.{Undefined}
 use Rattle.regalloc2_semantics.proofs.SingleDef.{Made, one_made}
 use Rattle.regalloc2_fastalloc_state.specs.StateParts.{SlotsHaveOneOwner, slot_name}
 use Rattle.regalloc2_fastalloc_proofs.specs.InstSteps.{StateValue}
-use Rattle.regalloc2_fastalloc_proofs.proofs.Operands.AllocsSoFar.{IsTame}
-use Rattle.regalloc2_fastalloc_proofs.proofs.Safety.OutputOfWalk.{IsMade, place_is}
+use Rattle.regalloc2_fastalloc_proofs.proofs.Operands.AllocsSoFar.{AreSoundOperands}
+use Rattle.regalloc2_fastalloc_proofs.proofs.Safety.OutputOfWalk.{IsOutputOfWalk, place_is}
 use Rattle.regalloc2_fastalloc_proofs.proofs.Slots.InstLeavesOwnedSlot.{own_written}
 use Rattle.regalloc2_fastalloc_proofs.proofs.Slots.SlotsOwned.{owner_known}
 use Rattle.regalloc2_fastalloc_proofs.proofs.Safety.BlocksKeepSafe.{MayInBlocks}
@@ -30,7 +30,7 @@ use Rattle.regalloc2_fastalloc_proofs.specs.Debug.SlotHoldsValue.{ShowsAt}
 use Rattle.regalloc2_fastalloc_proofs.specs.Debug.SlotWrites.{MayWrite, after_definition, before_read, before_branch, at_begin}
 use Rattle.regalloc2_fastalloc_proofs.proofs.Debug.SlotHoldsValueOnPaths.{slot_shows_value}
 
-module _ (env : MachineValue) (f : FunctionValue) (once : DefinedOnce f) (t : StateValue) (out : OutputValue) (m : IsMade f env (Made f) (MayInBlocks f) t out)
+module _ (env : MachineValue) (f : FunctionValue) (once : DefinedOnce f) (t : StateValue) (out : OutputValue) (m : IsOutputOfWalk f env (Made f) (MayInBlocks f) t out)
     (owned : SlotsHaveOneOwner t.slots)
     (v : VirtualRegister) (known : Made f v) (n : ℕ) (mine : slot_name t.slots v.number ≡ InSlot n) where
   -- a point where the walk writes the slot is one where it may be written
@@ -59,9 +59,9 @@ module _ (env : MachineValue) (f : FunctionValue) (once : DefinedOnce f) (t : St
       (λ k d lt to. may_write (slice_index_or t.edits k d).0 (writes k d lt to)))
 
   -- no other vreg's operand is in it
-  pub own_alone : ((i : ℕ) → i < length f.insts → IsTame (Made f) (inst_at f i).operands) → (w : VirtualRegister) → StandsInSlot f out w n → w ≡ v
-  own_alone tame w located =
-      let x = owner_known f env (Made f) (MayInBlocks f) t out m owned tame w n located in
+  pub only_vreg_in_slot : ((i : ℕ) → i < length f.insts → AreSoundOperands (Made f) (inst_at f i).operands) → (w : VirtualRegister) → StandsInSlot f out w n → w ≡ v
+  only_vreg_in_slot sound_ops w located =
+      let x = owner_known f env (Made f) (MayInBlocks f) t out m owned sound_ops w n located in
       one_made f once w v x.0 known (owned.own w.number v.number n x.1 mine)
 
 -- after a definition of v, once the moves before the next instruction have run, the slot holds v's value, if v is live there and it is no branch
@@ -76,12 +76,12 @@ EnteredShows f out v n = (ws : List Way) → IsPath f ws → HasEntered f ws →
 
 -- a vreg's slot at the walk's end holds its value, if it does after each definition and at each block's start
 pub left_slot_shows : (env : MachineValue) (f : FunctionValue) → IsWellFormed env f → IsWrittenFirst f → (t : StateValue) (out : OutputValue) →
-    IsMade f env (Made f) (MayInBlocks f) t out → SlotsHaveOneOwner t.slots → ((i : ℕ) → i < length f.insts → IsTame (Made f) (inst_at f i).operands) →
+    IsOutputOfWalk f env (Made f) (MayInBlocks f) t out → SlotsHaveOneOwner t.slots → ((i : ℕ) → i < length f.insts → AreSoundOperands (Made f) (inst_at f i).operands) →
     ReadsAgreeOnPaths f out → (v : VirtualRegister) → Made f v → (n : ℕ) → slot_name t.slots v.number ≡ InSlot n →
     DefinedShows f out v n → EnteredShows f out v n → HoldsValue f out v (InSlot n)
-left_slot_shows env f ok written t out m owned tame agree v known n mine defined entered = slot_shows_value env f out v n ok written agree (record {
+left_slot_shows env f ok written t out m owned sound_ops agree v known n mine defined entered = slot_shows_value env f out v n ok written agree (record {
   entered = entered;
   defined = defined;
   moves = moves_where env f ok.defined_once t out m owned v known n mine;
-  own = own_alone env f ok.defined_once t out m owned v known n mine tame;
+  own = only_vreg_in_slot env f ok.defined_once t out m owned v known n mine sound_ops;
 })

@@ -30,20 +30,20 @@ use Rattle.regalloc2_fastalloc_state.specs.StateParts.{SlotsHaveOneOwner, slot_n
 use Rattle.regalloc2_fastalloc_proofs.specs.InstSteps.{StateValue}
 use Rattle.regalloc2_fastalloc_proofs.specs.Safety.{IsSafe, IsWhole}
 use Rattle.regalloc2_fastalloc_proofs.specs.StoreSteps.{StoresBranchDefs, none_stored, all_stored}
-use Rattle.regalloc2_fastalloc_proofs.proofs.BlockBegin.BranchDefsCarried.{brought}
+use Rattle.regalloc2_fastalloc_proofs.proofs.BlockBegin.BranchDefsCarried.{defs_brought}
 use Rattle.regalloc2_fastalloc_proofs.proofs.BlockBegin.StoresOfDefs.{stores_branch_defs_grown}
 use Rattle.regalloc2_fastalloc_proofs.proofs.Branches.Arrivals.{Arrive, DefsPlaced}
 use Rattle.regalloc2_fastalloc_proofs.proofs.Branches.EdgesInto.{one_edge_into}
 use Rattle.regalloc2_fastalloc_proofs.proofs.Branches.PlacesOnArrival.{live_used}
 use Rattle.regalloc2_fastalloc_proofs.proofs.Moves.StepsAppendEdits.{pushed_at}
-use Rattle.regalloc2_fastalloc_proofs.proofs.Operands.AllocsSoFar.{IsTame}
+use Rattle.regalloc2_fastalloc_proofs.proofs.Operands.AllocsSoFar.{AreSoundOperands}
 use Rattle.regalloc2_fastalloc_proofs.proofs.Operands.RecordOverState.{slots_at, opt, opt_from, opt_real, grown_slots}
 use Rattle.regalloc2_fastalloc_proofs.proofs.Safety.BlocksKeepSafe.{MayInBlocks}
 use Rattle.regalloc2_fastalloc_proofs.proofs.Safety.BlockStartKeepsSafe.{reloads_at_begin_kept}
 use Rattle.regalloc2_fastalloc_proofs.proofs.Safety.BranchArgsKeepState.{processes_branch_between}
 use Rattle.regalloc2_fastalloc_proofs.proofs.Safety.FunctionKeepsSafe.{SafeWithin}
 use Rattle.regalloc2_fastalloc_proofs.proofs.Safety.InstsKeepSafe.{WritesFrom}
-use Rattle.regalloc2_fastalloc_proofs.proofs.Safety.OutputOfWalk.{IsMade, machine_apart}
+use Rattle.regalloc2_fastalloc_proofs.proofs.Safety.OutputOfWalk.{IsOutputOfWalk, machine_apart}
 use Rattle.regalloc2_fastalloc_proofs.proofs.Safety.StepsKeepState.{slot_in, slot_no_register}
 use Rattle.regalloc2_fastalloc_proofs.proofs.Safety.StoredDefs.{concerned_made, last_within}
 use Rattle.regalloc2_fastalloc_proofs.proofs.Slots.InstLeavesOwnedSlot.{no_move_or, writes_allowed}
@@ -51,7 +51,7 @@ use Rattle.regalloc2_fastalloc_proofs.proofs.Slots.InstsLeaveSlots.{writes_sound
 use Rattle.regalloc2_fastalloc_proofs.proofs.Slots.LiveInHasSlot.{used_at_begin}
 use Rattle.regalloc2_fastalloc_proofs.proofs.Slots.StepsKeepSlots.{Grown, grown_none, grown_then, cases_none, AnyPlace}
 use Rattle.regalloc2_fastalloc_proofs.proofs.Walk.AllBlocksCarry.{begin_between, first_edge}
-use Rattle.regalloc2_fastalloc_proofs.proofs.Walk.BlockCarries.{IsBelow}
+use Rattle.regalloc2_fastalloc_proofs.proofs.Walk.BlockCarries.{ComesBefore}
 use Rattle.regalloc2_fastalloc_proofs.proofs.Walk.BlocksCarryFromFreshState.{at_walks_end}
 use Rattle.regalloc2_fastalloc_proofs.proofs.Walk.DefsBeforeUses.{param_before}
 use Rattle.regalloc2_fastalloc_proofs.proofs.Walk.InstBoundaries.{grown_weaken, grown_pushes}
@@ -60,7 +60,7 @@ use Rattle.regalloc2_fastalloc_proofs.proofs.Inst.ProperInsts.{all_proper}
 use Rattle.regalloc2_fastalloc_proofs.specs.Debug.SlotHoldsValue.{ReadsInPlace, ShowsAt}
 use Rattle.regalloc2_fastalloc_proofs.proofs.Debug.BlockWithinWalk.{MetBlock, meet_block, pushed_front}
 use Rattle.regalloc2_fastalloc_proofs.proofs.Debug.PathStepLeaves.{read_shows}
-use Rattle.regalloc2_fastalloc_proofs.proofs.Debug.SlotAfterWalk.{own_alone}
+use Rattle.regalloc2_fastalloc_proofs.proofs.Debug.SlotAfterWalk.{only_vreg_in_slot}
 use Rattle.regalloc2_fastalloc_proofs.proofs.Debug.SlotHoldsDefinedValue.{branch, some_block, are_listed}
 use Rattle.regalloc2_fastalloc_proofs.proofs.Debug.WellFormedPaths.{inst_lt, within}
 use Rattle.regalloc2_fastalloc_proofs.proofs.Safety.StepsKeepSafe.{rules_of}
@@ -83,7 +83,7 @@ pub record EntersWhereLive (f : FunctionValue) (v : VirtualRegister) (ws : List 
   pub undefined : Undefined (inst_at f (end_of f ws).inst).operands v
   pub plain : (inst_at f (end_of f ws).inst).is_branch ≡ false
 
-module _ (walk : WholeWalk) (fits : MachineFits walk.f walk.env) (m : IsMade walk.f walk.env (Made walk.f) (MayInBlocks walk.f) walk.last walk.out)
+module _ (walk : WholeWalk) (fits : MachineFits walk.f walk.env) (m : IsOutputOfWalk walk.f walk.env (Made walk.f) (MayInBlocks walk.f) walk.last walk.out)
     (written : IsWrittenFirst walk.f) (stand : ℕ → VirtualRegister → Option Place)
     (at : AreAtBegin walk.env walk.f walk.blank walk.begin walk.last walk.out stand) (v : VirtualRegister) (known : Made walk.f v) (n : ℕ)
     (mine : slot_name walk.last.slots v.number ≡ InSlot n) where
@@ -115,7 +115,7 @@ module _ (walk : WholeWalk) (fits : MachineFits walk.f walk.env) (m : IsMade wal
     w : MetBlock f (allocs_of out) blank begin b last
     w = meet_block (code_of (Made f) f (all_proper env f limited ok) (branch env f limited ok) ok.follow ok.end (allocs_of out)) blank begin last b lb walks 0
         (first_edge f ok.follow (some_block env f limited ok))
-        places_listed (grown_none (IsBelow 0) last last refl) (omega arith)
+        places_listed (grown_none (ComesBefore 0) last last refl) (omega arith)
 
     -- the tables once its reloads are pushed
     abbrev reloaded : StateValue
@@ -133,7 +133,7 @@ module _ (walk : WholeWalk) (fits : MachineFits walk.f walk.env) (m : IsMade wal
 
     grows : Grown AnyPlace reloaded last
     grows = grown_then AnyPlace reloaded w.begun last (stores_branch_defs_grown AnyPlace f b reloaded w.begun tt w.begins.stores)
-        (grown_weaken (IsBelow first) AnyPlace w.begun last (λ k x. tt) w.rest)
+        (grown_weaken (ComesBefore first) AnyPlace w.begun last (λ k x. tt) w.rest)
 
     -- the moves so far that go to the slot
     so_far : All (λ e. e.1.to ≡ InSlot n → WritesFrom f out.allocs (b + 1) e.0 v n) (listed reloaded.edits)
@@ -145,7 +145,7 @@ module _ (walk : WholeWalk) (fits : MachineFits walk.f walk.env) (m : IsMade wal
           | inr there ↦ inl (sym (grows.stay x there) ∙ opt_from (slot_in last x) (InSlot k) is)
         ]) n v known mine_there)
 
-    -- so the first instruction reads v there, if one of these moves exists
+    -- the block's first instruction reads v in the slot, if a move before it writes the slot
     read_first : (inst_at f first).is_branch ≡ false → WritesFrom f out.allocs (b + 1) (before first) v n → (k : ℕ) × ReadsInPlace f out v (InSlot n) first k
     read_first plain (inl x) =
         let r = (writes_sound f (allocs_of out) out.allocs places_listed first plain).sooner v n x in
@@ -161,11 +161,11 @@ module _ (walk : WholeWalk) (fits : MachineFits walk.f walk.env) (m : IsMade wal
     later_fine plain = no_move_or (InSlot n) (before first) (listed reloaded.edits) ((k : ℕ) × ReadsInPlace f out v (InSlot n) first k)
         (λ k d less is to. read_first plain (subst (λ q. WritesFrom f out.allocs (b + 1) q v n) is (so_far k d less to)))
 
-    -- the moves there are those of the stores, followed by the others
+    -- the moves at the point before the block's first instruction
     moves_there : at_point out.edits (before first) ≡ at_point (listed w.begun.edits) (before first)
     moves_there = ap (λ es. at_point es (before first)) m.edits
-        ∙ pushed_at (λ e. IsBelow first e.0) (before first) w.begun.edits last.edits (λ e h is. omega (arith, h, is)) (grown_pushes
-        (IsBelow first) w.begun last w.rest)
+        ∙ pushed_at (λ e. ComesBefore first e.0) (before first) w.begun.edits last.edits (λ e h is. omega (arith, h, is)) (grown_pushes
+        (ComesBefore first) w.begun last w.rest)
 
     module _ (used : IsUsedElsewhere f v) (somewhere : UsedSomewhere f v) where
       has_slot : (j : ℕ) → j < length (block_at f b).params → slice_index_or (block_at f b).params j no_vreg ≡ v → slot_in reloaded v.number ≢ NoPlace
@@ -198,7 +198,7 @@ module _ (walk : WholeWalk) (fits : MachineFits walk.f walk.env) (m : IsMade wal
       comes_there c x holds none (all_stored e k edge s) =
           let M : List MoveValue = at_point (listed reloaded.edits) (before first) in
           let then : Cells = after_moves (store_moves s.stores) c in
-          let there : then (InSlot n) ≡ x = elim (brought (record {
+          let there : then (InSlot n) ≡ x = elim (defs_brought (record {
             f = f;
             once = ok.defined_once;
             placesf = allocs_of out;
@@ -213,7 +213,7 @@ module _ (walk : WholeWalk) (fits : MachineFits walk.f walk.env) (m : IsMade wal
             lb = lb;
             middle = reloaded;
             new = w.begun;
-            stays = grown_slots (IsBelow first) w.begun last w.rest;
+            stays = grown_slots (ComesBefore first) w.begun last w.rest;
             placed = λ d j into. at.placed d into.block into.definitions.0;
             v = v;
             made = known;
@@ -232,7 +232,7 @@ module _ (walk : WholeWalk) (fits : MachineFits walk.f walk.env) (m : IsMade wal
           ∙ moves_kept (InSlot n) M then none ∙ there
 
   module _ (agree : ReadsAgreeOnPaths f out) (owned : SlotsHaveOneOwner last.slots)
-      (tame : (i : ℕ) → i < length f.insts → IsTame (Made f) (inst_at f i).operands) where
+      (sound_ops : (i : ℕ) → i < length f.insts → AreSoundOperands (Made f) (inst_at f i).operands) where
     -- a path has entered a block with v live
     pub entered_shows : (ws : List Way) → EntersWhereLive f v ws → ShowsAt f out v (InSlot n) ws
     entered_shows ws enters =
@@ -248,7 +248,7 @@ module _ (walk : WholeWalk) (fits : MachineFits walk.f walk.env) (m : IsMade wal
         elim (later_fine b lb (ap (λ (i : ℕ). (inst_at f i).is_branch) (sym here) ∙ plain)) [
           | inr (k, r) ↦ read_shows f out ws v (InSlot n) k (agree ws path) (subst (λ (i : ℕ). ReadsInPlace f out v (InSlot n) i k) (sym here) r) undefined
               (record {
-                no_definition = λ j less def is. undefined j less def (own_alone env f ok.defined_once last out m owned v known n mine tame
+                no_definition = λ j less def is. undefined j less def (only_vreg_in_slot env f ok.defined_once last out m owned v known n mine sound_ops
                     (op_at (inst_at f (end_of f ws).inst).operands j).vreg
                     ((end_of f ws).inst, j, no_operand, inst_lt env f ok written v ws path, less, refl, is));
                 no_clobber = refl;

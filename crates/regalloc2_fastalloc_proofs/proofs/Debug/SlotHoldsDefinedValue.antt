@@ -32,14 +32,14 @@ use Rattle.regalloc2_semantics.proofs.Soundness.{well_formed_are_sound}
 use Rattle.regalloc2_fastalloc_state.specs.StateParts.{SlotsHaveOneOwner, slot_name}
 use Rattle.regalloc2_fastalloc_proofs.specs.InstSteps.{AllocsInst}
 use Rattle.regalloc2_fastalloc_proofs.proofs.Walk.InstBoundaries.{BranchKept, grown_pushes}
-use Rattle.regalloc2_fastalloc_proofs.proofs.Inst.OneInstCarries.{Alone, alone}
+use Rattle.regalloc2_fastalloc_proofs.proofs.Inst.OneInstCarries.{CarriesByItself, carries_by_itself}
 use Rattle.regalloc2_fastalloc_proofs.proofs.Branches.LocationsAfterBranch.{branch_kept}
-use Rattle.regalloc2_fastalloc_proofs.proofs.Operands.AllocsSoFar.{IsTame}
+use Rattle.regalloc2_fastalloc_proofs.proofs.Operands.AllocsSoFar.{AreSoundOperands}
 use Rattle.regalloc2_fastalloc_proofs.proofs.Safety.StoredDefs.{last_within}
-use Rattle.regalloc2_fastalloc_proofs.proofs.Safety.OutputOfWalk.{IsMade, made_in_order, place_is}
+use Rattle.regalloc2_fastalloc_proofs.proofs.Safety.OutputOfWalk.{IsOutputOfWalk, made_in_order, place_is}
 use Rattle.regalloc2_fastalloc_proofs.proofs.Safety.StepsKeepState.{place_in, slot_in}
 use Rattle.regalloc2_fastalloc_proofs.proofs.Operands.DefinedNumbers.{defined_by-at}
-use Rattle.regalloc2_fastalloc_proofs.proofs.Moves.StepsAppendEdits.{Pushes, none_pushed, one_pushed, pushed_walked}
+use Rattle.regalloc2_fastalloc_proofs.proofs.Moves.StepsAppendEdits.{AppendsEdits, none_pushed, one_pushed, pushed_walked}
 use Rattle.regalloc2_fastalloc_proofs.proofs.Walk.InstsCarry.{AreListed}
 use Rattle.regalloc2_fastalloc_proofs.proofs.Safety.BlocksKeepSafe.{MayInBlocks}
 use Rattle.regalloc2_fastalloc_proofs.proofs.Operands.RecordOverState.{opt_none}
@@ -51,8 +51,8 @@ use Rattle.regalloc2_fastalloc_proofs.specs.Located.{Absent}
 use Rattle.regalloc2_fastalloc_proofs.proofs.Debug.UnnamedStaysUnlocated.{whole_absent}
 use Rattle.regalloc2_fastalloc_proofs.proofs.Debug.InstOnPath.{Fronts, entered_front, onward_front, carried_on, behind, front, moves_on}
 use Rattle.regalloc2_fastalloc_proofs.proofs.Debug.PathStepLeaves.{read_shows}
-use Rattle.regalloc2_fastalloc_proofs.proofs.Debug.SlotAfterWalk.{DefinedShows, moves_where, own_alone}
-use Rattle.regalloc2_fastalloc_proofs.proofs.Debug.InstWithinWalk.{IsStart, IsBefore, IsUnnamedBefore, Met, meet}
+use Rattle.regalloc2_fastalloc_proofs.proofs.Debug.SlotAfterWalk.{DefinedShows, moves_where, only_vreg_in_slot}
+use Rattle.regalloc2_fastalloc_proofs.proofs.Debug.InstWithinWalk.{IsStart, IsBeforeInst, IsUnnamedBefore, Met, walk_reaches}
 use Rattle.regalloc2_fastalloc_proofs.proofs.Debug.WellFormedPaths.{op_is, inst_in, inst_lt, next_inside, within}
 use Rattle.regalloc2_fastalloc_proofs.proofs.Debug.DefWithMovesStores.{stores}
 use Rattle.regalloc2_fastalloc_proofs.proofs.Debug.MovesLeaveSlot.{moves_fine}
@@ -71,8 +71,8 @@ module _ (env : MachineValue) (f : FunctionValue) (limited : IsLimited f) (ok : 
   some_block = (let e : f.entry < length f.blocks = ok.successors.0 in omega (arith, e))
 
   -- nothing before its definition names a number
-  pub unnamed : (x i d : ℕ) → (inst_at f i).is_branch ≡ false → defined.DefinesAt f x i d → IsUnnamedBefore f x i
-  unnamed x i d plain at = record {
+  pub unnamed_before_definition : (x i d : ℕ) → (inst_at f i).is_branch ≡ false → defined.DefinesAt f x i d → IsUnnamedBefore f x i
+  unnamed_before_definition x i d plain at = record {
     insts = λ j less k c e.
         let lj : j < length f.insts = (let l = at.inst in omega (arith, less, l)) in
         elim c.1 [
@@ -113,7 +113,7 @@ module _ (env : MachineValue) (f : FunctionValue) (limited : IsLimited f) (ok : 
     ];
   }
 
-module _ (walk : WholeWalk) (m : IsMade walk.f walk.env (Made walk.f) (MayInBlocks walk.f) walk.last walk.out) where
+module _ (walk : WholeWalk) (m : IsOutputOfWalk walk.f walk.env (Made walk.f) (MayInBlocks walk.f) walk.last walk.out) where
   open walk use {env, f, limited, ok, blank, begin, last, out, empty, fit, walks}
 
   pub are_listed : AreListed f (allocs_of out) 0 out.allocs
@@ -125,7 +125,7 @@ module _ (walk : WholeWalk) (m : IsMade walk.f walk.env (Made walk.f) (MayInBloc
 
   -- the walk reaches each instruction
   pub met_at : (i : ℕ) → i < length f.insts → Met f (allocs_of out) blank begin i last
-  met_at i lt = meet (code_of (Made f) f (all_proper env f limited ok) (branch env f limited ok) ok.follow ok.end (allocs_of out)) blank begin i
+  met_at i lt = walk_reaches (code_of (Made f) f (all_proper env f limited ok) (branch env f limited ok) ok.follow ok.end (allocs_of out)) blank begin i
       (begin_between f begin empty fit) lt
       walks 0 (first_edge f ok.follow (some_block env f limited ok)) are_listed (omega arith)
 
@@ -133,8 +133,8 @@ module _ (walk : WholeWalk) (m : IsMade walk.f walk.env (Made walk.f) (MayInBloc
   pub listed_at : (i : ℕ) (w : Met f (allocs_of out) blank begin i last) → (IsStart f i → ⊥) →
       walked (inst_at f) (at_point (listed w.new.edits)) (allocs_of out) i 1 ≡ walked (inst_at f) (at_point out.edits) (allocs_of out) i 1
   listed_at i w never =
-      sym (pushed_walked (λ e. IsBefore f i e.0) (inst_at f) (allocs_of out) i 1 w.new.edits last.edits
-      (λ e h. elim h [ inl before_it ↦ before_it | inr at ↦ absurd (never at.1) ]) (grown_pushes (IsBefore f i) w.new last w.rest))
+      sym (pushed_walked (λ e. IsBeforeInst f i e.0) (inst_at f) (allocs_of out) i 1 w.new.edits last.edits
+      (λ e h. elim h [ inl before_it ↦ before_it | inr at ↦ absurd (never at.1) ]) (grown_pushes (IsBeforeInst f i) w.new last w.rest))
       ∙ ap (λ es. walked (inst_at f) (at_point es) (allocs_of out) i 1) (sym m.edits)
 
   -- what the listing carries from nowhere, it carries with any reloads and stores of a block's start in front
@@ -143,15 +143,15 @@ module _ (walk : WholeWalk) (m : IsMade walk.f walk.env (Made walk.f) (MayInBloc
       Carries v (walked (inst_at f) (at_point out.edits) (allocs_of out) i 1) (λ p. ⊥) E
   from_nowhere v E i w c =
       subst (λ es. Carries v (walked (inst_at f) (at_point es) (allocs_of out) i 1) (λ p. ⊥) E) (sym m.edits)
-      (pushed_carries v E i w.new.edits last.edits (grown_pushes (IsBefore f i) w.new last w.rest) c)
+      (pushed_carries v E i w.new.edits last.edits (grown_pushes (IsBeforeInst f i) w.new last w.rest) c)
     where
-      pushed_carries : (v : VirtualRegister) (E : Place → Type 0) (i : ℕ) (a b : List (ℕ × MoveValue)) → Pushes (λ e. IsBefore f i e.0) a b →
+      pushed_carries : (v : VirtualRegister) (E : Place → Type 0) (i : ℕ) (a b : List (ℕ × MoveValue)) → AppendsEdits (λ e. IsBeforeInst f i e.0) a b →
           Carries v (walked (inst_at f) (at_point (listed a)) (allocs_of out) i 1) (λ p. ⊥) E →
           Carries v (walked (inst_at f) (at_point (listed b)) (allocs_of out) i 1) (λ p. ⊥) E
       pushed_carries v E i a b none_pushed c = c
       pushed_carries v E i a b (one_pushed es e prev at) c = one_more v E i es e.0 e.1 at (pushed_carries v E i a es prev c)
         where
-          one_more : (v : VirtualRegister) (E : Place → Type 0) (i : ℕ) (es : List (ℕ × MoveValue)) (q : ℕ) (n : MoveValue) → IsBefore f i q →
+          one_more : (v : VirtualRegister) (E : Place → Type 0) (i : ℕ) (es : List (ℕ × MoveValue)) (q : ℕ) (n : MoveValue) → IsBeforeInst f i q →
               Carries v (walked (inst_at f) (at_point (listed es)) (allocs_of out) i 1) (λ p. ⊥) E →
               Carries v (walked (inst_at f) (at_point (listed (es ++ (q, n) ∷ []))) (allocs_of out) i 1) (λ p. ⊥) E
           one_more v E i es q n (inl sooner) c = subst (λ l. Carries v l (λ p. ⊥) E) (sym (walked-pushed (inst_at f) q n es (allocs_of out) i 1 sooner)) c
@@ -174,11 +174,11 @@ module _ (walk : WholeWalk) (m : IsMade walk.f walk.env (Made walk.f) (MayInBloc
       subst (AllocsInst i (inst_at f i) w.allocates.allocates.blank w.allocates.allocates.here w.old) (sym (w.allocates.no_branch plain))
       w.allocates.allocates.allocates
 
-  -- what such an instruction does by itself: the state before it, and what its listing carries
+  -- what an instruction that is no branch does by itself: the state before it, and what its listing carries
   pub by_itself : (i : ℕ) (w : Met f (allocs_of out) blank begin i last) → i < length f.insts → (inst_at f i).is_branch ≡ false →
-      Alone (proper_of (Made f) f (allocs_of out) (all_proper env f limited ok)) i w.old w.new
+      CarriesByItself (proper_of (Made f) f (allocs_of out) (all_proper env f limited ok)) i w.old w.new
   by_itself i w lt plain =
-      alone (proper_of (Made f) f (allocs_of out) (all_proper env f limited ok)) i w.allocates.allocates.blank w.allocates.allocates.here w.old w.new lt w.at
+      carries_by_itself (proper_of (Made f) f (allocs_of out) (all_proper env f limited ok)) i w.allocates.allocates.blank w.allocates.allocates.here w.old w.new lt w.at
       w.behind
       (allocated i w plain)
 
@@ -190,14 +190,14 @@ module _ (walk : WholeWalk) (m : IsMade walk.f walk.env (Made walk.f) (MayInBloc
   stored i d n lt plain onward less def mine =
       let v : VirtualRegister = (op_at (inst_at f i).operands d).vreg in
       let w : Met f (allocs_of out) blank begin i last = met_at i lt in
-      let here : Alone (proper_of (Made f) f (allocs_of out) (all_proper env f limited ok)) i w.old w.new = by_itself i w lt plain in
+      let here : CarriesByItself (proper_of (Made f) f (allocs_of out) (all_proper env f limited ok)) i w.old w.new = by_itself i w lt plain in
       let absent : Absent v.number w.new = whole_absent v.number w.new here.between.whole
       (opt_none (place_in w.new v.number) (here.ends.gone v.number (defined_by-at (inst_at f i).operands d less def))) in
       from_nowhere v (λ p. p ≡ InSlot n) i w
       (stores (proper_of (Made f) f (allocs_of out) (all_proper env f limited ok)) i w.allocates.allocates.blank w.allocates.allocates.here w.old w.new lt
       w.at w.behind
       (allocated i w plain) (rw (plain, onward) refl) d less def n
-      (sym (w.out v.number ((unnamed env f limited ok) v.number i d plain (record { inst = lt; operand = less; definition = def; number = refl })) absent).1 ∙
+      (sym (w.out v.number ((unnamed_before_definition env f limited ok) v.number i d plain (record { inst = lt; operand = less; definition = def; number = refl })) absent).1 ∙
       mine))
 
   module _ (written : IsWrittenFirst f) where
@@ -208,7 +208,7 @@ module _ (walk : WholeWalk) (m : IsMade walk.f walk.env (Made walk.f) (MayInBloc
     front_of (ToSuccessor k ∷ ws) path = (cells_before f out (ToSuccessor k ∷ ws), entered_front f out rising (ToSuccessor k ∷ ws) refl)
 
     module _ (agree : ReadsAgreeOnPaths f out) (owned : SlotsHaveOneOwner last.slots)
-        (tame : (i : ℕ) → i < length f.insts → IsTame (Made f) (inst_at f i).operands)
+        (sound_ops : (i : ℕ) → i < length f.insts → AreSoundOperands (Made f) (inst_at f i).operands)
         (v : VirtualRegister) (known : Made f v) (n : ℕ) (mine : slot_name last.slots v.number ≡ InSlot n) where
       -- before the moves of the next instruction
       behind_shows : (ws : List Way) → IsPath f (Onward ∷ ws) → DefinesAt f v (end_of f ws).inst →
@@ -229,7 +229,7 @@ module _ (walk : WholeWalk) (m : IsMade walk.f walk.env (Made walk.f) (MayInBloc
           fr.1
           (λ p h. absurd h) (InSlot n) refl
 
-      -- and once these moves have run
+      -- the slot holds the value once the moves after the instruction have run
       pub defined_shows : DefinedShows f out v n
       defined_shows ws path defines live plain =
           let i : ℕ = (end_of f ws).inst in
@@ -259,7 +259,7 @@ module _ (walk : WholeWalk) (m : IsMade walk.f walk.env (Made walk.f) (MayInBloc
             | inl none ↦ by_front ws path shown (subst (NoMoveTo p) (moves_before-first out next) none)
                 (onward_front f out rising ws (inst_in env f ok written v ws path.0).0)
             | inr (k, r) ↦ read_shows f out (Onward ∷ ws) v p k (agree (Onward ∷ ws) path) r undefined (record {
-              no_definition = λ j less def is. undefined j less def (own_alone env f ok.defined_once last out m owned v known n mine tame
+              no_definition = λ j less def is. undefined j less def (only_vreg_in_slot env f ok.defined_once last out m owned v known n mine sound_ops
                   (op_at (inst_at f next).operands j).vreg (next, j, no_operand, lt, less, refl, is));
               no_clobber = refl;
             })

@@ -16,13 +16,13 @@ use Rattle.regalloc2_fastalloc_proofs.proofs.Debug.PathStepLeaves.{source_on, ce
 
 -- Requirements on the function, which each well-formed one meets: a step that doesn't write v neither defines it nor enters a block
 -- that has it as a parameter; a branch has no next instruction in its block; and an instruction that uses v doesn't define it, and v is live there.
-pub record IsPlain (f : FunctionValue) (v : VirtualRegister) : Type 0 where
+pub record StepsArePlain (f : FunctionValue) (v : VirtualRegister) : Type 0 where
   pub undefined : (ws : List Way) (w : Way) → IsPath f (w ∷ ws) → (IsGiven f v ws w → ⊥) → Undefined (inst_at f (end_of f ws).inst).operands v
   pub aside : (ws : List Way) (w : Way) → IsPath f (w ∷ ws) → (IsGiven f v ws w → ⊥) → IsAside f v (end_of f ws) w
   pub onward : (ws : List Way) → IsPath f (Onward ∷ ws) → (inst_at f (end_of f ws).inst).is_branch ≡ false
   pub uses : (ws : List Way) → IsPath f ws → UsesAt f v (end_of f ws).inst → Undefined (inst_at f (end_of f ws).inst).operands v × IsLive f v (end_of f ws)
 
-module _ (f : FunctionValue) (out : OutputValue) (v : VirtualRegister) (plain : IsPlain f v) where
+module _ (f : FunctionValue) (out : OutputValue) (v : VirtualRegister) (plain : StepsArePlain f v) where
   -- a path that continues another has it as a prefix
   pub start_path : (start ws : List Way) → GoesOn f v start ws → IsPath f ws → IsPath f start
   start_path start ws there path = path
@@ -34,13 +34,13 @@ module _ (f : FunctionValue) (out : OutputValue) (v : VirtualRegister) (plain : 
   goes_live start ws (further w us g not) path live = goes_live start us g path.0
       (later (end_of f us) w path.1 (plain.undefined us w path not) (plain.aside us w path not) live)
 
-  -- and isn't defined at the first step, unless at the last
+  -- v isn't defined at the first step, unless at the last
   goes_undefined : (start ws : List Way) → GoesOn f v start ws → IsPath f ws → Undefined (inst_at f (end_of f ws).inst).operands v →
       Undefined (inst_at f (end_of f start).inst).operands v
   goes_undefined start ws there path h = h
   goes_undefined start ws (further w us g not) path h = goes_undefined start us g path.0 (plain.undefined us w path not)
 
-  -- and its last write stays the same
+  -- the last write of v stays the same
   pub goes_source : (start ws : List Way) → GoesOn f v start ws → IsPath f ws → source_before f ws v ≡ source_before f start v
   goes_source start ws there path = refl
   goes_source start ws (further w us g not) path = source_on f us w v (plain.undefined us w path not) (plain.aside us w path not)

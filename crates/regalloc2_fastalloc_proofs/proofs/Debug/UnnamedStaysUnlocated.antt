@@ -88,7 +88,7 @@ module _ (x : ℕ) where
   other_slot : (old new : SpillSlotsValue) (v : VirtualRegister) (s : Place) → GetsSpillSlot old new v s → Other v → slot_name new x ≡ slot_name old x
   other_slot old new v s g ne = g.others x (λ e. ne (sym e))
 
-  -- and keeps its slot, if it doesn't give it one
+  -- x keeps its slot over a change that doesn't give it one
   one_slot : (old new : StateValue) → Change Names old new → Absent x old → slot_name new.slots x ≡ slot_name old.slots x
   one_slot old new (evicted r v s lt held gives settles edits machine) a = other_slot old.slots new.slots v s gives (a.unheld r v lt held)
   one_slot old new (slot_given v s may gives places edits machine) a = other_slot old.slots new.slots v s gives may
@@ -118,10 +118,10 @@ module _ (x : ℕ) where
   other_placed ops k lt ne = record { gets = λ h. ne (lt, h); ends = λ h. ne (lt, inl h); starts = λ h p. ne (lt, inr h) }
 
   -- the first operands of a pass
-  pub processes_operands_at_out : {i : ℕ} {ret late : Bool} {ops : List OperandValue} {places : List Place} {t : InstRegs} {old : StateValue} (most : ℕ) →
+  pub processes_operands_at_out : {i : ℕ} {ends_block late : Bool} {ops : List OperandValue} {places : List Place} {t : InstRegs} {old : StateValue} (most : ℕ) →
       most ≤ length ops
       → ((k : ℕ) → k < most → Counts ops k → is_late (op_at ops k).position ≡ late → (op_at ops k).vreg.number ≢ x)
-      → {k : ℕ} {next : List Place} {u : InstRegs} {m : StateValue} → ProcessesOperandsAt i ret late ops places t old k next u m → k ≤ most → StaysOut old m
+      → {k : ℕ} {next : List Place} {u : InstRegs} {m : StateValue} → ProcessesOperandsAt i ends_block late ops places t old k next u m → k ≤ most → StaysOut old m
   processes_operands_at_out {ops} most few ne h le = changes_out (processes_operands_at_changes (λ p q. tt)
       (λ j lt at. other_placed ops j (omega (arith, lt, le, few)) (λ c. ne j (omega (arith, lt, le)) c at)) h)
 
@@ -140,7 +140,7 @@ module _ (x : ℕ) where
   begins_block_out f b old new ne unstored h =
       changes_out (begins_block_changes (record { moves = λ p q. tt; params = ne; stored = λ e k v edge is. unstored e k v edge is }) h)
 
-  -- it stays absent over a block's start, whatever is stored
+  -- x stays absent over a block's start, whatever is stored
   pub begins_block_absent : (f : FunctionValue) (b : ℕ) (old new : StateValue) →
       ((k : ℕ) → k < length (block_at f b).params → (slice_index_or (block_at f b).params k no_vreg).number ≢ x) → BeginsBlock f b old new → Absent x old
       → Absent x new
@@ -158,10 +158,10 @@ module _ (x : ℕ) where
   }) a)
 
   -- an operand of another number is placed
-  pub processes_operand_out : (i : ℕ) (ret : Bool) (ops : List OperandValue) (k : ℕ) (here there : List Place) (t u : InstRegs) (old new : StateValue) →
+  pub processes_operand_out : (i : ℕ) (ends_block : Bool) (ops : List OperandValue) (k : ℕ) (here there : List Place) (t u : InstRegs) (old new : StateValue) →
       k < length ops →
-      (Counts ops k → (op_at ops k).vreg.number ≢ x) → ProcessesOperand i ret ops k here there t u old new → StaysOut old new
-  processes_operand_out i ret ops k here there t u old new lt ne h = changes_out (processes_operand_changes (λ p q. tt) (other_placed ops k lt ne) h)
+      (Counts ops k → (op_at ops k).vreg.number ≢ x) → ProcessesOperand i ends_block ops k here there t u old new → StaysOut old new
+  processes_operand_out i ends_block ops k here there t u old new lt ne h = changes_out (processes_operand_changes (λ p q. tt) (other_placed ops k lt ne) h)
 
   -- a vreg that has no location in whole tables is absent
   pub whole_absent : (t : StateValue) → IsWhole t → alloc_of t.places x ≡ NoPlace → Absent x t
@@ -171,9 +171,9 @@ module _ (x : ℕ) where
   }
 
   -- a vreg that is defined is absent from then on
-  pub defined_absent : (point : ℕ) (v : VirtualRegister) (ret : Bool) (p : Place) (t u : InstRegs) (old new : StateValue) → v.number ≡ x →
-      (d : FreesAlloc point v ret p t u old new) → IsWhole old → Absent x d.left
-  defined_absent point v ret p t u old new same d w = record {
+  pub defined_absent : (point : ℕ) (v : VirtualRegister) (ends_block : Bool) (p : Place) (t u : InstRegs) (old new : StateValue) → v.number ≡ x →
+      (d : FreesAlloc point v ends_block p t u old new) → IsWhole old → Absent x d.left
+  defined_absent point v ends_block p t u old new same d w = record {
     nowhere = ap (alloc_of d.left.places) (sym same) ∙ d.settles.here;
     unheld = λ r y small held e. elim (settled_holder old.places d.left.places v y NoPlace r small d.settles held) [
       | inl a ↦ absurd (let z : NoPlace ≡ InRegister r = a.0 in cc)

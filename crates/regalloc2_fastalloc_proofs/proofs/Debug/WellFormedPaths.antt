@@ -1,4 +1,4 @@
--- Well-formed functions meet the requirements of `IsPlain`, and their paths are in their blocks.
+-- Well-formed functions meet the requirements of `StepsArePlain`, and their paths are in their blocks.
 use Rattle.std.proofs.Common.{ℕ, suc, ◌≡◌, ◌≢◌, ◌+◌, ◌<◌, ◌≤◌, Bool, true, false, List, [], ◌∷◌, length, refl, ap, ◌∙◌, inl, inr, subst, arith}
 use Rattle.std.specs.Prelude.{slice_index_or, Contains}
 use Rattle.std.proofs.lemmas.List.{get_or_default}
@@ -22,7 +22,7 @@ use Rattle.regalloc2_semantics.proofs.Order.{ends_within, stands_later, reads_la
 use Rattle.regalloc2_semantics.proofs.Paths.{block_within}
 use Rattle.regalloc2_semantics.proofs.Soundness.{well_formed_are_sound}
 use Rattle.regalloc2_fastalloc_proofs.proofs.Debug.MovesLeaveSlot.{inside_block}
-use Rattle.regalloc2_fastalloc_proofs.proofs.Debug.SlotHoldsToUses.{IsPlain}
+use Rattle.regalloc2_fastalloc_proofs.proofs.Debug.SlotHoldsToUses.{StepsArePlain}
 
 -- reading a list of operands at an index in range gives the operand at that index
 pub op_is : (ops : List OperandValue) (k : ℕ) (o : OperandValue) → k < length ops → slice_index_or ops k o ≡ o → op_at ops k ≡ o
@@ -35,16 +35,16 @@ unfolding names
 named_by true v p ps e rest h = (0, omega arith, is_vreg-true p v e)
 named_by false v p ps e rest h = (let r : Contains ps v = rest (rw e at h) in (suc r.0, omega (arith, r.1), r.2))
 
-named : (v : VirtualRegister) (ps : List VirtualRegister) → names v ps ≡ true → Contains ps v
+names_contains : (v : VirtualRegister) (ps : List VirtualRegister) → names v ps ≡ true → Contains ps v
 unfolding names
-named v [] h = absurd cc
-named v (p ∷ ps) h = named_by (is_vreg p v) v p ps refl (named v ps) h
+names_contains v [] h = absurd cc
+names_contains v (p ∷ ps) h = named_by (is_vreg p v) v p ps refl (names_contains v ps) h
 
 not_named : (v : VirtualRegister) (ps : List VirtualRegister) → (Contains ps v → ⊥) → names v ps ≡ false
 not_named v ps h = by (names v ps) refl
   where
     by : (b : Bool) → names v ps ≡ b → names v ps ≡ false
-    by true e = absurd (h (named v ps e))
+    by true e = absurd (h (names_contains v ps e))
     by false e = e
 
 module _ (env : MachineValue) (f : FunctionValue) (ok : IsWellFormed env f) (written : IsWrittenFirst f) (v : VirtualRegister) where
@@ -103,7 +103,7 @@ module _ (env : MachineValue) (f : FunctionValue) (ok : IsWellFormed env f) (wri
         read_there (end_of f ws) k less r u,
       )
 
-  -- and what passes v doesn't define it
+  -- a branch that passes v doesn't define it
   passes : (ws : List Way) → IsPath f ws → PassesAt f v (end_of f ws).inst → Undefined (inst_at f (end_of f ws).inst).operands v × IsLive f v (end_of f ws)
   passes ws path (b, k, lb, last, edge, has, other) =
       let i : ℕ = (end_of f ws).inst in
@@ -130,6 +130,6 @@ module _ (env : MachineValue) (f : FunctionValue) (ok : IsWellFormed env f) (wri
   use_finds ws path (inr (inl r)) = reads Late ws path r
   use_finds ws path (inr (inr p)) = passes ws path p
 
-  -- a well-formed, definitely assigned function satisfies `IsPlain`
-  pub plain_function : IsPlain f v
+  -- a well-formed, definitely assigned function satisfies `StepsArePlain`
+  pub plain_function : StepsArePlain f v
   plain_function = record { undefined = not_given; aside = goes_aside; onward = no_branch; uses = use_finds }

@@ -9,7 +9,7 @@ pub evicts_each_step : (point : ℕ) (xs rest rs : List Register) (t u : InstReg
     EvictsEach point xs t old u new → EvictsEach point rs t old u new
 evicts_each_step point xs rest rs t u old new none e h = subst (λ ys. EvictsEach point ys t old u new) (sym (ap (λ ys. xs ++ ys) none ∙ append-nil xs) ∙ e) h
 
--- evicting the registers of a list and then one more is evicting those of the list with that one at its end
+-- evicting the registers of a list and then r is evicting the registers of the list with r at its end
 pub evicts_each_more : (point : ℕ) (rs : List Register) (r : Register) (t u w : InstRegs) (old m new : StateValue) → EvictsEach point rs t old u m →
     EvictsPReg point r u w m new → EvictsEach point (rs ++ r ∷ []) t old w new
 evicts_each_more point rs r t u w old m new (none_left v l) c = one_more r [] v w w l new new c (none_left w new)

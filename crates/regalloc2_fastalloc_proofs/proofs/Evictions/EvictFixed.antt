@@ -12,8 +12,8 @@ use Rattle.regalloc2_names.specs.Place.{Place, InRegister}
 use Rattle.regalloc2_names.specs.Point.{after}
 use Rattle.regalloc2_semantics.specs.OperandsPlaced.{What, what_of, Share, read_first, written_after, Counts, Clear, Progress, Puts, at_begin}
 use Rattle.regalloc2_fastalloc_state.specs.declared.inst_regs.InstRegs.{InstRegs}
-use Rattle.regalloc2_steps.specs.declared.positions.Positions.{Positions}
-use Rattle.regalloc2_steps.specs.Positions.{positions_of}
+use Rattle.regalloc2_fastalloc_state.specs.declared.positions.Positions.{Positions}
+use Rattle.regalloc2_fastalloc_state.specs.Positions.{positions_of}
 use Rattle.regalloc2_function.specs.FunctionValue.{op_at}
 use Rattle.regalloc2_fastalloc_proofs.specs.InstSteps.{StateValue, SameMachine, AllocsScratchReg, dedicated_scratch, had, found, AddsMove, direct}
 use Rattle.regalloc2_fastalloc_proofs.specs.InstSteps.{through, EvictsPReg, empty, cleared, EvictsOtherVRegs, own, others, NeedsFixedReg}
@@ -102,7 +102,7 @@ evicts_preg_free b point r t u old new (empty none eu en) less f = free_same b t
 evicts_preg_free b point r t u old new (cleared v s m lt held gives settles edits machine order c) less f =
     adds_move_free b point v.class s (InRegister r) t u m new c less f
 
--- the same for an eviction that spares one vreg: its scratch register was available in b
+-- the scratch register of an eviction that spares one vreg was available in b
 pub evicts_other_vregs_free : (b : InstRegs) (point : ℕ) (r : Register) (v : VirtualRegister) (t u : InstRegs) (old new : StateValue) →
     EvictsOtherVRegs point r v t u old new → Less b t → WereFree b t → WereFree b u
 evicts_other_vregs_free b point r v t u old new (own w there same eu en) less f = free_same b t u eu f
@@ -181,7 +181,7 @@ takes_away ops b u old t k r o s m f free x c q (taken e) h =
 abbrev pub begun : (ℕ → Place) → (ℕ → Bool) → (ℕ → Bool) → Progress
 begun here claimed lived = record (at_begin here lived) { claimed = claimed }
 
--- the live vregs, while no operand is allocated: those that have a location
+-- the live vregs, while no operand is allocated: the vregs that have a location
 pub all_lived : (what : ℕ → What) (here : ℕ → Place) (claimed lived : ℕ → Bool) (t : StateValue) →
     Located what (begun here claimed lived) t → (x : ℕ) (p : Place) → stands_at t x ≡ Some p → lived x ≡ true
 all_lived what here claimed lived t st x p e = ⊎_elim
@@ -204,14 +204,14 @@ module _ (tail : BlockTail) where
 
   -- no operand is allocated
   abbrev pub Start : List OperandValue → (ℕ → Place) → (ℕ → Bool) → (ℕ → Bool) → Bool → InstRegs → StateValue → Type 0
-  Start ops here claimed lived ret u t = Ready tail ops (begun here claimed lived) ret u t
+  Start ops here claimed lived ends_block u t = Ready tail ops (begun here claimed lived) ends_block u t
 
   -- The fixed registers of the first k operands are emptied and claimed; b has the available registers from which all are removed.
-  pub record FixedUpTo (ops : List OperandValue) (lived : ℕ → Bool) (ret : Bool) (b : InstRegs) (old : StateValue) (k : ℕ) (u : InstRegs)
+  pub record FixedUpTo (ops : List OperandValue) (lived : ℕ → Bool) (ends_block : Bool) (b : InstRegs) (old : StateValue) (k : ℕ) (u : InstRegs)
       (t : StateValue) : Type 0 where
     pub here : ℕ → Place
     pub claimed : ℕ → Bool
-    pub ready : Start ops here claimed lived ret u t
+    pub ready : Start ops here claimed lived ends_block u t
     pub kept : Kept old t
     pub less : Less b u
     pub free : WereFree b u
@@ -221,13 +221,13 @@ module _ (tail : BlockTail) where
         (claimed j ≡ true) × (here j ≡ InRegister r)
 
   -- an operand is passed that claims nothing
-  pass_one : (ops : List OperandValue) (lived : ℕ → Bool) (ret : Bool) (b : InstRegs) (old : StateValue) (k : ℕ) (u w : InstRegs) (m t : StateValue) →
-      (x : FixedUpTo ops lived ret b old k u m) →
-      Start ops x.here x.claimed lived ret w t → Kept m t → Less u w → WereFree b w →
+  pass_one : (ops : List OperandValue) (lived : ℕ → Bool) (ends_block : Bool) (b : InstRegs) (old : StateValue) (k : ℕ) (u w : InstRegs) (m t : StateValue) →
+      (x : FixedUpTo ops lived ends_block b old k u m) →
+      Start ops x.here x.claimed lived ends_block w t → Kept m t → Less u w → WereFree b w →
       ((r : Register) → Counts ops k → (op_at ops k).constraint ≡ FixedReg r → ⊥) →
       ((j : ℕ) (r : Register) → Counts ops k → (op_at ops k).constraint ≡ Reuse j → (op_at ops j).constraint ≡ FixedReg r → ⊥) →
-      FixedUpTo ops lived ret b old (k + 1) w t
-  pass_one ops lived ret b old k u w m t x ready kept less free unfixed unnamed = record {
+      FixedUpTo ops lived ends_block b old (k + 1) w t
+  pass_one ops lived ends_block b old k u w m t x ready kept less free unfixed unnamed = record {
     here = x.here;
     claimed = x.claimed;
     ready = ready;
@@ -246,13 +246,13 @@ module _ (tail : BlockTail) where
   }
 
   -- an operand claims the register that was emptied for it
-  claim_one : (ops : List OperandValue) (lived : ℕ → Bool) (ret : Bool) (b : InstRegs) (old : StateValue) (k : ℕ) (r : Register) (u w : InstRegs)
-      (m t : StateValue) → Orderly ops → Reserved ops b old → AllocsAnyReg ops k r → Counts ops k → (x : FixedUpTo ops lived ret b old k u m) →
-      Start ops x.here x.claimed lived ret w t → Kept m t → Less u w → WereFree b w → ((v : ℕ) → place_in t v ≡ InRegister r → v ≡ (op_at ops k).vreg.number) →
+  claim_one : (ops : List OperandValue) (lived : ℕ → Bool) (ends_block : Bool) (b : InstRegs) (old : StateValue) (k : ℕ) (r : Register) (u w : InstRegs)
+      (m t : StateValue) → Orderly ops → Reserved ops b old → AllocsAnyReg ops k r → Counts ops k → (x : FixedUpTo ops lived ends_block b old k u m) →
+      Start ops x.here x.claimed lived ends_block w t → Kept m t → Less u w → WereFree b w → ((v : ℕ) → place_in t v ≡ InRegister r → v ≡ (op_at ops k).vreg.number) →
       ((q : Register) → (op_at ops k).constraint ≡ FixedReg q → r ≡ q) →
       ((j : ℕ) (q : Register) → (op_at ops k).constraint ≡ Reuse j → (op_at ops j).constraint ≡ FixedReg q → r ≡ q) →
-      FixedUpTo ops lived ret b old (k + 1) w t
-  claim_one ops lived ret b old k r u w m t o s takes counts x ready kept less free alone is_fixed is_named =
+      FixedUpTo ops lived ends_block b old (k + 1) w t
+  claim_one ops lived ends_block b old k r u w m t o s takes counts x ready kept less free only_vreg is_fixed is_named =
       let there : ℕ → Place = set_at x.here k (InRegister r) in
       let claimed2 : ℕ → Bool = and_one x.claimed k in
       let fresh : x.claimed k ≡ false = ⊎_elim (λ (c : x.claimed k ≡ true). let y = x.took k c in let lt : k < k = y.0 in absurd (omega arith))
@@ -265,12 +265,12 @@ module _ (tail : BlockTail) where
       let at : InRegister y.0 ≡ InRegister r = sym y.1 ∙ e in let same : y.0 ≡ r = cc in
       takes_share ops b old j k r o s (subst (AllocsAnyReg ops j) same y.2) takes in
       let st : Located (what_of ops) (begun there claimed2 lived) t =
-      claim_register (what_of ops) (begun x.here x.claimed lived) there claimed2 t k r puts clear alone
+      claim_register (what_of ops) (begun x.here x.claimed lived) there claimed2 t k r puts clear only_vreg
       (λ h. refl) ready.located in
       record {
         here = there;
         claimed = claimed2;
-        ready = ready_claim tail ops (begun x.here x.claimed lived) there claimed2 ret puts counts
+        ready = ready_claim tail ops (begun x.here x.claimed lived) there claimed2 ends_block puts counts
             (covers_at (op_at ops k).vreg.number (is_def (op_at ops k).kind) (is_late (op_at ops k).position))
             (takes_held ops b w old k r o s far takes)
             (λ q e. let same : r ≡ q = cc in subst (λ (y : Register). y.number < 64) same (s.small k r takes.at takes.within takes.claims))
@@ -305,13 +305,13 @@ module _ (tail : BlockTail) where
       }
 
   -- once the fixed registers of the first k operands are evicted, these operands claim them, and the record of the operands is kept
-  pub evicts_fixed_done : (ops : List OperandValue) (lived : ℕ → Bool) (ret : Bool) (b : InstRegs) (old : StateValue) → Orderly ops → Reserved ops b old →
-      FixedUpTo ops lived ret b old 0 b old →
-      (k : ℕ) (u : InstRegs) (t : StateValue) → EvictsFixed (after i) ops b old k u t → k ≤ length ops → FixedUpTo ops lived ret b old k u t
-  evicts_fixed_done ops lived ret b old o s begin k u t (none_cleared order used) = λ le. record {
+  pub evicts_fixed_done : (ops : List OperandValue) (lived : ℕ → Bool) (ends_block : Bool) (b : InstRegs) (old : StateValue) → Orderly ops → Reserved ops b old →
+      FixedUpTo ops lived ends_block b old 0 b old →
+      (k : ℕ) (u : InstRegs) (t : StateValue) → EvictsFixed (after i) ops b old k u t → k ≤ length ops → FixedUpTo ops lived ends_block b old k u t
+  evicts_fixed_done ops lived ends_block b old o s begin k u t (none_cleared order used) = λ le. record {
     here = begin.here;
     claimed = begin.claimed;
-    ready = ready_used tail ops (begun begin.here begin.claimed lived) ret b old order begin.ready;
+    ready = ready_used tail ops (begun begin.here begin.claimed lived) ends_block b old order begin.ready;
     kept = kept_used old old order begin.kept;
     less = begin.less;
     free = begin.free;
@@ -319,38 +319,38 @@ module _ (tail : BlockTail) where
     fixed = begin.fixed;
     fixed_reuse = begin.fixed_reuse;
   }
-  evicts_fixed_done ops lived ret b old o s begin k u t (not_fixed j w m prev unfixed unnamed) = λ le.
-      let x : FixedUpTo ops lived ret b old j u t = evicts_fixed_done ops lived ret b old o s begin j u t prev (omega arith) in
-      pass_one ops lived ret b old j u u t t x x.ready (kept_all t) (less_same u u refl) x.free (λ r c e. unfixed r e)
+  evicts_fixed_done ops lived ends_block b old o s begin k u t (not_fixed j w m prev unfixed unnamed) = λ le.
+      let x : FixedUpTo ops lived ends_block b old j u t = evicts_fixed_done ops lived ends_block b old o s begin j u t prev (omega arith) in
+      pass_one ops lived ends_block b old j u u t t x x.ready (kept_all t) (less_same u u refl) x.free (λ r c e. unfixed r e)
       (λ q r c e f. unnamed q r e (o.named j q (omega arith) e).0 f)
-  evicts_fixed_done ops lived ret b old o s begin k u t (of_fixed j r w y m p prev is clears) = λ le.
-      let x : FixedUpTo ops lived ret b old j w m = evicts_fixed_done ops lived ret b old o s begin j w m prev (omega arith) in
+  evicts_fixed_done ops lived ends_block b old o s begin k u t (of_fixed j r w y m p prev is clears) = λ le.
+      let x : FixedUpTo ops lived ends_block b old j w m = evicts_fixed_done ops lived ends_block b old o s begin j w m prev (omega arith) in
       let lt : j < length ops = omega arith in
-      let c = ready_evicts_other_vregs tail ops (begun x.here x.claimed lived) ret r
+      let c = ready_evicts_other_vregs tail ops (begun x.here x.claimed lived) ends_block r
       (op_at ops j).vreg w u m t clears
       (λ v at ne. (all_lived (what_of ops) x.here x.claimed lived m x.ready.located v (InRegister r) at, λ z. refl))
       x.ready in
       let free : WereFree b u = evicts_other_vregs_free b (after i) r (op_at ops j).vreg w u m t clears x.less x.free in
       ⊎_elim
       (λ (able : is_fixed_nonallocatable (op_at ops j) ≡ true).
-      pass_one ops lived ret b old j w u m t x c.0.ready c.0.kept c.0.less free
+      pass_one ops lived ends_block b old j w u m t x c.0.ready c.0.kept c.0.less free
       (λ q count e. let z : is_fixed_nonallocatable (op_at ops j) ≡ false = counts_able ops j o count in cc)
       (λ q z count e f. let y : FixedReg r ≡ Reuse q = sym is ∙ e in cc))
       (λ (able : is_fixed_nonallocatable (op_at ops j) ≡ false).
-      claim_one ops lived ret b old j r w u m t o s (record { within = lt; at = positions_of (op_at ops j); claims = of_its_own able is refl })
+      claim_one ops lived ends_block b old j r w u m t o s (record { within = lt; at = positions_of (op_at ops j); claims = of_its_own able is refl })
       (counts_by ops j lt able) x c.0.ready c.0.kept c.0.less free c.1
       (λ q e. let y : FixedReg r ≡ FixedReg q = sym is ∙ e in cc)
       (λ q z e f. let y : FixedReg r ≡ Reuse q = sym is ∙ e in absurd cc))
       (cases_Bool (is_fixed_nonallocatable (op_at ops j)))
-  evicts_fixed_done ops lived ret b old o s begin k u t (of_reuse j d r w y m p prev is within is_fixed clears) = λ le.
-      let x : FixedUpTo ops lived ret b old j w m = evicts_fixed_done ops lived ret b old o s begin j w m prev (omega arith) in
+  evicts_fixed_done ops lived ends_block b old o s begin k u t (of_reuse j d r w y m p prev is within is_fixed clears) = λ le.
+      let x : FixedUpTo ops lived ends_block b old j w m = evicts_fixed_done ops lived ends_block b old o s begin j w m prev (omega arith) in
       let lt : j < length ops = omega arith in
-      let c = ready_evicts_preg tail ops (begun x.here x.claimed lived) ret r w u m t clears
+      let c = ready_evicts_preg tail ops (begun x.here x.claimed lived) ends_block r w u m t clears
       (λ v at. (all_lived (what_of ops) x.here x.claimed lived m x.ready.located v (InRegister r) at, λ z. refl))
       x.ready in
       let free : WereFree b u = evicts_preg_free b (after i) r w u m t clears x.less x.free in
       let def = o.late_reuse j d lt is in
-      claim_one ops lived ret b old j r w u m t o s
+      claim_one ops lived ends_block b old j r w u m t o s
       (record { within = lt; at = record { early = false; late = true }; claims = of_named d is within is_fixed refl }) (lt, inl def.0) x c.0.ready c.0.kept
       c.0.less free
       (λ v at. absurd (c.1 v at))

@@ -20,7 +20,7 @@ use Rattle.regalloc2_fastalloc_proofs.specs.InstSteps.{StateValue, is_stack_in, 
 use Rattle.regalloc2_fastalloc_proofs.specs.InstSteps.{others, a_move}
 use Rattle.regalloc2_fastalloc_proofs.specs.Safety.{IsWhole}
 use Rattle.regalloc2_fastalloc_proofs.proofs.Safety.StepsKeepState.{place_in, slot_in, slot_no_register}
-use Rattle.regalloc2_fastalloc_proofs.proofs.Operands.RecordOverState.{stands_at, slots_at, opt, opt_from, Located, Owes, Shifts, shifts}
+use Rattle.regalloc2_fastalloc_proofs.proofs.Operands.RecordOverState.{stands_at, slots_at, opt, opt_from, Located, OwesPlaces, Shifts, shifts}
 use Rattle.regalloc2_fastalloc_proofs.proofs.Operands.RecordOverState.{shift_whole, shift_stands}
 use Rattle.regalloc2_fastalloc_proofs.proofs.Evictions.EvictVReg.{held_early, held_late, Kept, kept_all, shift_kept, Emptied, evicts_vreg_step}
 use Rattle.regalloc2_fastalloc_proofs.proofs.Moves.ScratchRegTaken.{IsIdle, IsScratch, of_machine, taken, Fit, Spare, spare_same, spare_kept, spare_more}
@@ -60,7 +60,7 @@ module _ (tail : BlockTail) where
   pub record Cleared (what : ℕ → What) (far : Progress) (r : Register)
       (u : InstRegs) (old new : StateValue) : Type 0 where
     pub located : Located what far new
-    pub owes : Owes tail far.lived far.out far.made_at (stands_at new) (slots_at new) new.edits
+    pub owes : OwesPlaces tail far.lived far.out far.made_at (stands_at new) (slots_at new) new.edits
     pub held : Held what far.here far.claimed (held_early u) (held_late u)
     pub emptied : (x : ℕ) → place_in new x ≡ InRegister r → ⊥
     pub kept : Kept old new
@@ -71,8 +71,8 @@ module _ (tail : BlockTail) where
       (s : Place) (t new : StateValue) →
       (r ≡ by → ⊥) → s ≢ NoPlace → Located what far t → IsIdle far.here far.claimed far.made_at by t → stands_at t v ≡ Some s →
       ((x : ℕ) → place_in t x ≡ InRegister r → ⊥) → ((u : ℕ) → far.made_at (InRegister r) u ≡ false) →
-      Owes tail far.lived far.out far.made_at (put (stands_at t) v (Some (InRegister r))) (slots_at t) t.edits →
-      Owes tail far.lived far.out far.made_at (stands_at t) (slots_at t)
+      OwesPlaces tail far.lived far.out far.made_at (put (stands_at t) v (Some (InRegister r))) (slots_at t) t.edits →
+      OwesPlaces tail far.lived far.out far.made_at (stands_at t) (slots_at t)
       (t.edits ++ a_move (after i) (InRegister by) (InRegister r) ∷ a_move (after i) s (InRegister by) ∷ [])
   through_owes what far v r by s t new apart real st idle alloc_of nobody_there clear o =
       let L : List Item = after_part insts (listed t.edits) placesf i n in
@@ -123,7 +123,7 @@ module _ (tail : BlockTail) where
       ((x : ℕ) → stands_at old x ≡ Some (InRegister r) → (far.lived x ≡ true) × ((w : ℕ) → far.made_at (InRegister r) w ≡ false)) →
       Spare far.here far.claimed far.made_at t old → Fit old →
       Held what far.here far.claimed (held_early t) (held_late t) →
-      Located what far old → Owes tail far.lived far.out far.made_at (stands_at old) (slots_at old) old.edits →
+      Located what far old → OwesPlaces tail far.lived far.out far.made_at (stands_at old) (slots_at old) old.edits →
       Cleared what far r u old new
   evicts_preg_step what far r t u old new (empty none eu en) may sp f h st o =
       subst (Cleared what far r u old) (sym en) (record {
@@ -164,14 +164,14 @@ module _ (tail : BlockTail) where
       let k : Kept old m = shift_kept old m v r s g settles.others settles.here gives.others machine in
       let spm : Spare far.here far.claimed far.made_at t m = spare_kept far.here far.claimed far.made_at t old m k sp in
       let T : ℕ → Option Place = put (stands_at m) v.number (Some (InRegister r)) in
-      let there : Owes tail far.lived far.out far.made_at T (slots_at old) old.edits =
+      let there : OwesPlaces tail far.lived far.out far.made_at T (slots_at old) old.edits =
       owes_same tail far.lived far.out far.made_at (stands_at old) T (slots_at old) old.edits
       (λ x. elim (cases_eq x v.number) [
         | inl d ↦ (put_same (stands_at m) v.number (Some (InRegister r)) x d ∙ sym g.was ∙ ap (stands_at old) (sym d))
         | inr d ↦ (put_other (stands_at m) v.number (Some (InRegister r)) x d ∙ g.same x d)
       ]) o in
-      let om : Owes tail far.lived far.out far.made_at T (slots_at m) m.edits =
-      subst (Owes tail far.lived far.out far.made_at T (slots_at m)) (sym edits)
+      let om : OwesPlaces tail far.lived far.out far.made_at T (slots_at m) m.edits =
+      subst (OwesPlaces tail far.lived far.out far.made_at T (slots_at m)) (sym edits)
       (record {
         later = there.later;
         claims = need_slot Known E (after_part insts (listed old.edits) placesf i n) far.lived far.out far.made_at T (slots_at old) (slots_at m)
@@ -203,7 +203,7 @@ module _ (tail : BlockTail) where
           };
           placed = sb.located.placed;
           below = sb.located.below;
-          calm = sb.located.calm;
+          unclobbered = sb.located.unclobbered;
         };
         owes = done_it;
         held = sb.held;
@@ -237,9 +237,9 @@ module _ (tail : BlockTail) where
   pub record Owned (what : ℕ → What) (far : Progress) (r : Register)
       (v : VirtualRegister) (u : InstRegs) (old new : StateValue) : Type 0 where
     pub located : Located what far new
-    pub owes : Owes tail far.lived far.out far.made_at (stands_at new) (slots_at new) new.edits
+    pub owes : OwesPlaces tail far.lived far.out far.made_at (stands_at new) (slots_at new) new.edits
     pub held : Held what far.here far.claimed (held_early u) (held_late u)
-    pub alone : (x : ℕ) → place_in new x ≡ InRegister r → x ≡ v.number
+    pub only_vreg : (x : ℕ) → place_in new x ≡ InRegister r → x ≡ v.number
     pub kept : Kept old new
     pub scratch_reserve : Spare far.here far.claimed far.made_at u new
 
@@ -249,14 +249,14 @@ module _ (tail : BlockTail) where
       ((x : ℕ) → stands_at old x ≡ Some (InRegister r) → (x ≡ v.number → ⊥) → (far.lived x ≡ true) × ((w : ℕ) → far.made_at (InRegister r) w ≡ false)) →
       Spare far.here far.claimed far.made_at t old → Fit old →
       Held what far.here far.claimed (held_early t) (held_late t) →
-      Located what far old → Owes tail far.lived far.out far.made_at (stands_at old) (slots_at old) old.edits →
+      Located what far old → OwesPlaces tail far.lived far.out far.made_at (stands_at old) (slots_at old) old.edits →
       Owned what far r v u old new
   evicts_other_vregs_step what far r v t u old new (own w there same eu en) may sp f h st o =
       subst (Owned what far r v u old) (sym en) (record {
         located = st;
         owes = o;
         held = subst (λ (y : InstRegs). Held what far.here far.claimed (held_early y) (held_late y)) (sym eu) h;
-        alone = λ x g. let y = st.whole.stands_in x r g in let z : Some y.1.0 ≡ Some w = sym y.1.2 ∙ there in let one : y.1.0 ≡ w = cc in sym y.1.1
+        only_vreg = λ x g. let y = st.whole.stands_in x r g in let z : Some y.1.0 ≡ Some w = sym y.1.2 ∙ there in let one : y.1.0 ≡ w = cc in sym y.1.1
             ∙ ap (λ (q : VirtualRegister). q.number) one ∙ same;
         kept = kept_all old;
         scratch_reserve = spare_same far.here far.claimed far.made_at t u old old eu refl sp;
@@ -268,7 +268,7 @@ module _ (tail : BlockTail) where
         located = c.located;
         owes = c.owes;
         held = c.held;
-        alone = λ x g. absurd (c.emptied x g);
+        only_vreg = λ x g. absurd (c.emptied x g);
         kept = c.kept;
         scratch_reserve = c.scratch_reserve;
       }

@@ -13,7 +13,7 @@ use Rattle.regalloc2_fastalloc_state.specs.declared.inst_regs.InstRegs.{InstRegs
 use Rattle.regalloc2_fastalloc_proofs.specs.InstSteps.{StateValue, SameMachine, EvictsVReg, nobody, moved}
 use Rattle.regalloc2_fastalloc_proofs.specs.Safety.{IsWhole}
 use Rattle.regalloc2_fastalloc_proofs.proofs.Safety.StepsKeepState.{place_in, slot_in}
-use Rattle.regalloc2_fastalloc_proofs.proofs.Operands.RecordOverState.{stands_at, slots_at, opt_from, Located, Owes, Shifts, shifts, shift_whole, shift_stands}
+use Rattle.regalloc2_fastalloc_proofs.proofs.Operands.RecordOverState.{stands_at, slots_at, opt_from, Located, OwesPlaces, Shifts, shifts, shift_whole, shift_stands}
 use Rattle.regalloc2_fastalloc_proofs.proofs.Operands.RecordOverState.{shift_owes}
 use Rattle.regalloc2_fastalloc_proofs.proofs.Operands.BlockTail.{BlockTail}
 
@@ -117,7 +117,7 @@ module _ (tail : BlockTail) where
   pub record Emptied (what : ℕ → What) (far : Progress) (r : Register)
       (old new : StateValue) : Type 0 where
     pub located : Located what far new
-    pub owes : Owes tail far.lived far.out far.made_at (stands_at new) (slots_at new) new.edits
+    pub owes : OwesPlaces tail far.lived far.out far.made_at (stands_at new) (slots_at new) new.edits
     pub empty : (x : ℕ) → place_in new x ≡ InRegister r → ⊥
     pub others : (x : ℕ) → (place_in old x ≡ InRegister r → ⊥) → place_in new x ≡ place_in old x
     pub kept : Kept old new
@@ -126,7 +126,7 @@ module _ (tail : BlockTail) where
   pub evicts_vreg_step : (what : ℕ → What) (far : Progress) (r : Register)
       (old new : StateValue) → EvictsVReg (after i) r old new →
       ((x : ℕ) → stands_at old x ≡ Some (InRegister r) → (far.lived x ≡ true) × ((u : ℕ) → far.made_at (InRegister r) u ≡ false)) →
-      Located what far old → Owes tail far.lived far.out far.made_at (stands_at old) (slots_at old) old.edits →
+      Located what far old → OwesPlaces tail far.lived far.out far.made_at (stands_at old) (slots_at old) old.edits →
       Emptied what far r old new
   evicts_vreg_step what far r old new (nobody none same) may st o =
       subst (Emptied what far r old) (sym same) (record {
@@ -142,7 +142,7 @@ module _ (tail : BlockTail) where
       let m = may v.number h.was in
       record {
         located = shift_stands old new v r s w h what far m.0 st;
-        owes = subst (Owes tail far.lived far.out far.made_at (stands_at new) (slots_at new)) (sym edits)
+        owes = subst (OwesPlaces tail far.lived far.out far.made_at (stands_at new) (slots_at new)) (sym edits)
             (shift_owes tail old new v r s h far.lived far.out far.made_at old.edits m.1 o);
         empty = h.empty;
         others = λ x ne. settles.others x (λ e. ne (opt_from (place_in old x) (InRegister r) (ap (stands_at old) e ∙ h.was)));

@@ -8,7 +8,7 @@ use Rattle.regalloc2_names.specs.declared.OperandPos.TheVariants.{Early, Late}
 use Rattle.regalloc2_function.specs.FunctionValue.{InstValue, no_operand, op_at}
 use Rattle.regalloc2_names.specs.Operand.{is_def, is_late}
 use Rattle.regalloc2_function.specs.WellFormed.{FixedAvoidClobbers}
-use Rattle.regalloc2_steps.specs.declared.positions.Positions.{Positions}
+use Rattle.regalloc2_fastalloc_state.specs.declared.positions.Positions.{Positions}
 use Rattle.regalloc2_fastalloc_proofs.specs.InstSteps.{own, named}
 use Rattle.regalloc2_fastalloc_proofs.proofs.Inst.BoundaryToFirstOperand.{AvoidClobbers}
 

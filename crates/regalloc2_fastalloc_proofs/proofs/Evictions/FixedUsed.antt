@@ -20,7 +20,7 @@ evicts_fixed_from first (not_fixed j w m prev a b) = not_fixed j w m (evicts_fix
 evicts_fixed_from first (of_fixed j r w x m n prev is clears) = of_fixed j r w x m n (evicts_fixed_from first prev) is clears
 evicts_fixed_from first (of_reuse j l r w x m n prev a b c clears) = of_reuse j l r w x m n (evicts_fixed_from first prev) a b c clears
 
--- or one of the fixed registers can't be emptied
+-- emptying the fixed registers fails if it fails once they are the most recently used
 pub fails_from : {point : ℕ} {operands : List OperandValue} {t : InstRegs} {old : StateValue} {order : List (List Register)} →
     NoneUsed operands old.lrus order → EvictFixed point operands t (record old { lrus = order }) no_register → EvictFixed point operands t old no_register
 fails_from first s = record {

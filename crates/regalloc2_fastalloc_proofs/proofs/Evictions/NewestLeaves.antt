@@ -18,14 +18,14 @@ slot_only count (InRegister r) h = absurd h
 slot_only count (InSlot n) h = refl
 
 -- moving a vreg to its slot adds no vreg to the front of the list
-left_alone : (old new : VRegAllocsValue) (v : VirtualRegister) (s : Place) (count : ℕ) → IsSlotOrNone count s → SetsAlloc old new v s →
+order_after : (old new : VRegAllocsValue) (v : VirtualRegister) (s : Place) (count : ℕ) → IsSlotOrNone count s → SetsAlloc old new v s →
     new.in_registers ≡ without v.number old.in_registers
-left_alone old new v s count slot z = z.order
+order_after old new v s count slot z = z.order
     ∙ ap (λ b. in_front_if b v (without v.number old.in_registers)) (slot_only count s slot)
 
 no_longer : (old new : VRegAllocsValue) (v : VirtualRegister) (s : Place) (count : ℕ) → IsSlotOrNone count s → SetsAlloc old new v s →
     length new.in_registers ≤ length old.in_registers
-no_longer old new v s count slot z = rw (left_alone old new v s count slot z) (length_kept (λ w. not (nat_eq w.number v.number)) old.in_registers)
+no_longer old new v s count slot z = rw (order_after old new v s count slot z) (length_kept (λ w. not (nat_eq w.number v.number)) old.in_registers)
 
 -- an eviction doesn't make the list longer
 evicts_vreg_no_longer : (point : ℕ) (by : Register) (old new : StateValue) → EvictsVReg point by old new →
@@ -41,7 +41,7 @@ allocs_scratch_reg_no_longer point class t u by old new (dedicated_scratch d e f
 allocs_scratch_reg_no_longer point class t u by old new (had d h e f) = rw f (omega arith)
 allocs_scratch_reg_no_longer point class t u by old new (found d n may e l he hl s evicts) = evicts_vreg_no_longer point by old new evicts
 
--- nor does adding a move
+-- adding a move brings no vreg to a register
 adds_move_no_longer : (point : ℕ) (class : RegClass) (from to : Place) (t u : InstRegs) (old new : StateValue) → AddsMove point class from to t u old new →
     length new.places.in_registers ≤ length old.places.in_registers
 adds_move_no_longer point class from to t u old new (direct b e f) = rw f (omega arith)
@@ -57,5 +57,5 @@ newest_leaves point by t u old new (cleared v s m small h gives settles edits ma
     let self : nat_eq v.number v.number ≡ true = eq-eqb v.number v.number refl in
     let less : length (without v.number old.places.in_registers) < length old.places.in_registers =
     shorter (λ w. not (nat_eq w.number v.number)) old.places.in_registers v there (ap not self) in
-    let one : length m.places.in_registers < length old.places.in_registers = rw (left_alone old.places m.places v s m.slots.count gives.below settles) less in
+    let one : length m.places.in_registers < length old.places.in_registers = rw (order_after old.places m.places v s m.slots.count gives.below settles) less in
     let two = adds_move_no_longer point v.class s (InRegister by) t u m new crosses in omega (arith, one, two)

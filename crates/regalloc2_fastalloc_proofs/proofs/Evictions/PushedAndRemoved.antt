@@ -25,7 +25,7 @@ sets_alloc_stays_empty old new v s r lt slot settles none =
     either true o e = refl
     either false o e = e
 
--- and its own register is empty afterwards
+-- the register of a vreg that moves to a slot is empty afterwards
 pub sets_alloc_empties : (old new : VRegAllocsValue) (v : VirtualRegister) (s : Place) (r : Register) → r.number < 64 → (s ≡ InRegister r → ⊥) →
     alloc_of old v.number ≡ InRegister r → SetsAlloc old new v s → vreg_of_preg new r ≡ None
 sets_alloc_empties old new v s r lt slot there settles =

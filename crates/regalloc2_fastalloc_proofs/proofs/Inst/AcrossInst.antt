@@ -23,7 +23,7 @@ use Rattle.regalloc2_fastalloc_state.specs.StateParts.{SpillSlotsValue, slot_nam
 use Rattle.regalloc2_fastalloc_proofs.specs.InstSteps.{StateValue}
 use Rattle.regalloc2_fastalloc_proofs.specs.Safety.{IsWhole}
 use Rattle.regalloc2_fastalloc_proofs.proofs.Safety.StepsKeepState.{place_in, slot_in, away_holds, away_stands, arrive_holds, arrive_stands, slot_no_register}
-use Rattle.regalloc2_fastalloc_proofs.proofs.Operands.RecordOverState.{opt, opt_some, opt_from, opt_real, stands_at, slots_at, Located, Owes}
+use Rattle.regalloc2_fastalloc_proofs.proofs.Operands.RecordOverState.{opt, opt_some, opt_from, opt_real, stands_at, slots_at, Located, OwesPlaces}
 use Rattle.regalloc2_fastalloc_proofs.proofs.Operands.BlockTail.{BlockTail}
 
 -- the slots stay
@@ -85,10 +85,10 @@ use_arrives what far done2 old new k v u same real nowhere unmade z slots w st =
         same = λ x n. ap opt (z.others x (λ e. n (e ∙ sym same)));
       }) st.placed);
   below = λ j m cj e. subst (λ (s : SpillSlotsValue). m < s.count) (sym slots) (st.below j m cj e);
-  calm = st.calm;
+  unclobbered = st.unclobbered;
 }
 
--- the live vregs when an instruction begins: those that have a location
+-- the live vregs when an instruction begins: the vregs that have a location
 abbrev pub lives_in : StateValue → ℕ → Bool
 lives_in t x = is_some (stands_at t x)
 
@@ -99,7 +99,7 @@ begin_stands what here t w = record {
   whole = w;
   placed = begin_all what here (lives_in t) (stands_at t) (slots_at t) (λ x. refl);
   below = λ j k c e. absurd cc;
-  calm = λ k. refl;
+  unclobbered = λ k. refl;
 }
 
 module _ (tail : BlockTail) where
@@ -108,7 +108,7 @@ module _ (tail : BlockTail) where
   -- the listing from the next instruction on
   pub begin_owes : (t : StateValue) → AllFrom (before (i + 1)) (listed t.edits) →
       Claims Known (walked insts (at_point (listed t.edits)) placesf (i + 1) n) (Need (lives_in t) (λ x. false) (λ p x. false) (stands_at t) (slots_at t)) E →
-      Owes tail (lives_in t) (λ x. false) (λ p x. false) (stands_at t) (slots_at t) t.edits
+      OwesPlaces tail (lives_in t) (λ x. false) (λ p x. false) (stands_at t) (slots_at t) t.edits
   begin_owes t later c = record {
     later = all_from-less (after i) (before (i + 1)) (listed t.edits) (omega arith) later;
     claims = subst (λ l. Claims Known l (Need (lives_in t) (λ x. false) (λ p x. false) (stands_at t) (slots_at t)) E)
@@ -119,7 +119,7 @@ module _ (tail : BlockTail) where
   pub cross_stands : (ops : List OperandValue) (places : List Place) (clobbers : PRegSet) (far : Progress) (t : StateValue) →
       Knows Known ops → Once (Counts ops) (what_of ops) → AreAllPlaced ops places far →
       ((p : Place) → far.clobbered p ≡ false → is_clobbered clobbers p ≡ false) →
-      Located (what_of ops) far t → Owes tail far.lived far.out far.made_at (stands_at t) (slots_at t) t.edits →
+      Located (what_of ops) far t → OwesPlaces tail far.lived far.out far.made_at (stands_at t) (slots_at t) t.edits →
       Claims Known (Exec ops places clobbers ∷ after_part insts (listed t.edits) placesf i n)
       (Pending (what_of ops) far.here far.done far.out (stands_at t) (slots_at t) 0) E
   cross_stands ops places clobbers far t knows once all clobbered st o =
@@ -127,10 +127,10 @@ module _ (tail : BlockTail) where
       knows st.placed once all
       (record {
         listed = clobbered;
-        slots = λ w p e. slot_calm p (slot_in t w) (st.whole.below w) (opt_from (slot_in t w) p e) (opt_real (slot_in t w) p e);
+        slots = λ w p e. slot_unclobbered p (slot_in t w) (st.whole.below w) (opt_from (slot_in t w) p e) (opt_real (slot_in t w) p e);
       }) o.claims
     where
-      slot_calm : (p q : Place) → IsSlotOrNone t.slots.count q → q ≡ p → p ≢ NoPlace → far.clobbered p ≡ false
-      slot_calm NoPlace q b e ne = absurd (ne refl)
-      slot_calm (InRegister r) q b e ne = absurd (slot_no_register t.slots.count q r b e)
-      slot_calm (InSlot m) q b e ne = st.calm m
+      slot_unclobbered : (p q : Place) → IsSlotOrNone t.slots.count q → q ≡ p → p ≢ NoPlace → far.clobbered p ≡ false
+      slot_unclobbered NoPlace q b e ne = absurd (ne refl)
+      slot_unclobbered (InRegister r) q b e ne = absurd (slot_no_register t.slots.count q r b e)
+      slot_unclobbered (InSlot m) q b e ne = st.unclobbered m

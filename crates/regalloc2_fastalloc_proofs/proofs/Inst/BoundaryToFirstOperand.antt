@@ -18,13 +18,13 @@ use Rattle.regalloc2_semantics.specs.BlockByPoints.{AllFrom, at_point, walked, l
 use Rattle.regalloc2_semantics.specs.OperandsPlaced.{What, what_of, Progress, Need}
 use Rattle.regalloc2_semantics.proofs.MoveInFront.{after_part-clean}
 use Rattle.regalloc2_fastalloc_state.specs.declared.inst_regs.InstRegs.{InstRegs}
-use Rattle.regalloc2_steps.specs.declared.positions.Positions.{Positions}
-use Rattle.regalloc2_steps.specs.Positions.{positions_of}
+use Rattle.regalloc2_fastalloc_state.specs.declared.positions.Positions.{Positions}
+use Rattle.regalloc2_fastalloc_state.specs.Positions.{positions_of}
 use Rattle.regalloc2_fastalloc_proofs.specs.InstSteps.{StateValue, NeedsFixedReg, own, named, ReservesRegs, RemovesClobbers, EvictsEach, none_left, one_more}
 use Rattle.regalloc2_fastalloc_proofs.specs.InstSteps.{AllocsInst, ends_block}
 use Rattle.regalloc2_fastalloc_proofs.specs.Safety.{IsWhole}
 use Rattle.regalloc2_fastalloc_proofs.proofs.Safety.StepsKeepState.{place_in}
-use Rattle.regalloc2_fastalloc_proofs.proofs.Operands.RecordOverState.{opt_from, stands_at, slots_at, Located, Owes}
+use Rattle.regalloc2_fastalloc_proofs.proofs.Operands.RecordOverState.{opt_from, stands_at, slots_at, Located, OwesPlaces}
 use Rattle.regalloc2_fastalloc_proofs.proofs.Evictions.EvictVReg.{Kept, kept_all}
 use Rattle.regalloc2_fastalloc_proofs.proofs.Moves.ScratchRegTaken.{of_machine, taken, Fit, Less, less_same, less_then, and_none}
 use Rattle.regalloc2_fastalloc_proofs.proofs.Evictions.EvictPReg.{kept_then}
@@ -65,7 +65,7 @@ pub clob_stands : (what : ℕ → What) (far : Progress) (clob2 : Place → Bool
     ((j : ℕ) → far.claimed j ≡ true → ((what j).is_def ≡ true) ⊎ ((what j).is_late ≡ true) → clob2 (far.here j) ≡ false) →
     ((w : ℕ) (p : Place) → stands_at t w ≡ Some p → clob2 p ≡ false) → ((k : ℕ) → clob2 (InSlot k) ≡ false) →
     Located what far t → Located what (record far { clobbered = clob2 }) t
-clob_stands what far clob2 t kept cleared calm st = record {
+clob_stands what far clob2 t kept cleared unclobbered st = record {
   whole = st.whole;
   placed = record {
     there = st.placed.there;
@@ -85,7 +85,7 @@ clob_stands what far clob2 t kept cleared calm st = record {
     makes = st.placed.makes;
   };
   below = st.below;
-  calm = calm;
+  unclobbered = unclobbered;
 }
 
 late_by : (d l : Bool) → (d ≡ true) ⊎ (l ≡ true) → (d || l) ≡ true
@@ -102,31 +102,31 @@ module _ (Known : VirtualRegister → Type 0) (insts : ℕ → InstValue) (place
     pub fit : Fit t
     pub apart : (c : RegClass) (b : Register) → slice_index_or t.dedicated_scratch (class_code c) None ≡ Some b → (x : ℕ) → place_in t x ≡ InRegister b → ⊥
 
-  -- the same, from every slot
+  -- `CarriedBut` from every slot
   abbrev pub Carried : ℕ → ℕ → StateValue → Type 0
   Carried = CarriedBut (λ x. false)
 
-  -- What is listed after a return carries each known vreg from nowhere.
+  -- What is listed after an instruction that ends its block carries each known vreg from nowhere.
   abbrev pub EndsHere : ℕ → ℕ → Bool → StateValue → Type 0
-  EndsHere i n ret t = ret ≡ true → Claims Known (walked insts (at_point (listed t.edits)) placesf i n) (λ x p. ⊥) E
+  EndsHere i n ends_block t = ends_block ≡ true → Claims Known (walked insts (at_point (listed t.edits)) placesf i n) (λ x p. ⊥) E
 
 module _ (tail : BlockTail) where
   open tail use {Known, insts, placesf, i, n, E}
 
   -- after an instruction, with nothing reserved or claimed, the record of its operands holds
-  pub start : (ops : List OperandValue) (ret : Bool) (b : InstRegs) (t : StateValue) → Carried Known insts placesf E (i + 1) n t → EndsHere Known insts
-      placesf E (i + 1) n ret t →
+  pub start : (ops : List OperandValue) (ends_block : Bool) (b : InstRegs) (t : StateValue) → Carried Known insts placesf E (i + 1) n t → EndsHere Known insts
+      placesf E (i + 1) n ends_block t →
       b.scratch ≡ None ∷ None ∷ None ∷ [] →
-      FixedUpTo tail ops (lives_in t) ret b t 0 b t
-  start ops ret b t c ends none =
-      let owes : Owes tail (lives_in t) (λ x. false) (λ p x. false) (stands_at t) (slots_at t) t.edits = begin_owes tail t c.later c.claims in
+      FixedUpTo tail ops (lives_in t) ends_block b t 0 b t
+  start ops ends_block b t c ends none =
+      let owes : OwesPlaces tail (lives_in t) (λ x. false) (λ p x. false) (stands_at t) (slots_at t) t.edits = begin_owes tail t c.later c.claims in
       record {
         here = λ j. NoPlace;
         claimed = λ j. false;
         ready = record {
           located = begin_stands (what_of ops) (λ j. NoPlace) t c.whole;
           owes = owes;
-          nothing = λ e. subst (λ l. Claims Known l (λ x p. ⊥) E) (sym (after_part-clean insts (listed t.edits) placesf i n c.later)) (ends e);
+          nowhere_needed = λ e. subst (λ l. Claims Known l (λ x p. ⊥) E) (sym (after_part-clean insts (listed t.edits) placesf i n c.later)) (ends e);
           held = record { early_uses = λ j x u. absurd cc; early_defs = λ j x u. absurd cc; late_defs = λ j x u. absurd cc; late_uses = λ j x u. absurd cc };
           scratch_reserve = record {
             idle = λ d q is. elim is [
@@ -151,23 +151,23 @@ module _ (tail : BlockTail) where
       }
 
   -- registers are emptied one after another
-  pub record Quieted (ops : List OperandValue) (here : ℕ → Place) (claimed lived : ℕ → Bool) (ret : Bool) (rs : List Register) (t u : InstRegs)
+  pub record Quieted (ops : List OperandValue) (here : ℕ → Place) (claimed lived : ℕ → Bool) (ends_block : Bool) (rs : List Register) (t u : InstRegs)
       (old new : StateValue) : Type 0 where
-    pub ready : Start tail ops here claimed lived ret u new
+    pub ready : Start tail ops here claimed lived ends_block u new
     pub kept : Kept old new
     pub less : Less t u
     pub emptied : (r : Register) → Contains rs r → (x : ℕ) → place_in new x ≡ InRegister r → ⊥
 
   -- evicting a list of registers, such as the clobbers, keeps the record, and leaves no vreg in any of them
-  pub all_cleared : (ops : List OperandValue) (here : ℕ → Place) (claimed lived : ℕ → Bool) (ret : Bool) (rs : List Register) (t u : InstRegs)
+  pub all_cleared : (ops : List OperandValue) (here : ℕ → Place) (claimed lived : ℕ → Bool) (ends_block : Bool) (rs : List Register) (t u : InstRegs)
       (old new : StateValue) → EvictsEach (after i) rs t old u new →
-      Start tail ops here claimed lived ret t old → Quieted ops here claimed lived ret rs t u old new
-  all_cleared ops here claimed lived ret rs t u old new (none_left w m) =
+      Start tail ops here claimed lived ends_block t old → Quieted ops here claimed lived ends_block rs t u old new
+  all_cleared ops here claimed lived ends_block rs t u old new (none_left w m) =
       λ s. record { ready = s; kept = kept_all old; less = less_same t t refl; emptied = λ r c x e. let lt : c.0 < 0 = c.1 in absurd (omega arith) }
-  all_cleared ops here claimed lived ret rs t u old new (one_more q qs t1 w u1 old1 m new1 clears rest) = λ s.
-      let c = ready_evicts_preg tail ops (begun here claimed lived) ret q t w old m clears
+  all_cleared ops here claimed lived ends_block rs t u old new (one_more q qs t1 w u1 old1 m new1 clears rest) = λ s.
+      let c = ready_evicts_preg tail ops (begun here claimed lived) ends_block q t w old m clears
       (λ v at. (all_lived (what_of ops) here claimed lived old s.located v (InRegister q) at, λ z. refl)) s in
-      let y : Quieted ops here claimed lived ret qs w u m new = all_cleared ops here claimed lived ret qs w u m new rest c.0.ready in
+      let y : Quieted ops here claimed lived ends_block qs w u m new = all_cleared ops here claimed lived ends_block qs w u m new rest c.0.ready in
       record {
         ready = y.ready;
         kept = kept_then old m new c.0.kept y.kept;
@@ -181,11 +181,11 @@ module _ (tail : BlockTail) where
       by_index (suc k) r lt e x at others first = others r (k, omega arith, e) x at
 
   -- the operands may be allocated
-  pub opened : (inst : InstValue) (blank places : List Place) (old new : StateValue) → Orderly inst.operands → AvoidClobbers inst.operands inst.clobbers →
+  pub ready_for_operands : (inst : InstValue) (blank places : List Place) (old new : StateValue) → Orderly inst.operands → AvoidClobbers inst.operands inst.clobbers →
       EndsHere Known insts placesf E (i + 1) n (ends_block inst) old → Carried Known insts placesf E (i + 1) n old →
       (a : AllocsInst i inst blank places old new) →
       Laid tail inst.operands (lives_in old) (is_clobbered inst.clobbers) (ends_block inst) true 0 blank a.quiet a.after_clobbers
-  opened inst blank places old new o v ends c a =
+  ready_for_operands inst blank places old new o v ends c a =
       let ops : List OperandValue = inst.operands in
       let none : a.prepares.held.scratch ≡ None ∷ None ∷ None ∷ [] = a.prepares.holds.scratch ∙ a.prepares.reserves.scratch ∙ a.fresh.scratch in
       let x : FixedUpTo tail ops (lives_in old) (ends_block inst) a.prepares.held old (length ops) a.prepares.cleared a.prepares.middle =
@@ -216,7 +216,7 @@ module _ (tail : BlockTail) where
               (λ w p e. quiet_there p w (opt_from (place_in a.after_clobbers w) p e) y.ready.located.whole y.emptied)
               (λ k. refl) y.ready.located;
           owes = y.ready.owes;
-          nothing = y.ready.nothing;
+          nowhere_needed = y.ready.nowhere_needed;
           held = y.ready.held;
           scratch_reserve = y.ready.scratch_reserve;
           fit = y.ready.fit;

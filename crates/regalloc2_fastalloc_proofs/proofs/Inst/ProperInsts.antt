@@ -13,13 +13,13 @@ use Rattle.regalloc2_fastalloc_proofs.proofs.Operands.WellFormedInsts as well_fo
 use Rattle.regalloc2_fastalloc_proofs.proofs.Evictions.FixedAvoidClobbers as fixed
 use Rattle.regalloc2_fastalloc_proofs.proofs.Inst.BoundaryToFirstOperand.{AvoidClobbers}
 
--- each one's operands are orderly, no fixed register is a clobber where that matters, and the vregs that they name are known
+-- each instruction's operands are orderly, no fixed register is a clobber where that matters, and the vregs that they name are known
 pub record ProperInsts (Known : VirtualRegister → Type 0) (f : FunctionValue) : Type 0 where
   pub orderly : (i : ℕ) → i < length f.insts → Orderly (inst_at f i).operands
   pub avoids : (i : ℕ) → i < length f.insts → AvoidClobbers (inst_at f i).operands (inst_at f i).clobbers
   pub knows : (i : ℕ) → i < length f.insts → Knows Known (inst_at f i).operands
 
--- A function of such instructions, with the places of its operands. Known: the known vregs.
+-- A function whose instructions are proper, with the places of its operands. Known: the vregs, one for each number.
 pub record ProperCode : Type 1 where
   pub Known : VirtualRegister → Type 0
   pub f : FunctionValue
@@ -30,7 +30,7 @@ pub record ProperCode : Type 1 where
 abbrev pub proper_of : (Known : VirtualRegister → Type 0) (f : FunctionValue) → (ℕ → List Place) → ProperInsts Known f → ProperCode
 proper_of Known f placesf proper = record { Known = Known; f = f; placesf = placesf; proper = proper }
 
--- in a well-formed function all instructions are so, and the vregs that they name are defined somewhere
+-- in a well-formed function all instructions are proper, and the vregs that they name are defined somewhere
 pub all_proper : (env : MachineValue) (f : FunctionValue) → IsLimited f → IsWellFormed env f → ProperInsts (Made f) f
 all_proper env f limited ok = record {
   orderly = well_formed.orderly env f limited ok;

@@ -23,10 +23,10 @@ use Rattle.regalloc2_parts.specs.declared.scratch_pool.ScratchPair.{ScratchPair}
 use Rattle.regalloc2_parts.specs.declared.scratch_pool.ScratchPool.{ScratchPool}
 use Rattle.regalloc2_fastalloc_state.specs.StateParts.{SpillSlotsValue, AllocatableRegsValue, IsLeastRecentIn, SlotsHaveOneOwner, AddsTempSlots, later_end}
 use Rattle.regalloc2_fastalloc_state.specs.StateParts.{later_slot, units_of, owners}
-use Rattle.regalloc2_steps.specs.Units.{most_units}
+use Rattle.regalloc2_fastalloc_state.specs.StateParts.{most_units}
 use Rattle.regalloc2_fastalloc_state.specs.OutOfResources.{SlotsExhaustedWith}
 use Rattle.regalloc2_fastalloc_state.specs.InstRegs.{IsAvailableAt}
-use Rattle.regalloc2_steps.specs.Positions.{both_positions}
+use Rattle.regalloc2_fastalloc_state.specs.Positions.{both_positions}
 use Rattle.regalloc2_fastalloc_proofs.specs.InstSteps.{StateValue, MayHold}
 use Rattle.regalloc2_fastalloc_state.specs.ScratchPool.{Moves, IsOfScratchPair, IsScratchTaken, DoDiffer, IsUsableFor, IsOrderedWith, HasTooFewSlots, AreThere}
 use Rattle.regalloc2_fastalloc_proofs.specs.BranchSteps.{AreNextTempSlots, MayBeScratch, IsScratchRegFor, RegsAvoidStack, IsSlotBelow, AreBetweenSlots}
@@ -108,7 +108,7 @@ module _ (s : SpillSlotsValue) (class : RegClass) (pair : ScratchPair) (next : A
       | inr nz ↦ (let e = lends.some (taken - 1) (omega (arith, nz)) in omega (arith, e))
     ]
 
-    -- and a temporary slot that is taken is below the new count
+    -- a temporary slot that is taken is below the new count
     pub taken_below : (p : Place) → IsScratchTaken pair taken p → (k : ℕ) × (p ≡ InSlot k) × (s.count ≤ k) × (k < new.count) × (j : ℕ)
         × (k ≡ later_slot s class j)
         × (later_end s class j ≤ new.count)

@@ -21,13 +21,13 @@ use Rattle.regalloc2_fastalloc_state.specs.declared.inst_regs.InstRegs.{InstRegs
 use Rattle.regalloc2_fastalloc_proofs.specs.InstSteps.{StateValue, EvictsVReg, nobody, moved, AllocsScratchReg, dedicated_scratch, had, found, a_move}
 use Rattle.regalloc2_fastalloc_proofs.specs.Safety.{IsWhole}
 use Rattle.regalloc2_fastalloc_proofs.proofs.Safety.StepsKeepState.{place_in}
-use Rattle.regalloc2_fastalloc_proofs.proofs.Operands.RecordOverState.{stands_at, slots_at, opt_from, Located, Owes, Shifts, shifts, shift_whole, shift_stands}
+use Rattle.regalloc2_fastalloc_proofs.proofs.Operands.RecordOverState.{stands_at, slots_at, opt_from, Located, OwesPlaces, Shifts, shifts, shift_whole, shift_stands}
 use Rattle.regalloc2_fastalloc_proofs.proofs.Operands.RecordOverState.{later_push}
 use Rattle.regalloc2_fastalloc_proofs.proofs.Evictions.EvictVReg.{held_early, held_late, Kept, kept_all, shift_kept}
 use Rattle.regalloc2_fastalloc_proofs.proofs.Moves.ScratchRegTaken.{IsIdle, IsScratch, of_machine, taken, less_early, less_late, held_keeps, free_unclaimed}
 use Rattle.regalloc2_fastalloc_proofs.proofs.Operands.BlockTail.{BlockTail}
 
--- one number is put elsewhere
+-- a table in which one number is put elsewhere
 abbrev pub put : (ℕ → Option Place) → ℕ → Option Place → ℕ → Option Place
 put T v c = λ x. cond (nat_eq x v) c (T x)
 
@@ -56,7 +56,7 @@ shift_but old new u r s v c h apart other = record {
   };
   alone = λ x e. elim (cases_eq x v) [
     | inl d ↦ absurd (other (sym (put_same (stands_at old) v c x d) ∙ e))
-    | inr d ↦ h.alone x (sym (put_other (stands_at old) v c x d) ∙ e)
+    | inr d ↦ h.only_vreg x (sym (put_other (stands_at old) v c x d) ∙ e)
   ];
   no_slot = λ x e. h.no_slot x r e;
 }
@@ -66,7 +66,7 @@ module _ (tail : BlockTail) where
 
   -- what is needed depends only on numbers
   pub owes_same : (lived out : ℕ → Bool) (X : Place → ℕ → Bool) (T U S : ℕ → Option Place) (edits : List (ℕ × MoveValue)) → ((x : ℕ) → U x ≡ T x) →
-      Owes tail lived out X T S edits → Owes tail lived out X U S edits
+      OwesPlaces tail lived out X T S edits → OwesPlaces tail lived out X U S edits
   owes_same lived out X T U S edits same o = record {
     later = o.later;
     claims = claims_weaken Known E (after_part insts (listed edits) placesf i n) (Need lived out X T S) (Need lived out X U S)
@@ -77,10 +77,10 @@ module _ (tail : BlockTail) where
   pub evict_but : (lived out : ℕ → Bool) (X : Place → ℕ → Bool) (r : Register) (old new : StateValue) (v : ℕ) (c : Option Place) →
       EvictsVReg (after i) r old new → IsWhole old →
       (c ≡ Some (InRegister r) → ⊥) → (place_in old v ≡ InRegister r → ⊥) → ((u : ℕ) → X (InRegister r) u ≡ false) →
-      Owes tail lived out X (put (stands_at old) v c) (slots_at old) old.edits →
-      Owes tail lived out X (put (stands_at new) v c) (slots_at new) new.edits
+      OwesPlaces tail lived out X (put (stands_at old) v c) (slots_at old) old.edits →
+      OwesPlaces tail lived out X (put (stands_at new) v c) (slots_at new) new.edits
   evict_but lived out X r old new v c (nobody none same) w other away clear o =
-      subst (λ (t : StateValue). Owes tail lived out X (put (stands_at t) v c) (slots_at t) t.edits) (sym same) o
+      subst (λ (t : StateValue). OwesPlaces tail lived out X (put (stands_at t) v c) (slots_at t) t.edits) (sym same) o
   evict_but lived out X r old new v c (moved u s lt held gives settles edits machine order) w other away clear o =
       let h : Shifts old new u r s = shifts old new u r s lt held gives settles w in
       let apart : u.number ≡ v → ⊥ = λ e. away (opt_from (place_in old v) (InRegister r) (ap (stands_at old) (sym e) ∙ h.was)) in
@@ -103,7 +103,7 @@ module _ (tail : BlockTail) where
   pub record ScratchedBut (what : ℕ → What) (far : Progress) (need : ℕ → Bool)
       (u : InstRegs) (by : Register) (v : ℕ) (c : Option Place) (old new : StateValue) : Type 0 where
     pub located : Located what far new
-    pub owes : Owes tail far.lived need far.made_at (put (stands_at new) v c) (slots_at new) new.edits
+    pub owes : OwesPlaces tail far.lived need far.made_at (put (stands_at new) v c) (slots_at new) new.edits
     pub held : Held what far.here far.claimed (held_early u) (held_late u)
     pub idle : IsIdle far.here far.claimed far.made_at by new
     pub kept : Kept old new
@@ -142,7 +142,7 @@ module _ (tail : BlockTail) where
   stayed_but : (what : ℕ → What) (far : Progress) (need : ℕ → Bool) (t u : InstRegs)
       (by : Register) (v : ℕ) (c : Option Place) (old new : StateValue) → u ≡ t → new ≡ old →
       IsIdle far.here far.claimed far.made_at by old → Held what far.here far.claimed (held_early t) (held_late t) →
-      Located what far old → Owes tail far.lived need far.made_at (put (stands_at old) v c) (slots_at old) old.edits →
+      Located what far old → OwesPlaces tail far.lived need far.made_at (put (stands_at old) v c) (slots_at old) old.edits →
       ScratchedBut what far need u by v c old new
   stayed_but what far need t u by v c old new eu en idle h st o =
       subst (ScratchedBut what far need u by v c old) (sym en) (record {
@@ -159,7 +159,7 @@ module _ (tail : BlockTail) where
       {class : RegClass} {t u : InstRegs} {by : Register} {v : ℕ} {c : Option Place} {old new : StateValue} → AllocsScratchReg (after i) class t u by old new →
       ((b : Register) → IsScratch class t old b → IsIdle far.here far.claimed far.made_at b old) → Held what far.here far.claimed (held_early t) (held_late t) →
       (c ≡ Some (InRegister by) → ⊥) → (place_in old v ≡ InRegister by → ⊥) →
-      Located what far old → Owes tail far.lived need far.made_at (put (stands_at old) v c) (slots_at old) old.edits →
+      Located what far old → OwesPlaces tail far.lived need far.made_at (put (stands_at old) v c) (slots_at old) old.edits →
       ScratchedBut what far need u by v c old new
   scratch_but {what} {far} {need} {t} {u} {by} {v} {c} {old} {new} (dedicated_scratch own eu en) idle h other away st o =
       stayed_but what far need t u by v c old new eu en (idle by (of_machine own)) h st o

@@ -25,14 +25,14 @@ pub data IsScratch (class : RegClass) (u : InstRegs) (t : StateValue) (by : Regi
   of_machine : slice_index_or t.dedicated_scratch (class_code class) None ≡ Some by → IsScratch class u t by
   taken : slice_index_or u.scratch (class_code class) None ≡ Some by → IsScratch class u t by
 
--- the machine's registers: allocatable ones, fixed stack slots and those reserved for moves are disjoint, and have numbers below 64
+-- the machine's registers: allocatable ones, fixed stack slots and the ones reserved for moves are disjoint, and have numbers below 64
 pub record Fit (t : StateValue) : Type 0 where
   pub small : (r : Register) → (has_register t.allocatable r ≡ true) ⊎ (has_register t.fixed_stack r ≡ true) → r.number < 64
   pub stack_apart : (r : Register) → has_register t.allocatable r ≡ true → has_register t.fixed_stack r ≡ false
   pub own_apart : (c : RegClass) (b : Register) → slice_index_or t.dedicated_scratch (class_code c) None ≡ Some b → (has_register t.allocatable b ≡ false)
       × (has_register t.fixed_stack b ≡ false)
 
--- scratch registers are idle; those that were taken at this instruction are allocatable, and held at both positions
+-- scratch registers are idle; the ones taken at this instruction are allocatable, and held at both positions
 pub record Spare (here : ℕ → Place) (claimed : ℕ → Bool) (X : Place → ℕ → Bool) (u : InstRegs) (t : StateValue) : Type 0 where
   pub idle : (c : RegClass) (b : Register) → IsScratch c u t b → IsIdle here claimed X b t
   pub own : (c : RegClass) (b : Register) → slice_index_or u.scratch (class_code c) None ≡ Some b → has_register t.allocatable b ≡ true
@@ -127,7 +127,7 @@ pub spare_same : (here : ℕ → Place) (claimed : ℕ → Bool) (X : Place → 
     Spare here claimed X t old → Spare here claimed X u new
 spare_same here claimed X t u old new eu en s = subst (λ (y : InstRegs). Spare here claimed X y new) (sym eu) (subst (Spare here claimed X t) (sym en) s)
 
--- one more scratch register
+-- scratch registers stay spare with one more
 pub spare_more : (here : ℕ → Place) (claimed : ℕ → Bool) (X : Place → ℕ → Bool) (point : ℕ) (class : RegClass) (t u : InstRegs) (by : Register)
     (old new : StateValue) → AllocsScratchReg point class t u by old new →
     IsIdle here claimed X by new → Kept old new → Spare here claimed X t old → Spare here claimed X u new

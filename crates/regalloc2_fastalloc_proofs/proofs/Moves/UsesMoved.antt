@@ -131,23 +131,23 @@ module _ (tail : BlockTail) (item : Item) where
       stayed_before what far k t u by old new eu en (s by (taken own)) h st p
   scratch_before what far k class t u by old new (found none unset may early late less_e less_l set evicts) s h st p =
       let free : FreeAt (held_early t) (held_late t) true true (InRegister by) = record { free_early = λ x. ap not early; free_late = λ x. ap not late } in
-      let alone : (j : ℕ) → far.claimed j ≡ true → far.here j ≡ InRegister by → ⊥ = free_unclaimed what far.here far.claimed t by early late h in
+      let unclaimed : (j : ℕ) → far.claimed j ≡ true → far.here j ≡ InRegister by → ⊥ = free_unclaimed what far.here far.claimed t by early late h in
       let y = scratch_idle what far (stands_at old) (slots_at old) (held_early t) (held_late t) (InRegister by) h free
       st.placed in
       let e : EmptiedBefore what far k by old new = evict_before what far k by old new evicts y.0
-      alone st p in
+      unclaimed st p in
       record {
         located = e.located;
         pends = e.pends;
         held = held_keeps what far.here far.claimed (held_early t) (held_late t) (held_early u) (held_late u) (less_early t u by less_e)
             (less_late t u by less_l) h;
-        idle = record { no_allocs = e.empty; clear = y.1; unclaimed = alone };
+        idle = record { no_allocs = e.empty; clear = y.1; unclaimed = unclaimed };
         kept = e.kept;
         others = e.others;
       }
 
-  -- uses are moved, except for those from k on
-  pub record Moves (what : ℕ → What) (far : Progress) (k : ℕ) (u : InstRegs)
+  -- the uses before k are moved
+  pub record UsesMovedFrom (what : ℕ → What) (far : Progress) (k : ℕ) (u : InstRegs)
       (base t : StateValue) : Type 0 where
     pub located : Located what far t
     pub pends : Pends what far.here far.done far.out (stands_at t) (slots_at t) k t.edits
@@ -159,7 +159,7 @@ module _ (tail : BlockTail) (item : Item) where
   -- an operand is passed that isn't moved
   pub move_passed : (what : ℕ → What) (far : Progress) (k : ℕ) (u : InstRegs)
       (base t : StateValue) → (far.done k ≡ true → (what k).is_def ≡ true) →
-      Moves what far k u base t → Moves what far (k + 1) u base t
+      UsesMovedFrom what far k u base t → UsesMovedFrom what far (k + 1) u base t
   move_passed what far k u base t def m = record {
     located = m.located;
     pends = record {
@@ -190,16 +190,16 @@ module _ (tail : BlockTail) (item : Item) where
             (st.placed.apart j k (st.placed.claims j dj) c e);
       }
 
-  -- one use is moved
+  -- one use is moved to its place
   pub move_one : (what : ℕ → What) (far : Progress) (k : ℕ)
       (class : RegClass) (u w : InstRegs) (base m t : StateValue) → far.done k ≡ true → (what k).is_def ≡ false →
       AddsMoveIf (before i) class (not (is_place (place_in m (what k).number) (far.here k))) (place_in m (what k).number) (far.here k) u w m t →
-      Moves what far k u base m → Moves what far (k + 1) w base t
+      UsesMovedFrom what far k u base m → UsesMovedFrom what far (k + 1) w base t
   move_one what far k class u w base m t d us (unsent made eu en) v =
       let f : IsMoved what far (stands_at m) (slots_at m) k (place_in m (what k).number) = use_facts what far k m d us v.located in
       let same : place_in m (what k).number ≡ far.here k = is_place-true (place_in m (what k).number) (far.here k)
       (not-false (is_place (place_in m (what k).number) (far.here k)) made) in
-      subst (Moves what far (k + 1) w base) (sym en) (record {
+      subst (UsesMovedFrom what far (k + 1) w base) (sym en) (record {
         located = v.located;
         pends = record {
           later = v.pends.later;
@@ -216,7 +216,7 @@ module _ (tail : BlockTail) (item : Item) where
       let q : Place = place_in m (what k).number in
       let es : List (ℕ × MoveValue) = m.edits ++ a_move (before i) q (far.here k) ∷ [] in
       let kept : Kept m (record m { edits = es }) = kept_edits m m es (kept_all m) in
-      subst (Moves what far (k + 1) w base) (sym en) (record {
+      subst (UsesMovedFrom what far (k + 1) w base) (sym en) (record {
         located = stands_edits what far m es v.located;
         pends = pends_push what far.here far.done far.out (stands_at m) (slots_at m) (k + 1) m.edits q (far.here k) v.pends.later
             (pend_move what far (stands_at m) (slots_at m) k q f Known E
@@ -258,7 +258,7 @@ module _ (tail : BlockTail) (item : Item) where
       placesf i n
       item) in
       let kept : Kept m (record m2 { edits = es }) = kept_edits m m2 es s.kept in
-      subst (Moves what far (k + 1) w base) (sym en) (record {
+      subst (UsesMovedFrom what far (k + 1) w base) (sym en) (record {
         located = stands_edits what far m2 es s.located;
         pends = record {
           later = subst (λ xs. AllFrom (before i) (listed xs)) (append_assoc m2.edits (a_move (before i) (InRegister by) (far.here k) ∷ [])
@@ -277,9 +277,9 @@ module _ (tail : BlockTail) (item : Item) where
 
   -- all uses among the first k
   pub moves_uses_done : (ops : List OperandValue) (places : List Place) (far : Progress) (u : InstRegs) (base : StateValue) →
-      AreAllPlaced ops places far → Moves (what_of ops) far 0 u base base →
+      AreAllPlaced ops places far → UsesMovedFrom (what_of ops) far 0 u base base →
       (k : ℕ) (w : InstRegs) (t : StateValue) → MovesUses (before i) ops places u base k w t → k ≤ length ops →
-      Moves (what_of ops) far k w base t
+      UsesMovedFrom (what_of ops) far k w base t
   moves_uses_done ops places far u base all begin k w t none_moved = λ le. begin
   moves_uses_done ops places far u base all begin k w t (not_moved x s m prev reads) = λ le.
       move_passed (what_of ops) far x w base t

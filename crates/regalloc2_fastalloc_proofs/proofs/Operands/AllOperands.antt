@@ -14,12 +14,12 @@ use Rattle.regalloc2_fastalloc_proofs.proofs.Operands.UsesAndPlainDefs.{reads_no
 use Rattle.regalloc2_fastalloc_proofs.proofs.Operands.ReuseDefs.{laid_reuse}
 
 module _ (laying : LayingContext) where
-  open laying use {tail, ops, lived, clob, ret, orderly}
+  open laying use {tail, ops, lived, clob, ends_block, orderly}
   open laying.tail use {Known, insts, placesf, i, n, E}
 
   -- the record of the operands of this instruction before operand k is allocated in a pass
   abbrev pub LaidAt : Bool → ℕ → List Place → InstRegs → StateValue → Type 0
-  LaidAt = Laid tail ops lived clob ret
+  LaidAt = Laid tail ops lived clob ends_block
 
   aside_not : (k : ℕ) → k < length ops → is_fixed_nonallocatable (op_at ops k) ≡ true → Counts ops k → ⊥
   aside_not k lt f c = elim c.1 [
@@ -30,7 +30,7 @@ module _ (laying : LayingContext) where
   -- an operand of this pass
   pub laid_one_more : (late : Bool) (k : ℕ) (list next : List Place) (u w : InstRegs) (old new : StateValue) → k < length ops
       → is_late (op_at ops k).position ≡ late →
-      ProcessesOperand i ret ops k list next u w old new → LaidAt late k list u old → LaidAt late (k + 1) next w new
+      ProcessesOperand i ends_block ops k list next u w old new → LaidAt late k list u old → LaidAt late (k + 1) next w new
   laid_one_more late k list next u w old new lt inst_regs (a_register r f c e eu en) L =
       let x : LaidAt late (k + 1) (slice_set list k (InRegister r)) u old = laid_aside laying late k list u old L
       (InRegister r) (aside_not k lt f) in
@@ -47,7 +47,7 @@ module _ (laying : LayingContext) where
 
   -- a pass
   pub laid_all : (late : Bool) (here : List Place) (t : InstRegs) (old : StateValue) (k : ℕ) (list : List Place) (u : InstRegs) (m : StateValue) →
-      ProcessesOperandsAt i ret late ops here t old k list u m → k ≤ length ops →
+      ProcessesOperandsAt i ends_block late ops here t old k list u m → k ≤ length ops →
       LaidAt late 0 here t old → LaidAt late k list u m
   laid_all late here t old k list u m none_placed = λ le L. L
   laid_all late here t old k list u m (of_other j there v q before other) = λ le L.
@@ -87,10 +87,10 @@ module _ (laying : LayingContext) where
     written = L.written;
   }
 
-  -- both passes
+  -- the pass over late operands and the pass over early ones
   pub laid_both : (blank half places : List Place) (quiet late early : InstRegs) (before middle after_it : StateValue) →
-      ProcessesOperandsAt i ret true ops blank quiet before (length ops) half late middle →
-      ProcessesOperandsAt i ret false ops half late middle (length ops) places early after_it → LaidAt true 0 blank quiet before →
+      ProcessesOperandsAt i ends_block true ops blank quiet before (length ops) half late middle →
+      ProcessesOperandsAt i ends_block false ops half late middle (length ops) places early after_it → LaidAt true 0 blank quiet before →
       LaidAt false (length ops) places early after_it
   laid_both blank half places quiet late early before middle after_it a b L =
       laid_all false half late middle (length ops) places early after_it b (omega arith)

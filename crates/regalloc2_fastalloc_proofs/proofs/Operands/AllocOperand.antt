@@ -31,7 +31,7 @@ use Rattle.regalloc2_fastalloc_proofs.proofs.Evictions.EvictVReg.{held_early, he
 use Rattle.regalloc2_fastalloc_proofs.proofs.Moves.ScratchRegTaken.{IsScratch, of_machine, taken, held_keeps, scratch_back, fit_same}
 use Rattle.regalloc2_fastalloc_proofs.proofs.Operands.ClaimAndUse.{claim_register, claim_slot}
 use Rattle.regalloc2_fastalloc_proofs.proofs.Operands.RecordOfInst.{Ready, ready_used}
-use Rattle.regalloc2_fastalloc_proofs.proofs.Evictions.EvictKeepsRecord.{Nothing, ready_evicts_other_vregs, evicts_other_vregs_flat}
+use Rattle.regalloc2_fastalloc_proofs.proofs.Evictions.EvictKeepsRecord.{NoneNeeded, ready_evicts_other_vregs, evicts_other_vregs_flat}
 use Rattle.regalloc2_fastalloc_proofs.proofs.Operands.ClaimKeepsRecord.{Grips, grips_register, grips_slot, ready_claim}
 use Rattle.regalloc2_fastalloc_proofs.proofs.Operands.BlockTail.{BlockTail}
 use Rattle.regalloc2_fastalloc_proofs.proofs.Changes.OneChange.{uses_rest}
@@ -40,7 +40,7 @@ use Rattle.regalloc2_fastalloc_proofs.proofs.Changes.OneChange.{uses_rest}
 abbrev pub set_at : (ℕ → Place) → ℕ → Place → ℕ → Place
 set_at here k p = λ j. cond (nat_eq j k) p (here j)
 
--- operand k is marked, in addition to those that were
+-- operand k is marked, in addition to the operands that were
 abbrev pub and_one : (ℕ → Bool) → ℕ → ℕ → Bool
 and_one claimed k = λ j. cond (nat_eq j k) true (claimed j)
 
@@ -104,7 +104,7 @@ evicts_other_vregs_own point r v t u old new (others other c) whole at = let x =
 
 -- The operand k is next, and isn't placed yet: its request, at positions that cover its own; the registers and the tables before it
 -- (t, old); and the registers (u) and the place (p) that it ends with. Once late uses are placed, no early use is.
-pub record NextOperand (tail : BlockTail) (ops : List OperandValue) (far : Progress) (ret : Bool) : Type 0 where
+pub record NextOperand (tail : BlockTail) (ops : List OperandValue) (far : Progress) (ends_block : Bool) : Type 0 where
   pub k : ℕ
   pub o : OperandRequest
   pub nv : o.vreg.number ≡ (op_at ops k).vreg.number
@@ -118,22 +118,22 @@ pub record NextOperand (tail : BlockTail) (ops : List OperandValue) (far : Progr
   pub u : InstRegs
   pub p : Place
   pub old : StateValue
-  pub s : Ready tail ops far ret t old
+  pub s : Ready tail ops far ends_block t old
 
-module _ (tail : BlockTail) (ops : List OperandValue) (far : Progress) (ret : Bool) where
+module _ (tail : BlockTail) (ops : List OperandValue) (far : Progress) (ends_block : Bool) where
   open tail use {Known, insts, placesf, i, n, E}
 
   -- a register is held from now on, and the claims stay
   pub ready_grip : (t u : InstRegs) (p : Place) (k : ℕ) (o : OperandRequest) (m : StateValue) → Grips t u p o.positions →
-      Ready tail ops far ret t m →
-      Ready tail ops far ret u m
+      Ready tail ops far ends_block t m →
+      Ready tail ops far ends_block u m
   ready_grip t u p k o m g s =
       let back : (c : RegClass) (b : Register) → slice_index_or u.scratch (class_code c) None ≡ Some b →
       slice_index_or t.scratch (class_code c) None ≡ Some b = λ c b e. ap (λ l. slice_index_or l (class_code c) None) (sym g.scratch) ∙ e in
       record {
         located = s.located;
         owes = s.owes;
-        nothing = s.nothing;
+        nowhere_needed = s.nowhere_needed;
         held = held_keeps (what_of ops) far.here far.claimed (held_early t) (held_late t) (held_early u) (held_late u) g.early.keeps g.late.keeps s.held;
         scratch_reserve = record {
           idle = λ c b is. s.scratch_reserve.idle c b (elim is [ of_machine e ↦ of_machine e | taken e ↦ taken (back c b e) ]);
@@ -151,17 +151,17 @@ module _ (tail : BlockTail) (ops : List OperandValue) (far : Progress) (ret : Bo
   pub record Got (k : ℕ) (p : Place) (u : InstRegs) (new : StateValue) : Type 0 where
     pub there : ℕ → Place
     pub claimed2 : ℕ → Bool
-    pub ready : Ready tail ops (record far { here = there; claimed = claimed2 }) ret u new
+    pub ready : Ready tail ops (record far { here = there; claimed = claimed2 }) ends_block u new
     pub at_k : there k ≡ p
     pub at_j : (j : ℕ) → (j ≡ k → ⊥) → there j ≡ far.here j
     pub same : (j : ℕ) → far.claimed j ≡ true → there j ≡ far.here j
     pub grows : (j : ℕ) → claimed2 j ≡ true → (j ≡ k) ⊎ (far.claimed j ≡ true)
     pub keeps : (j : ℕ) → far.claimed j ≡ true → claimed2 j ≡ true
     pub claims : claimed2 k ≡ true
-    pub alone : (r : Register) → p ≡ InRegister r → (x : ℕ) → place_in new x ≡ InRegister r → x ≡ (op_at ops k).vreg.number
+    pub only_vreg : (r : Register) → p ≡ InRegister r → (x : ℕ) → place_in new x ≡ InRegister r → x ≡ (op_at ops k).vreg.number
     pub own_slot : (m : ℕ) → p ≡ InSlot m → slot_in new (op_at ops k).vreg.number ≡ InSlot m
 
-  module _ (turn : NextOperand tail ops far ret) where
+  module _ (turn : NextOperand tail ops far ends_block) where
     open turn use {k, o, nv, covers, counts, once, new_one, phase, t, u, p, old, s}
 
     abbrev num : ℕ
@@ -183,7 +183,7 @@ module _ (tail : BlockTail) (ops : List OperandValue) (far : Progress) (ret : Bo
     get_owed new r ck at pr (in_slot q e same en) = let x : InRegister r ≡ InSlot q = sym pr ∙ e in absurd cc
     get_owed new r ck at pr (in_register g m e clears holds) =
         let clear : Clear (what_of ops) far.here far.claimed k (InRegister g) = λ j cj ej. s.located.placed.apart j k cj ck (ej ∙ sym e ∙ pr ∙ sym at) in
-        let c = ready_evicts_other_vregs tail ops far ret g o.vreg t m old new clears (may_evict g clear) s in
+        let c = ready_evicts_other_vregs tail ops far ends_block g o.vreg t m old new clears (may_evict g clear) s in
         record {
           there = far.here;
           claimed2 = far.claimed;
@@ -194,7 +194,7 @@ module _ (tail : BlockTail) (ops : List OperandValue) (far : Progress) (ret : Bo
           grows = λ j cj. inr cj;
           keeps = λ j cj. cj;
           claims = ck;
-          alone = λ q eq x ex. (let same : InRegister g ≡ InRegister q = sym e ∙ eq in c.1 x (ex ∙ sym same) ∙ nv);
+          only_vreg = λ q eq x ex. (let same : InRegister g ≡ InRegister q = sym e ∙ eq in c.1 x (ex ∙ sym same) ∙ nv);
           own_slot = λ q eq. (let x : InRegister r ≡ InSlot q = sym pr ∙ eq in absurd cc);
         }
 
@@ -205,16 +205,16 @@ module _ (tail : BlockTail) (ops : List OperandValue) (far : Progress) (ret : Bo
         (((what_of ops k).is_def ≡ true) ⊎ ((what_of ops k).is_late ≡ true) → far.clobbered (InRegister r) ≡ false) →
         ((c : RegClass) (b : Register) → IsScratch c t new b → r ≢ b) →
         Grips t u (InRegister r) o.positions → ((x : ℕ) → place_in new x ≡ InRegister r → x ≡ num) →
-        Ready tail ops far ret t new → Got k p u new
-    got_register r new f pr lt clear calm away grips alone rd =
+        Ready tail ops far ends_block t new → Got k p u new
+    got_register r new f pr lt clear unclobbered away grips only_vreg rd =
         let puts : Puts far.here (set_at far.here k p) far.claimed (and_one far.claimed k) k
         (InRegister r) = subst (λ q. Puts far.here (set_at far.here k p) far.claimed (and_one far.claimed k) k q) pr (puts_one far.here far.claimed k p f) in
         let st : Located (what_of ops) (record far { here = set_at far.here k p; claimed = and_one far.claimed k }) new =
-        claim_register (what_of ops) far (set_at far.here k p) (and_one far.claimed k) new k r puts clear alone calm rd.located in
+        claim_register (what_of ops) far (set_at far.here k p) (and_one far.claimed k) new k r puts clear only_vreg unclobbered rd.located in
         record {
           there = set_at far.here k p;
           claimed2 = and_one far.claimed k;
-          ready = ready_claim tail ops far (set_at far.here k p) (and_one far.claimed k) ret puts counts covers grips
+          ready = ready_claim tail ops far (set_at far.here k p) (and_one far.claimed k) ends_block puts counts covers grips
               (λ q e. let same : r ≡ q = cc in subst (λ (y : Register). y.number < 64) same lt) (λ c b is e. let same : r ≡ b = cc in away c b is same) st rd;
           at_k = puts.at_k ∙ sym pr;
           at_j = puts.at_j;
@@ -222,13 +222,13 @@ module _ (tail : BlockTail) (ops : List OperandValue) (far : Progress) (ret : Bo
           grows = puts.grows;
           keeps = puts.keeps;
           claims = puts.claims;
-          alone = λ q eq x ex. (let same : InRegister r ≡ InRegister q = sym pr ∙ eq in alone x (ex ∙ sym same));
+          only_vreg = λ q eq x ex. (let same : InRegister r ≡ InRegister q = sym pr ∙ eq in only_vreg x (ex ∙ sym same));
           own_slot = λ q eq. (let x : InRegister r ≡ InSlot q = sym pr ∙ eq in absurd cc);
         }
 
     -- a slot is claimed now
     got_slot : (q : ℕ) (new : StateValue) → far.claimed k ≡ false → p ≡ InSlot q → slot_in new num ≡ InSlot q → Grips t u (InSlot q) o.positions →
-        Ready tail ops far ret t new → Got k p u new
+        Ready tail ops far ends_block t new → Got k p u new
     got_slot q new f pr at grips rd =
         let puts : Puts far.here (set_at far.here k p) far.claimed (and_one far.claimed k) k
         (InSlot q) = subst (λ g. Puts far.here (set_at far.here k p) far.claimed (and_one far.claimed k) k g) pr (puts_one far.here far.claimed k p f) in
@@ -238,7 +238,7 @@ module _ (tail : BlockTail) (ops : List OperandValue) (far : Progress) (ret : Bo
         record {
           there = set_at far.here k p;
           claimed2 = and_one far.claimed k;
-          ready = ready_claim tail ops far (set_at far.here k p) (and_one far.claimed k) ret puts counts covers grips
+          ready = ready_claim tail ops far (set_at far.here k p) (and_one far.claimed k) ends_block puts counts covers grips
               (λ g e. absurd cc) (λ c b is e. cc) st rd;
           at_k = puts.at_k ∙ sym pr;
           at_j = puts.at_j;
@@ -246,13 +246,13 @@ module _ (tail : BlockTail) (ops : List OperandValue) (far : Progress) (ret : Bo
           grows = puts.grows;
           keeps = puts.keeps;
           claims = puts.claims;
-          alone = λ g eq x ex. (let y : InSlot q ≡ InRegister g = sym pr ∙ eq in absurd cc);
+          only_vreg = λ g eq x ex. (let y : InSlot q ≡ InRegister g = sym pr ∙ eq in absurd cc);
           own_slot = λ g eq. at ∙ sym pr ∙ eq;
         }
 
     -- the vreg's own place is no clobber, for operands where that matters
-    calm_kept : (q : Place) → stands_at old num ≡ Some q → ((what_of ops k).is_def ≡ true) ⊎ ((what_of ops k).is_late ≡ true) → far.clobbered q ≡ false
-    calm_kept q at h = ⊎_elim
+    unclobbered_at : (q : Place) → stands_at old num ≡ Some q → ((what_of ops k).is_def ≡ true) ⊎ ((what_of ops k).is_late ≡ true) → far.clobbered q ≡ false
+    unclobbered_at q at h = ⊎_elim
         (λ (l : far.lived num ≡ true). s.located.placed.cleared num q l at)
         (λ (l : far.lived num ≡ false).
         let w = s.located.placed.newly num q l at in
@@ -281,7 +281,7 @@ module _ (tail : BlockTail) (ops : List OperandValue) (far : Progress) (ret : Bo
         let x = evicts_other_vregs_own (after i) r o.vreg t m old new clears s.located.whole here_is in
         let grips : Grips t u (InRegister r) o.positions = subst (λ y. Grips y u (InRegister r) o.positions) x.0 (grips_register m u r o.positions holds) in
         subst (Got k p u) (sym x.1) (got_register r old f e (s.located.whole.stands_in num r num_is).0 (clear_kept (InRegister r) (ap opt num_is))
-        (calm_kept (InRegister r) (ap opt num_is))
+        (unclobbered_at (InRegister r) (ap opt num_is))
         (λ c b is same. (s.scratch_reserve.idle c b is).no_allocs num (num_is ∙ ap InRegister same)) grips
         (λ y ey. (whole_tidy old s.located.whole).apart y num r ey num_is) s)
 
@@ -301,9 +301,9 @@ module _ (tail : BlockTail) (ops : List OperandValue) (far : Progress) (ret : Bo
         (free_of (what_of ops k) (held_early t) (held_late t) o.positions.early o.positions.late (InRegister r) covers free_at) in
         let clear_g : Clear (what_of ops) far.here far.claimed k (InRegister g) = subst (λ y. Clear (what_of ops) far.here far.claimed k (InRegister y))
         (sym same) clear in
-        let c = ready_evicts_other_vregs tail ops far ret g o.vreg t m old new clears (may_evict g clear_g) s in
-        let rd : Ready tail ops far ret t
-        new = subst (λ y. Ready tail ops far ret y new) eu c.0.ready in
+        let c = ready_evicts_other_vregs tail ops far ends_block g o.vreg t m old new clears (may_evict g clear_g) s in
+        let rd : Ready tail ops far ends_block t
+        new = subst (λ y. Ready tail ops far ends_block y new) eu c.0.ready in
         let grips : Grips t u (InRegister r) o.positions = subst (λ y. Grips t u (InRegister y) o.positions) same
         (subst (λ y. Grips y u (InRegister g) o.positions) eu (grips_register m u g o.positions holds)) in
         let k2 : SameMachine old new = c.0.kept.machine in
@@ -329,7 +329,7 @@ module _ (tail : BlockTail) (ops : List OperandValue) (far : Progress) (ret : Bo
     -- the vreg's slot, which it had or which is made
     ready_given : (middle : StateValue) → GetsSpillSlot old.slots middle.slots o.vreg p → middle.places ≡ old.places → middle.edits ≡ old.edits →
         SameMachine old middle →
-        Ready tail ops far ret t middle
+        Ready tail ops far ends_block t middle
     ready_given middle g e ed machine = record {
       located = give_stands old middle o.vreg p g s.located.whole e (what_of ops) far s.located;
       owes = record {
@@ -344,7 +344,7 @@ module _ (tail : BlockTail) (ops : List OperandValue) (far : Progress) (ret : Bo
               | made m ↦ made m
             ]) s.owes.claims);
       };
-      nothing = λ a. subst (Nothing tail) (sym ed) (s.nothing a);
+      nowhere_needed = λ a. subst (NoneNeeded tail) (sym ed) (s.nowhere_needed a);
       held = s.held;
       scratch_reserve = record {
         idle = λ c b is. (let y = s.scratch_reserve.idle c b (scratch_back c t old middle b machine is) in
@@ -391,14 +391,14 @@ module _ (tail : BlockTail) (ops : List OperandValue) (far : Progress) (ret : Bo
     got_used new order x = record {
       there = x.there;
       claimed2 = x.claimed2;
-      ready = ready_used tail ops (record far { here = x.there; claimed = x.claimed2 }) ret u new order x.ready;
+      ready = ready_used tail ops (record far { here = x.there; claimed = x.claimed2 }) ends_block u new order x.ready;
       at_k = x.at_k;
       at_j = x.at_j;
       same = x.same;
       grows = x.grows;
       keeps = x.keeps;
       claims = x.claims;
-      alone = x.alone;
+      only_vreg = x.only_vreg;
       own_slot = x.own_slot;
     }
 

@@ -22,7 +22,7 @@ use Rattle.regalloc2_function.specs.FunctionValue.{op_at}
 use Rattle.regalloc2_fastalloc_proofs.specs.InstSteps.{StateValue, requirement_of, reuse_requirement_of}
 use Rattle.regalloc2_fastalloc_proofs.specs.Safety.{IsOfMachine, MayBeLocatedAt, IsSafe, AreSafeRegs}
 use Rattle.regalloc2_fastalloc_proofs.proofs.Slots.SlotsGrow.{SlotsStay, stand_grows}
-use Rattle.regalloc2_fastalloc_proofs.proofs.Safety.OperandKeepsSafe.{IsAnswer}
+use Rattle.regalloc2_fastalloc_proofs.proofs.Safety.OperandKeepsSafe.{AnswersRequirement}
 
 -- the place of operand k in a list of places: none where the list ends before it
 abbrev pub at_place : List Place → ℕ → Place
@@ -30,7 +30,7 @@ at_place places k = slice_index_or places k NoPlace
 
 -- The operands of an instruction of a well-formed function: a number isn't read where it is defined;
 -- a reuse is a late definition that names an early use of its class, under Reg or FixedReg, which no other reuse names.
-pub record IsTame (Known : VirtualRegister → Type 0) (ops : List OperandValue) : Type 0 where
+pub record AreSoundOperands (Known : VirtualRegister → Type 0) (ops : List OperandValue) : Type 0 where
   pub same : (v w : VirtualRegister) → Known v → Known w → v.number ≡ w.number → v ≡ w
   pub known : (k : ℕ) → k < length ops → is_fixed_nonallocatable (op_at ops k) ≡ false → Known (op_at ops k).vreg
   pub constraint : (k : ℕ) → k < length ops → IsConstraintOf (op_at ops k).vreg.class (op_at ops k).constraint
@@ -53,18 +53,18 @@ IsInRegister (InRegister r) = Unit {0}
 IsInRegister (InSlot n) = ⊥
 
 -- what a constraint requires of the operand's own place
-abbrev pub MeetsAlone : MachineValue → OperandConstraint → Place → Type 0
-MeetsAlone env Any p = p ≢ NoPlace
-MeetsAlone env Reg p = IsPlainRegister env p
-MeetsAlone env Stack p = IsStackPlace env p
-MeetsAlone env (FixedReg r) p = p ≡ InRegister r
-MeetsAlone env (Reuse n) p = IsInRegister p
-MeetsAlone env (Limit n) p = ⊥
+abbrev pub MeetsByItself : MachineValue → OperandConstraint → Place → Type 0
+MeetsByItself env Any p = p ≢ NoPlace
+MeetsByItself env Reg p = IsPlainRegister env p
+MeetsByItself env Stack p = IsStackPlace env p
+MeetsByItself env (FixedReg r) p = p ≡ InRegister r
+MeetsByItself env (Reuse n) p = IsInRegister p
+MeetsByItself env (Limit n) p = ⊥
 
 -- a valid place, which meets the operand's constraint
 pub record IsGood (env : MachineValue) (slots : SpillSlotsValue) (o : OperandValue) (p : Place) : Type 0 where
   pub place : is_fixed_nonallocatable o ≡ false → MayBeLocatedAt env slots o.vreg p
-  pub meets : MeetsAlone env o.constraint p
+  pub meets : MeetsByItself env o.constraint p
 
 -- an operand's good place stays good where slots stay
 pub good_grows : (env : MachineValue) (s t : SpillSlotsValue) (o : OperandValue) (p : Place) → SlotsStay s t → IsGood env s o p → IsGood env t o p
@@ -76,7 +76,7 @@ reads_allocated o h = not-true (is_fixed_nonallocatable o) (and_parts (not (is_d
 
 -- a place that meets the requirement meets the constraint
 pub answer_meets : (env : MachineValue) (c : OperandConstraint) (p : Place) → ((n : ℕ) → c ≡ Reuse n → ⊥) → ((n : ℕ) → c ≡ Limit n → ⊥) →
-    IsAnswer env (requirement_of c) p → MeetsAlone env c p
+    AnswersRequirement env (requirement_of c) p → MeetsByItself env c p
 answer_meets env (Reuse n) p r l h = absurd (r n refl)
 answer_meets env (Limit n) p r l h = absurd (l n refl)
 answer_meets env c p r l h = h
@@ -91,21 +91,21 @@ fixed_in_register p r e = subst IsInRegister (sym e) tt
 
 -- the place of a reuse meets the constraint of the use that it names, and is a register
 pub answer_named : (env : MachineValue) (c : OperandConstraint) (p : Place) → (c ≡ Reg) ⊎ ((r : Register) × (c ≡ FixedReg r)) →
-    IsAnswer env (reuse_requirement_of c) p → MeetsAlone env c p × IsInRegister p
+    AnswersRequirement env (reuse_requirement_of c) p → MeetsByItself env c p × IsInRegister p
 answer_named env c p (inl e) h =
-    let a : IsPlainRegister env p = subst (λ x. IsAnswer env (reuse_requirement_of x) p) e h in
-    (subst (λ x. MeetsAlone env x p) (sym e) a, plain_in_register env p a)
+    let a : IsPlainRegister env p = subst (λ x. AnswersRequirement env (reuse_requirement_of x) p) e h in
+    (subst (λ x. MeetsByItself env x p) (sym e) a, plain_in_register env p a)
 answer_named env c p (inr e) h =
-    let a : p ≡ InRegister e.0 = subst (λ x. IsAnswer env (reuse_requirement_of x) p) e.1 h in
-    (subst (λ x. MeetsAlone env x p) (sym e.1) a, fixed_in_register p e.0 a)
+    let a : p ≡ InRegister e.0 = subst (λ x. AnswersRequirement env (reuse_requirement_of x) p) e.1 h in
+    (subst (λ x. MeetsByItself env x p) (sym e.1) a, fixed_in_register p e.0 a)
 
 -- any register meets a reuse constraint, as far as its own place goes
-pub reuse_meets : (env : MachineValue) (c : OperandConstraint) (n : ℕ) (p : Place) → c ≡ Reuse n → IsInRegister p → MeetsAlone env c p
-reuse_meets env c n p e h = subst (λ x. MeetsAlone env x p) (sym e) h
+pub reuse_meets : (env : MachineValue) (c : OperandConstraint) (n : ℕ) (p : Place) → c ≡ Reuse n → IsInRegister p → MeetsByItself env c p
+reuse_meets env c n p e h = subst (λ x. MeetsByItself env x p) (sym e) h
 
 -- a register meets the constraint that fixes an operand to it
-pub fixed_meets : (env : MachineValue) (c : OperandConstraint) (r : Register) → c ≡ FixedReg r → MeetsAlone env c (InRegister r)
-fixed_meets env c r e = subst (λ x. MeetsAlone env x (InRegister r)) (sym e) refl
+pub fixed_meets : (env : MachineValue) (c : OperandConstraint) (r : Register) → c ≡ FixedReg r → MeetsByItself env c (InRegister r)
+fixed_meets env c r e = subst (λ x. MeetsByItself env x (InRegister r)) (sym e) refl
 
 -- an operand that requires a specific register is fixed to it
 pub asked_fixed : (c : OperandConstraint) (r : Register) → requirement_of c ≡ InPReg r → c ≡ FixedReg r
@@ -141,7 +141,7 @@ pub record Filled (env : MachineValue) (Known : VirtualRegister → Type 0) (Wri
       ⊎ (IsGood env t.slots (op_at ops j) (at_place there j) × IsInRegister (at_place there j))
   pub found : (j : ℕ) → j < length ops → done j → is_reading (op_at ops j) ≡ true → alloc_of t.places (op_at ops j).vreg.number ≢ NoPlace
 
--- the slots that an instruction may write: after it, those of the vregs that it defines; before it, those in which it reads
+-- The slots that an instruction may write: after it, the slots of the vregs that it defines; before it, the slots in which it reads.
 abbrev pub DefsAreWritten : (ℕ → VirtualRegister → ℕ → Type 0) → ℕ → List OperandValue → Type 0
 DefsAreWritten Writes i ops = (k n : ℕ) → k < length ops → is_def (op_at ops k).kind ≡ true → Writes (after i) (op_at ops k).vreg n
 
@@ -151,32 +151,32 @@ UsesAreWritten Writes i ops places = (k n : ℕ) → k < length ops → is_readi
     Writes (before i) (op_at ops k).vreg n
 
 -- a place that meets a reuse constraint is a register
-pub reuse_register : (env : MachineValue) (c : OperandConstraint) (n : ℕ) (p : Place) → c ≡ Reuse n → MeetsAlone env c p → IsInRegister p
-reuse_register env c n p e h = subst (λ x. MeetsAlone env x p) e h
+pub reuse_register : (env : MachineValue) (c : OperandConstraint) (n : ℕ) (p : Place) → c ≡ Reuse n → MeetsByItself env c p → IsInRegister p
+reuse_register env c n p e h = subst (λ x. MeetsByItself env x p) e h
 
 -- `NoPlace` isn't a register
 pub no_place_register : (p : Place) → p ≡ NoPlace → IsInRegister p → ⊥
 no_place_register p e h = subst IsInRegister e h
 
 -- An instruction's operands, which get their places one after another: the machine; the known vregs; the slots into which the walk may write a
--- vreg's value, and the points where moves may be; and the operands, which are tame.
+-- vreg's value, and the points where moves may be; and the operands, which are sound.
 pub record FillingContext : Type 1 where
   pub env : MachineValue
   pub Known : VirtualRegister → Type 0
   pub Writes : ℕ → VirtualRegister → ℕ → Type 0
   pub May : ℕ → Type 0
   pub ops : List OperandValue
-  pub tame : IsTame Known ops
+  pub sound_ops : AreSoundOperands Known ops
 
 -- the record, built from its parts
 abbrev pub filling_of : MachineValue → (Known : VirtualRegister → Type 0) → (ℕ → VirtualRegister → ℕ → Type 0) → (ℕ → Type 0) →
-    (ops : List OperandValue) → IsTame Known ops → FillingContext
-filling_of env Known Writes May ops tame = record { env = env; Known = Known; Writes = Writes; May = May; ops = ops; tame = tame }
+    (ops : List OperandValue) → AreSoundOperands Known ops → FillingContext
+filling_of env Known Writes May ops sound_ops = record { env = env; Known = Known; Writes = Writes; May = May; ops = ops; sound_ops = sound_ops }
 
 module _ (filling : FillingContext) where
-  open filling use {env, Known, Writes, May, ops, tame}
+  open filling use {env, Known, Writes, May, ops, sound_ops}
 
-  -- the same operands are done
+  -- operands stay filled if D and E hold of the same ones
   pub filled_same : (D E : ℕ → Type 0) (there : List Place) (u : InstRegs) (t : StateValue) → ((j : ℕ) → j < length ops → E j → D j) →
       ((j : ℕ) → j < length ops → D j → E j)
       → Filled env Known Writes May ops D there u t → Filled env Known Writes May ops E there u t
@@ -190,7 +190,7 @@ module _ (filling : FillingContext) where
     found = λ j less e. h.found j less (back j less e);
   }
 
-  -- the same with other tables, in which the vregs of all uses that are done still have a location
+  -- operands stay filled over other tables, in which the vregs of all uses that are done still have a location
   pub filled_on : (D : ℕ → Type 0) (there : List Place) (t u : InstRegs) (old new : StateValue) → IsSafe env Known Writes May new → AreSafeRegs env u →
       SlotsStay old.slots new.slots
       → ((j : ℕ) → j < length ops → is_reading (op_at ops j) ≡ true → alloc_of old.places (op_at ops j).vreg.number ≢ NoPlace →
@@ -274,7 +274,7 @@ module _ (filling : FillingContext) where
     ];
     shared = λ j m less e is. elim (more.back j e) [
       | inl d ↦ (elsewhere j (not_k j d) (not_named j d) ∙ h.shared j m less d is
-          ∙ sym (elsewhere m (names_no_def j m less is) (λ same. not_k j d (tame.apart j k n less lt (is ∙ ap Reuse same) reuses))))
+          ∙ sym (elsewhere m (names_no_def j m less is) (λ same. not_k j d (sound_ops.apart j k n less lt (is ∙ ap Reuse same) reuses))))
       | inr same ↦ (let one : m ≡ n = same_reuse m n (sym is ∙ ap (λ (x : ℕ). (op_at ops x).constraint) same ∙ reuses) in
           ap (at_place (set (set here k p) n p)) same ∙ there ∙ sym there_n ∙ ap (at_place (set (set here k p) n p)) (sym one))
     ];
@@ -292,20 +292,20 @@ module _ (filling : FillingContext) where
     found = λ j less e reads. elim (more.back j e) [
       | inl d ↦ h.found j less d reads
       | inr same ↦ absurd (both_ways (is_def (op_at ops k).kind)
-          (reads_use (op_at ops k) (subst (λ (m : ℕ). is_reading (op_at ops m) ≡ true) same reads)) (tame.late_reuse k n lt reuses).0)
+          (reads_use (op_at ops k) (subst (λ (m : ℕ). is_reading (op_at ops m) ≡ true) same reads)) (sound_ops.late_reuse k n lt reuses).0)
     ];
   }
     where
       n_within : n < length ops
-      n_within = (tame.named k n lt reuses).0
+      n_within = (sound_ops.named k n lt reuses).0
 
       apart_k : n ≢ k
       apart_k same = both_ways (is_late (op_at ops k).position)
-          (ap (λ (m : ℕ). is_late (op_at ops m).position) (sym same) ∙ (tame.named k n lt reuses).1) (tame.late_reuse k n lt reuses).1
+          (ap (λ (m : ℕ). is_late (op_at ops m).position) (sym same) ∙ (sound_ops.named k n lt reuses).1) (sound_ops.late_reuse k n lt reuses).1
 
       names_no_def : (j m : ℕ) → j < length ops → (op_at ops j).constraint ≡ Reuse m → m ≢ k
       names_no_def j m less is same = both_ways (is_late (op_at ops k).position)
-          (ap (λ (x : ℕ). is_late (op_at ops x).position) (sym same) ∙ (tame.named j m less is).1) (tame.late_reuse k n lt reuses).1
+          (ap (λ (x : ℕ). is_late (op_at ops x).position) (sym same) ∙ (sound_ops.named j m less is).1) (sound_ops.late_reuse k n lt reuses).1
 
       there : at_place (set (set here k p) n p) k ≡ p
       there = get_or-set_other (set here k p) n k p NoPlace (λ e. apart_k (sym e)) ∙ get_or-set_same here k p NoPlace (let l = h.long in omega (arith, l, lt))

@@ -18,7 +18,7 @@ covers_at number true false = record { early_use = λ e. refl; early_def = λ e.
 covers_at number false true = record { early_use = λ e. refl; early_def = λ e. refl; late_def = λ e. refl; late_use = λ e. refl }
 covers_at number false false = record { early_use = λ e. refl; early_def = λ e. refl; late_def = λ e. absurd cc; late_use = λ e. absurd cc }
 
--- both positions cover those of every operand
+-- both positions together cover the positions of every operand
 pub covers_both : (w : What) → Covers w true true
 covers_both w = record { early_use = λ e. refl; early_def = λ e. refl; late_def = λ e. refl; late_use = λ e. refl }
 
@@ -56,17 +56,17 @@ pub claim_register : (what : ℕ → What) (far : Progress) (there : ℕ → Pla
     ((x : ℕ) → place_in t x ≡ InRegister r → x ≡ (what k).number)
     → (((what k).is_def ≡ true) ⊎ ((what k).is_late ≡ true) → far.clobbered (InRegister r) ≡ false)
     → Located what far t → Located what (record far { here = there; claimed = claimed2 }) t
-claim_register what far there claimed2 t k r u clear alone calm st = record {
+claim_register what far there claimed2 t k r u clear only_vreg unclobbered st = record {
   whole = st.whole;
   placed = step_claim what far there claimed2 (stands_at t) (slots_at t) k (InRegister r) u clear
       (record {
-        for_def = λ d w l e. alone w (opt_from (place_in t w) (InRegister r) e);
-        for_use = λ d w e. alone w (opt_from (place_in t w) (InRegister r) e);
+        for_def = λ d w l e. only_vreg w (opt_from (place_in t w) (InRegister r) e);
+        for_use = λ d w e. only_vreg w (opt_from (place_in t w) (InRegister r) e);
         of_slots = λ w e. absurd (slot_no_register t.slots.count (slot_in t w) r (st.whole.below w) (opt_from (slot_in t w) (InRegister r) e));
       })
-      calm (λ z. cc) st.placed;
+      unclobbered (λ z. cc) st.placed;
   below = puts_below far.here there far.claimed claimed2 k (InRegister r) t.slots.count u (λ m e. absurd cc) st.below;
-  calm = st.calm;
+  unclobbered = st.unclobbered;
 }
 
 -- the slot of the operand's vreg
@@ -85,11 +85,11 @@ claim_slot counts what far there claimed2 t k m u once within ck slot st =
             for_use = λ d w e. own w (st.whole.own_slot w m (opt_from (place_in t w) (InSlot m) e));
             of_slots = λ w e. own w (opt_from (slot_in t w) (InSlot m) e);
           })
-          (λ h. st.calm m) (λ z. cc) st.placed;
+          (λ h. st.unclobbered m) (λ z. cc) st.placed;
       below = puts_below far.here there far.claimed claimed2 k (InSlot m) t.slots.count u
           (λ j e. let same : m ≡ j = cc in subst (λ x. x < t.slots.count) same
           (slot_below t.slots.count (slot_in t (what k).number) m (st.whole.below (what k).number) slot)) st.below;
-      calm = st.calm;
+      unclobbered = st.unclobbered;
     }
 
 -- the use k, which has claimed its place, is placed
@@ -107,5 +107,5 @@ use_stays what far done2 t k u there st = record {
   placed = step_use what far done2 (stands_at t) (slots_at t) k (place_in t (what k).number) u.claims u.is_use
       (opt_some (place_in t (what k).number) there) u.places st.placed;
   below = st.below;
-  calm = st.calm;
+  unclobbered = st.unclobbered;
 }

@@ -11,7 +11,7 @@ use Rattle.regalloc2_semantics.specs.OperandsPlaced.{what_of, Counts, Progress, 
 use Rattle.regalloc2_semantics.proofs.BoundaryToBoundary.{Covers, Holds as Keeps, held_more}
 use Rattle.regalloc2_semantics.proofs.Cells.{is_register-same}
 use Rattle.regalloc2_fastalloc_state.specs.declared.inst_regs.InstRegs.{InstRegs}
-use Rattle.regalloc2_steps.specs.declared.positions.Positions.{Positions}
+use Rattle.regalloc2_fastalloc_state.specs.declared.positions.Positions.{Positions}
 use Rattle.regalloc2_fastalloc_state.specs.InstRegs.{RemovesAvailable, SameAvailable}
 use Rattle.regalloc2_fastalloc_proofs.specs.InstSteps.{StateValue}
 use Rattle.regalloc2_fastalloc_proofs.proofs.Operands.RecordOverState.{Located}
@@ -91,7 +91,7 @@ grips_slot t u m pos s = record {
     late_keeps (InRegister q) e = ap (λ l. not (has_register l q)) s.late ∙ e
     late_keeps (InSlot m) e = refl
 
-module _ (tail : BlockTail) (ops : List OperandValue) (far : Progress) (there : ℕ → Place) (claimed2 : ℕ → Bool) (ret : Bool) where
+module _ (tail : BlockTail) (ops : List OperandValue) (far : Progress) (there : ℕ → Place) (claimed2 : ℕ → Bool) (ends_block : Bool) where
   open tail use {Known, insts, placesf, i, n, E}
 
   idle_claim : (k : ℕ) (p : Place) (b : Register) (t : StateValue) → Puts far.here there far.claimed claimed2 k p → p ≢ InRegister b → IsIdle far.here
@@ -111,8 +111,8 @@ module _ (tail : BlockTail) (ops : List OperandValue) (far : Progress) (there : 
       Covers (what_of ops k) pos.early pos.late → Grips t u p pos →
       ((r : Register) → p ≡ InRegister r → r.number < 64) → ((c : RegClass) (b : Register) → IsScratch c t m b → p ≢ InRegister b) →
       Located (what_of ops) (record far { here = there; claimed = claimed2 }) m →
-      Ready tail ops far ret t m →
-      Ready tail ops (record far { here = there; claimed = claimed2 }) ret u m
+      Ready tail ops far ends_block t m →
+      Ready tail ops (record far { here = there; claimed = claimed2 }) ends_block u m
   ready_claim {k} {p} {pos} {t} {u} {m} puts counts covers g small away st s =
       let back : (c : RegClass) (b : Register) → slice_index_or u.scratch (class_code c) None ≡ Some b →
       slice_index_or t.scratch (class_code c) None ≡ Some b = λ c b e. ap (λ l. slice_index_or l (class_code c) None) (sym g.scratch) ∙ e in
@@ -121,7 +121,7 @@ module _ (tail : BlockTail) (ops : List OperandValue) (far : Progress) (there : 
       record {
         located = st;
         owes = s.owes;
-        nothing = s.nothing;
+        nowhere_needed = s.nowhere_needed;
         held = held_more (what_of ops) far.here there far.claimed claimed2 (held_early t) (held_late t) (held_early u) (held_late u) k p puts
             (record { at_early = pos.early; at_late = pos.late; covers = covers; in_early = g.early; in_late = g.late }) s.held;
         scratch_reserve = record {

@@ -18,15 +18,15 @@ use Rattle.regalloc2_function.specs.FunctionValue.{op_at}
 use Rattle.regalloc2_fastalloc_proofs.specs.InstSteps.{StateValue, SameMachine, AddsMoveIf, sent, unsent, FreesAlloc, is_another}
 use Rattle.regalloc2_fastalloc_proofs.specs.Safety.{IsWhole}
 use Rattle.regalloc2_fastalloc_proofs.proofs.Safety.StepsKeepState.{place_in, slot_in, whole_tidy, slot_no_register}
-use Rattle.regalloc2_fastalloc_proofs.proofs.Operands.RecordOverState.{opt, opt_some, opt_from, opt_real, stands_at, slots_at, Located, Owes}
+use Rattle.regalloc2_fastalloc_proofs.proofs.Operands.RecordOverState.{opt, opt_some, opt_from, opt_real, stands_at, slots_at, Located, OwesPlaces}
 use Rattle.regalloc2_fastalloc_proofs.proofs.Evictions.EvictVReg.{Kept, kept_all}
 use Rattle.regalloc2_fastalloc_proofs.proofs.Moves.ScratchRegTaken.{IsIdle, fit_same, scratch_back}
 use Rattle.regalloc2_fastalloc_proofs.proofs.Moves.ScratchRegMidMove.{put, put_same, put_other, owes_same}
 use Rattle.regalloc2_fastalloc_proofs.proofs.Evictions.EvictPReg.{kept_then}
 use Rattle.regalloc2_fastalloc_proofs.proofs.Operands.FreeDef.{PlacesDef, leave_stands, defs_elsewhere}
 use Rattle.regalloc2_fastalloc_proofs.proofs.Operands.RecordOfInst.{Ready}
-use Rattle.regalloc2_fastalloc_proofs.proofs.Evictions.EvictKeepsRecord.{Nothing}
-use Rattle.regalloc2_fastalloc_proofs.proofs.Moves.MoveAfterInst.{Steady, Sent, Moves, ready_of, adds_move_step}
+use Rattle.regalloc2_fastalloc_proofs.proofs.Evictions.EvictKeepsRecord.{NoneNeeded}
+use Rattle.regalloc2_fastalloc_proofs.proofs.Moves.MoveAfterInst.{Steady, Sent, MovesNeed, ready_of, adds_move_step}
 use Rattle.regalloc2_fastalloc_proofs.proofs.Operands.BlockTail.{BlockTail}
 
 -- a place that counts as another one isn't none, and differs from it
@@ -50,11 +50,11 @@ another_not p q e = elim (cases_place p NoPlace) [
   ]
 ]
 
-made_parts : (ret b : Bool) → (not ret && b) ≡ true → (ret ≡ false) × (b ≡ true)
+made_parts : (ends_block b : Bool) → (not ends_block && b) ≡ true → (ends_block ≡ false) × (b ≡ true)
 made_parts true b e = absurd cc
 made_parts false b e = (refl, e)
 
-unmade_parts : (ret b : Bool) → (not ret && b) ≡ false → (ret ≡ true) ⊎ (b ≡ false)
+unmade_parts : (ends_block b : Bool) → (not ends_block && b) ≡ false → (ends_block ≡ true) ⊎ (b ≡ false)
 unmade_parts true b e = inl refl
 unmade_parts false b e = inr e
 
@@ -72,7 +72,7 @@ real_slot count NoPlace b ne = absurd (ne refl)
 real_slot count (InRegister r) b ne = absurd b
 real_slot count (InSlot q) b ne = (q, refl)
 
-module _ (tail : BlockTail) (ops : List OperandValue) (far : Progress) (done2 out2 : ℕ → Bool) (Y : Place → ℕ → Bool) (ret : Bool) (k : ℕ)
+module _ (tail : BlockTail) (ops : List OperandValue) (far : Progress) (done2 out2 : ℕ → Bool) (Y : Place → ℕ → Bool) (ends_block : Bool) (k : ℕ)
     (pd : PlacesDef (Counts ops) (what_of ops) far done2 out2 Y k) where
   open tail use {Known, insts, placesf, i, n, E}
 
@@ -90,7 +90,7 @@ module _ (tail : BlockTail) (ops : List OperandValue) (far : Progress) (done2 ou
   -- the vreg has left the tables
   module _ (t : InstRegs) (old left : StateValue) (z : SetsAlloc old.places left.places v NoPlace) (slots : left.slots ≡ old.slots)
       (edits : left.edits ≡ old.edits) (machine : SameMachine old left)
-      (r : Ready tail ops far ret t old) where
+      (r : Ready tail ops far ends_block t old) where
     abbrev c : Place
     c = place_in old v.number
 
@@ -111,11 +111,11 @@ module _ (tail : BlockTail) (ops : List OperandValue) (far : Progress) (done2 ou
       unclaimed = f.unclaimed;
     }
 
-    left_steady : Steady tail ops next ret t left
+    left_steady : Steady tail ops next ends_block t left
     left_steady = record {
       located = leave_stands (Counts ops) (what_of ops) far done2 out2 Y old left k v pd r.within refl z slots
           r.located;
-      nothing = λ e. subst (Nothing tail) (sym edits) (r.nothing e);
+      nowhere_needed = λ e. subst (NoneNeeded tail) (sym edits) (r.nowhere_needed e);
       held = r.held;
       scratch_reserve = record {
         idle = λ d b is. left_idle b (r.scratch_reserve.idle d b (scratch_back d t old left b machine is));
@@ -141,13 +141,13 @@ module _ (tail : BlockTail) (ops : List OperandValue) (far : Progress) (done2 ou
     own_at (InRegister g) at ne m w k2 x e = absurd (slot_no_register m.slots.count (slot_in m x) g (w.below x) e)
     own_at (InSlot g) at ne m w k2 x e = w.own x v.number g e (slot_then m k2 ∙ r.located.whole.own_slot v.number g at)
 
-    alone_at : (q : Place) → c ≡ q → q ≢ NoPlace → (m : StateValue) → IsWhole m → Kept left m → (x : ℕ) → place_in m x ≡ q → x ≡ v.number
-    alone_at NoPlace at ne m w k2 x e = absurd (ne refl)
-    alone_at (InRegister g) at ne m w k2 x e = elim (cases_eq x v.number) [
+    only_vreg_at : (q : Place) → c ≡ q → q ≢ NoPlace → (m : StateValue) → IsWhole m → Kept left m → (x : ℕ) → place_in m x ≡ q → x ≡ v.number
+    only_vreg_at NoPlace at ne m w k2 x e = absurd (ne refl)
+    only_vreg_at (InRegister g) at ne m w k2 x e = elim (cases_eq x v.number) [
       | inl a ↦ a
       | inr a ↦ (whole_tidy old r.located.whole).apart x v.number g (sym (z.others x a) ∙ k2.registers x g e) at
     ]
-    alone_at (InSlot g) at ne m w k2 x e = own_at (InSlot g) at ne m w k2 x (w.own_slot x g e)
+    only_vreg_at (InSlot g) at ne m w k2 x e = own_at (InSlot g) at ne m w k2 x (w.own_slot x g e)
 
     -- which vregs' slots aren't needed once the first move is added: the vreg's own if that is where it is expected
     abbrev Which : (ℕ → Bool) → Type 0
@@ -155,14 +155,14 @@ module _ (tail : BlockTail) (ops : List OperandValue) (far : Progress) (done2 ou
 
     first_moves : (need : ℕ → Bool) → Which need → c ≢ NoPlace → c ≢ far.here k → (m : StateValue) → Located (what_of ops) next m →
         Kept left m →
-        Moves tail far.lived far.out need Y v.number (Some c) (far.here k) c m
+        MovesNeed tail far.lived far.out need Y v.number (Some c) (far.here k) c m
     first_moves need which real other m st k2 =
         let is_made : (x : ℕ) → x ≡ v.number → Y (far.here k) x ≡ true = λ x e. ap (Y (far.here k)) e ∙ pd.makes.is_made in
         record {
           moved = λ x y. elim y [
             | located l e ↦ made (elim (cases_eq x v.number) [
               | inl a ↦ is_made x a
-              | inr a ↦ absurd (a (alone_at c refl real m st.whole k2 x (opt_from (place_in m x) c (sym (put_other (stands_at m) v.number (Some c) x a) ∙ e))))
+              | inr a ↦ absurd (a (only_vreg_at c refl real m st.whole k2 x (opt_from (place_in m x) c (sym (put_other (stands_at m) v.number (Some c) x a) ∙ e))))
             ])
             | in_slot f e ↦ made (is_made x (own_at c refl real m st.whole k2 x (opt_from (slot_in m x) c e)))
             | made g ↦ elim (pd.makes.grows c x g) [
@@ -188,8 +188,8 @@ module _ (tail : BlockTail) (ops : List OperandValue) (far : Progress) (done2 ou
         }
 
     -- what was needed before the vreg left, while it is being moved
-    on_its_way : c ≢ NoPlace → Owes tail far.lived far.out Y (put (stands_at left) v.number (Some c)) (slots_at left) left.edits
-    on_its_way real = subst (Owes tail far.lived far.out Y (put (stands_at left) v.number (Some c)) (slots_at left)) (sym edits) (record {
+    on_its_way : c ≢ NoPlace → OwesPlaces tail far.lived far.out Y (put (stands_at left) v.number (Some c)) (slots_at left) left.edits
+    on_its_way real = subst (OwesPlaces tail far.lived far.out Y (put (stands_at left) v.number (Some c)) (slots_at left)) (sym edits) (record {
       later = r.owes.later;
       claims = claims_weaken Known E (after_part insts (listed old.edits) placesf i n) (Need far.lived far.out far.made_at (stands_at old) (slots_at old))
           (Need far.lived far.out Y (put (stands_at left) v.number (Some c)) (slots_at left))
@@ -203,17 +203,17 @@ module _ (tail : BlockTail) (ops : List OperandValue) (far : Progress) (done2 ou
           ]) r.owes.claims;
     })
 
-    nothing_owed : (need : ℕ → Bool) → ret ≡ true → Owes tail far.lived need Y (stands_at left) (slots_at left) left.edits
+    nothing_owed : (need : ℕ → Bool) → ends_block ≡ true → OwesPlaces tail far.lived need Y (stands_at left) (slots_at left) left.edits
     nothing_owed need e = record {
       later = subst (λ es. AllFrom (after i) (listed es)) (sym edits) r.owes.later;
       claims = claims_weaken Known E (after_part insts (listed left.edits) placesf i n) (λ x p. ⊥) (Need far.lived need Y (stands_at left) (slots_at left))
-          (λ x p y. absurd y) (left_steady.nothing e);
+          (λ x p y. absurd y) (left_steady.nowhere_needed e);
     }
 
     -- no move is added if the vreg is expected nowhere or in its place
     stays_owed : (need : ℕ → Bool) → Which need → (c ≡ NoPlace) ⊎ (c ≡ far.here k) →
-        Owes tail far.lived need Y (stands_at left) (slots_at left) left.edits
-    stays_owed need which at = subst (Owes tail far.lived need Y (stands_at left) (slots_at left)) (sym edits) (record {
+        OwesPlaces tail far.lived need Y (stands_at left) (slots_at left) left.edits
+    stays_owed need which at = subst (OwesPlaces tail far.lived need Y (stands_at left) (slots_at left)) (sym edits) (record {
       later = r.owes.later;
       claims = claims_weaken Known E (after_part insts (listed old.edits) placesf i n) (Need far.lived far.out far.made_at (stands_at old) (slots_at old))
           (Need far.lived need Y (stands_at left) (slots_at left))
@@ -241,24 +241,24 @@ module _ (tail : BlockTail) (ops : List OperandValue) (far : Progress) (done2 ou
 
     -- nothing is moved
     stayed : (need : ℕ → Bool) (inst_regs : InstRegs) (middle : StateValue) → inst_regs ≡ t → middle ≡ left →
-        Owes tail far.lived need Y (stands_at left) (slots_at left) left.edits →
-        Sent tail ops next need ret inst_regs left middle
+        OwesPlaces tail far.lived need Y (stands_at left) (slots_at left) left.edits →
+        Sent tail ops next need ends_block inst_regs left middle
     stayed need inst_regs middle eu en o =
-        let rest : Sent tail ops next need ret t left
+        let rest : Sent tail ops next need ends_block t left
         left = record { steady = left_steady; owes = o; kept = kept_all left } in
-        subst (λ (y : InstRegs). Sent tail ops next need ret y left middle) (sym eu)
-        (subst (Sent tail ops next need ret t left) (sym en) rest)
+        subst (λ (y : InstRegs). Sent tail ops next need ends_block y left middle) (sym eu)
+        (subst (Sent tail ops next need ends_block t left) (sym en) rest)
 
-    awaited_step : (need : ℕ → Bool) → Which need → (inst_regs : InstRegs) (middle : StateValue) →
-        AddsMoveIf (after i) v.class (not ret && is_another c (far.here k)) (far.here k) c t inst_regs left middle →
-        Sent tail ops next need ret inst_regs left middle
-    awaited_step need which inst_regs middle (sent yes_made crosses) =
-        let x = another_is c (far.here k) (made_parts ret (is_another c (far.here k)) yes_made).1 in
+    expected_step : (need : ℕ → Bool) → Which need → (inst_regs : InstRegs) (middle : StateValue) →
+        AddsMoveIf (after i) v.class (not ends_block && is_another c (far.here k)) (far.here k) c t inst_regs left middle →
+        Sent tail ops next need ends_block inst_regs left middle
+    expected_step need which inst_regs middle (sent yes_made crosses) =
+        let x = another_is c (far.here k) (made_parts ends_block (is_another c (far.here k)) yes_made).1 in
         adds_move_step tail v.number (Some c)
         crosses x.0 z.here (inl refl)
         (λ m st k2. first_moves need which x.0 x.1 m st k2) left_steady (on_its_way x.0)
-    awaited_step need which inst_regs middle (unsent not_made eu en) =
-        stayed need inst_regs middle eu en (elim (unmade_parts ret (is_another c (far.here k)) not_made) [
+    expected_step need which inst_regs middle (unsent not_made eu en) =
+        stayed need inst_regs middle eu en (elim (unmade_parts ends_block (is_another c (far.here k)) not_made) [
           | inl a ↦ nothing_owed need a
           | inr a ↦ stays_owed need which (another_not c (far.here k) a)
         ])
@@ -266,7 +266,7 @@ module _ (tail : BlockTail) (ops : List OperandValue) (far : Progress) (done2 ou
     -- the store
     second_moves : s ≢ NoPlace → s ≢ far.here k → (middle : StateValue) → Kept left middle → (m : StateValue) →
         Located (what_of ops) next m → Kept middle m →
-        Moves tail far.lived far.out out2 Y v.number None (far.here k) s m
+        MovesNeed tail far.lived far.out out2 Y v.number None (far.here k) s m
     second_moves real other middle k2 m st k3 =
         let k4 : Kept left m = kept_then left middle m k2 k3 in
         let q = real_slot old.slots.count s (r.located.whole.below v.number) real in
@@ -303,8 +303,8 @@ module _ (tail : BlockTail) (ops : List OperandValue) (far : Progress) (done2 ou
         }
 
     module _ (inst_regs u : InstRegs) (middle new : StateValue) where
-      moved_none : (need : ℕ → Bool) → Sent tail ops next need ret inst_regs left middle →
-          Owes tail far.lived need Y (put (stands_at middle) v.number None) (slots_at middle) middle.edits
+      moved_none : (need : ℕ → Bool) → Sent tail ops next need ends_block inst_regs left middle →
+          OwesPlaces tail far.lived need Y (put (stands_at middle) v.number None) (slots_at middle) middle.edits
       moved_none need f = owes_same tail far.lived need Y (stands_at middle) (put (stands_at middle) v.number None) (slots_at middle)
           middle.edits
           (λ x. elim (cases_eq x v.number) [
@@ -312,40 +312,40 @@ module _ (tail : BlockTail) (ops : List OperandValue) (far : Progress) (done2 ou
             | inr a ↦ put_other (stands_at middle) v.number None x a
           ]) f.owes
 
-      ready_then : Sent tail ops next out2 ret inst_regs left middle → u ≡ inst_regs → new ≡ middle →
-          Ready tail ops next ret u new
+      ready_then : Sent tail ops next out2 ends_block inst_regs left middle → u ≡ inst_regs → new ≡ middle →
+          Ready tail ops next ends_block u new
       ready_then f eu en =
-          subst (λ (y : InstRegs). Ready tail ops next ret y new) (sym eu)
-          (subst (Ready tail ops next ret inst_regs) (sym en)
-          (ready_of tail ops next ret inst_regs middle f.steady f.owes))
+          subst (λ (y : InstRegs). Ready tail ops next ends_block y new) (sym eu)
+          (subst (Ready tail ops next ends_block inst_regs) (sym en)
+          (ready_of tail ops next ends_block inst_regs middle f.steady f.owes))
 
       -- the vreg is expected in its slot
-      stored_there : s ≡ c → AddsMoveIf (after i) v.class (not ret && (is_another s (far.here k) && not (is_place s c))) (far.here k) s inst_regs u middle new →
-          Sent tail ops next out2 ret inst_regs left middle →
-          Ready tail ops next ret u new
+      stored_there : s ≡ c → AddsMoveIf (after i) v.class (not ends_block && (is_another s (far.here k) && not (is_place s c))) (far.here k) s inst_regs u middle new →
+          Sent tail ops next out2 ends_block inst_regs left middle →
+          Ready tail ops next ends_block u new
       stored_there same (sent yes_made crosses) f =
-          let a = both_parts (is_another s (far.here k)) (is_place s c) (made_parts ret (is_another s (far.here k) && not (is_place s c)) yes_made).1 in
+          let a = both_parts (is_another s (far.here k)) (is_place s c) (made_parts ends_block (is_another s (far.here k) && not (is_place s c)) yes_made).1 in
           let b : is_place s c ≡ true = ap (λ q. is_place q c) same ∙ is_place-same c in absurd cc
       stored_there same (unsent not_made eu en) f = ready_then f eu en
 
-      stored_step : s ≢ c → AddsMoveIf (after i) v.class (not ret && (is_another s (far.here k) && not (is_place s c))) (far.here k) s inst_regs u middle new →
-          Sent tail ops next far.out ret inst_regs left middle →
-          Ready tail ops next ret u new
+      stored_step : s ≢ c → AddsMoveIf (after i) v.class (not ends_block && (is_another s (far.here k) && not (is_place s c))) (far.here k) s inst_regs u middle new →
+          Sent tail ops next far.out ends_block inst_regs left middle →
+          Ready tail ops next ends_block u new
       stored_step ne (sent yes_made crosses) f =
-          let a = both_parts (is_another s (far.here k)) (is_place s c) (made_parts ret (is_another s (far.here k) && not (is_place s c)) yes_made).1 in
+          let a = both_parts (is_another s (far.here k)) (is_place s c) (made_parts ends_block (is_another s (far.here k) && not (is_place s c)) yes_made).1 in
           let x = another_is s (far.here k) a.0 in
-          let g : Sent tail ops next out2 ret u middle new =
+          let g : Sent tail ops next out2 ends_block u middle new =
           adds_move_step tail v.number None
           crosses x.0 (f.kept.nowhere v.number z.here) (inr refl)
           (λ m st k3. second_moves x.0 x.1 middle f.kept m st k3) f.steady (moved_none far.out f) in
-          ready_of tail ops next ret u new g.steady g.owes
+          ready_of tail ops next ends_block u new g.steady g.owes
       stored_step ne (unsent not_made eu en) f =
-          let rest : Owes tail far.lived out2 Y (stands_at middle) (slots_at middle)
-          middle.edits = elim (unmade_parts ret (is_another s (far.here k) && not (is_place s c)) not_made) [
+          let rest : OwesPlaces tail far.lived out2 Y (stands_at middle) (slots_at middle)
+          middle.edits = elim (unmade_parts ends_block (is_another s (far.here k) && not (is_place s c)) not_made) [
             | inl a ↦ record {
               later = f.owes.later;
               claims = claims_weaken Known E (after_part insts (listed middle.edits) placesf i n) (λ x p. ⊥)
-                  (Need far.lived out2 Y (stands_at middle) (slots_at middle)) (λ x p y. absurd y) (f.steady.nothing a);
+                  (Need far.lived out2 Y (stands_at middle) (slots_at middle)) (λ x p y. absurd y) (f.steady.nowhere_needed a);
             }
             | inr a ↦ record {
               later = f.owes.later;
@@ -370,12 +370,12 @@ module _ (tail : BlockTail) (ops : List OperandValue) (far : Progress) (done2 ou
           ready_then (record { steady = f.steady; owes = rest; kept = f.kept }) eu en
 
   -- the definition k is placed, where it claimed its place
-  pub frees_alloc_step : (t u : InstRegs) (old new : StateValue) → FreesAlloc (after i) v ret (far.here k) t u old new →
-      Ready tail ops far ret t old →
-      Ready tail ops next ret u new
+  pub frees_alloc_step : (t u : InstRegs) (old new : StateValue) → FreesAlloc (after i) v ends_block (far.here k) t u old new →
+      Ready tail ops far ends_block t old →
+      Ready tail ops next ends_block u new
   frees_alloc_step t u old new d r = elim (cases_place (slot_in old v.number) (place_in old v.number)) [
     | inl a ↦ stored_there t old d.left d.settles d.slots d.edits d.machine r d.inst_regs u d.middle new a d.stored
-        (awaited_step t old d.left d.settles d.slots d.edits d.machine r out2 (inr (refl, a)) d.inst_regs d.middle d.awaited)
+        (expected_step t old d.left d.settles d.slots d.edits d.machine r out2 (inr (refl, a)) d.inst_regs d.middle d.expected)
     | inr a ↦ stored_step t old d.left d.settles d.slots d.edits d.machine r d.inst_regs u d.middle new a d.stored
-        (awaited_step t old d.left d.settles d.slots d.edits d.machine r far.out (inl refl) d.inst_regs d.middle d.awaited)
+        (expected_step t old d.left d.settles d.slots d.edits d.machine r far.out (inl refl) d.inst_regs d.middle d.expected)
   ]

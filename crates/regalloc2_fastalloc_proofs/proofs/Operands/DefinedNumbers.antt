@@ -35,6 +35,6 @@ defined_by-at (o ∷ os) (suc j) lt d = or_right (is_def o.kind && nat_eq o.vreg
 pub defined_by-number : (ops : List OperandValue) (n k : ℕ) → DefinesNumber ops n k → defined_by ops n ≡ true
 defined_by-number ops n k d = subst (λ x. defined_by ops x ≡ true) d.number (defined_by-at ops k d.operand d.definition)
 
--- and conversely
+-- a number among the defined numbers is defined by some operand
 pub number_defined : (ops : List OperandValue) (n : ℕ) → defined_by ops n ≡ true → (k : ℕ) × DefinesNumber ops n k
 number_defined ops n h = (let d = defined_by-some ops n h in (d.0, record { operand = d.1; definition = d.2; number = d.3 }))

@@ -48,7 +48,7 @@ leave_stands counts what far done2 out2 Y old new k v d within same z slots st =
       (λ j f us e. d.once.unread k j (within k d.claims) (within j (st.placed.claims j f)) d.is_def us e)
       d.places d.makes (record { now = ap opt (ap (place_in new) same ∙ z.here); same = λ x n. ap opt (z.others x (λ e. n (e ∙ sym same))) }) st.placed);
   below = λ j q cj e. subst (λ (s : SpillSlotsValue). q < s.count) (sym slots) (st.below j q cj e);
-  calm = st.calm;
+  unclobbered = st.unclobbered;
 }
 
 -- no definition is placed at the location of the vreg that is defined next

@@ -51,11 +51,11 @@ use_in_tables operands k o h request t lt e p not_it within =
     (op_in_tables operands k o t lt e not_it within)
 
 -- the four cases
-pub processes_operand_register : (i : ℕ) (is_ret : Bool) (operands : List OperandValue) (k : ℕ) (here : List Place) (t : InstRegs) (m : StateValue)
+pub processes_operand_register : (i : ℕ) (ends_block : Bool) (operands : List OperandValue) (k : ℕ) (here : List Place) (t : InstRegs) (m : StateValue)
     (o : OperandValue)
     (r : Register) (q : Place)
-    → o ≡ op_at operands k → nonallocatable_register o ≡ Some r → q ≡ InRegister r → ProcessesOperand i is_ret operands k here (slice_set here k q) t t m m
-processes_operand_register i is_ret operands k here t m o r q e h p =
+    → o ≡ op_at operands k → nonallocatable_register o ≡ Some r → q ≡ InRegister r → ProcessesOperand i ends_block operands k here (slice_set here k q) t t m m
+processes_operand_register i ends_block operands k here t m o r q e h p =
     let f = marked (nat_eq o.vreg.number 1073741823) o.constraint r h in
     a_register r (ap (λ (x : OperandValue). is_fixed_nonallocatable x) (sym e) ∙ f.0) (ap (λ (x : OperandValue). x.constraint) (sym e) ∙ f.1)
     (ap (λ (x : Place). slice_set here k x) p) refl refl
@@ -66,12 +66,12 @@ reading false true e f = absurd cc
 reading false false e f = refl
 
 -- a use that got its place and isn't fixed to a nonallocatable register is an operand that was processed: its place alone is set
-pub processes_operand_use : {i : ℕ} {is_ret : Bool} {operands : List OperandValue} {k : ℕ} {here : List Place} {t u : InstRegs} {old new : StateValue}
+pub processes_operand_use : {i : ℕ} {ends_block : Bool} {operands : List OperandValue} {k : ℕ} {here : List Place} {t u : InstRegs} {old new : StateValue}
     (o : OperandValue)
     (h : Place) {request : OperandRequest} {point : ℕ} {p : Place}
     → o ≡ op_at operands k → h ≡ slice_index_or here k NoPlace → request ≡ use_request o h → point ≡ after i → is_fixed_nonallocatable o ≡ false →
     is_def o.kind ≡ false
-    → AllocsUse point request p t u old new → ProcessesOperand i is_ret operands k here (slice_set here k p) t u old new
+    → AllocsUse point request p t u old new → ProcessesOperand i ends_block operands k here (slice_set here k p) t u old new
 processes_operand_use {i} {k} {here} {t} {u} {old} {new} o h {request} {p} e f g at not_it kind placed =
     let P : ℕ → OperandRequest → Type 0 = λ n x. AllocsUse n x p t u old new in
     a_use p (ap (λ (x : OperandValue). is_reading x) (sym e) ∙ reading (is_def o.kind) (is_fixed_nonallocatable o) kind not_it)
@@ -79,23 +79,23 @@ processes_operand_use {i} {k} {here} {t} {u} {old} {new} o h {request} {p} e f g
     (subst (λ (n : ℕ). P n request) at placed)) refl
 
 -- a definition that is no reuse and got its place is an operand that was processed: its place alone is set
-pub processes_operand_def : {i : ℕ} {is_ret : Bool} {operands : List OperandValue} {k : ℕ} {here : List Place} {t u : InstRegs} {old new : StateValue}
+pub processes_operand_def : {i : ℕ} {ends_block : Bool} {operands : List OperandValue} {k : ℕ} {here : List Place} {t u : InstRegs} {old new : StateValue}
     (o : OperandValue)
     {request : OperandRequest} {point : ℕ} {p : Place}
     → o ≡ op_at operands k → request ≡ def_request o → point ≡ after i → is_def o.kind ≡ true → ((n : ℕ) → o.constraint ≡ Reuse n → ⊥)
-    → AllocsDefOp point request is_ret p t u old new → ProcessesOperand i is_ret operands k here (slice_set here k p) t u old new
-processes_operand_def {i} {is_ret} {t} {u} {old} {new} o {request} {p} e g at def not_it placed =
-    let P : ℕ → OperandRequest → Type 0 = λ n x. AllocsDefOp n x is_ret p t u old new in
+    → AllocsDefOp point request ends_block p t u old new → ProcessesOperand i ends_block operands k here (slice_set here k p) t u old new
+processes_operand_def {i} {ends_block} {t} {u} {old} {new} o {request} {p} e g at def not_it placed =
+    let P : ℕ → OperandRequest → Type 0 = λ n x. AllocsDefOp n x ends_block p t u old new in
     a_def p (ap (λ (x : OperandValue). is_def x.kind) (sym e) ∙ def) (λ n h. not_it n (ap (λ (x : OperandValue). x.constraint) e ∙ h))
     (subst (P (after i)) (g ∙ ap (λ (x : OperandValue). def_request x) e) (subst (λ (n : ℕ). P n request) at placed)) refl
 
 -- a reuse that got its place is an operand that was processed: its place is set, and that of the use that it names
-pub processes_operand_reuse : {i : ℕ} {is_ret : Bool} {operands : List OperandValue} {k : ℕ} {here there : List Place} {t u : InstRegs} {old new : StateValue}
+pub processes_operand_reuse : {i : ℕ} {ends_block : Bool} {operands : List OperandValue} {k : ℕ} {here there : List Place} {t u : InstRegs} {old new : StateValue}
     (o : OperandValue) (n : ℕ) {request : OperandRequest} {point : ℕ} {p : Place}
     → o ≡ op_at operands k → request ≡ reuse_request o (op_at operands n) → point ≡ after i → is_def o.kind ≡ true → o.constraint ≡ Reuse n →
     there ≡ slice_set (slice_set here k p) n p
-    → AllocsDefOp point request is_ret p t u old new → ProcessesOperand i is_ret operands k here there t u old new
-processes_operand_reuse {i} {is_ret} {operands} {t} {u} {old} {new} o n {request} {p} e g at def names set placed =
-    let P : ℕ → OperandRequest → Type 0 = λ j x. AllocsDefOp j x is_ret p t u old new in
+    → AllocsDefOp point request ends_block p t u old new → ProcessesOperand i ends_block operands k here there t u old new
+processes_operand_reuse {i} {ends_block} {operands} {t} {u} {old} {new} o n {request} {p} e g at def names set placed =
+    let P : ℕ → OperandRequest → Type 0 = λ j x. AllocsDefOp j x ends_block p t u old new in
     a_reuse n p (ap (λ (x : OperandValue). is_def x.kind) (sym e) ∙ def) (ap (λ (x : OperandValue). x.constraint) (sym e) ∙ names)
     (subst (P (after i)) (g ∙ ap (λ (x : OperandValue). reuse_request x (op_at operands n)) e) (subst (λ (j : ℕ). P j request) at placed)) set

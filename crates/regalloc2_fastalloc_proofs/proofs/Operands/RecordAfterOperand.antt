@@ -23,7 +23,7 @@ use Rattle.regalloc2_fastalloc_proofs.proofs.Moves.ScratchRegTaken.{scratch_back
 use Rattle.regalloc2_fastalloc_proofs.proofs.Operands.ClaimAndUse.{PlacesUse, use_stays}
 use Rattle.regalloc2_fastalloc_proofs.proofs.Inst.AcrossInst.{arrive_register, arrive_slot, use_arrives}
 use Rattle.regalloc2_fastalloc_proofs.proofs.Operands.RecordOfInst.{Ready}
-use Rattle.regalloc2_fastalloc_proofs.proofs.Evictions.EvictKeepsRecord.{Nothing}
+use Rattle.regalloc2_fastalloc_proofs.proofs.Evictions.EvictKeepsRecord.{NoneNeeded}
 use Rattle.regalloc2_fastalloc_proofs.proofs.Operands.DefRecord.{frees_alloc_step}
 use Rattle.regalloc2_fastalloc_proofs.proofs.Operands.AllocOperand.{Got, and_one, and_one_same, and_one_grows, and_one_keeps}
 use Rattle.regalloc2_fastalloc_proofs.proofs.Operands.BlockTail.{BlockTail}
@@ -45,7 +45,7 @@ keeps_true : (a c : Bool) → c ≡ true → cond a true c ≡ true
 keeps_true true c e = refl
 keeps_true false c e = e
 
--- operand k's definition adds its number to those defined, and its value to those written, in its place; nothing else is added
+-- operand k's definition adds its number to the defined numbers, and its value to the written values, in its place; nothing else is added
 pub makes_one : (ops : List OperandValue) (here : ℕ → Place) (out : ℕ → Bool) (X : Place → ℕ → Bool) (k : ℕ) →
     PlacesDefinition (what_of ops) here out (and_one out (op_at ops k).vreg.number) X (made_one X (here k) (op_at ops k).vreg.number) k
 makes_one ops here out X k = record {
@@ -62,10 +62,10 @@ makes_one ops here out X k = record {
       ∙ ap (λ b. cond b true (X (here k) (op_at ops k).vreg.number)) (eq-eqb (op_at ops k).vreg.number (op_at ops k).vreg.number refl);
 }
 
-module _ (tail : BlockTail) (ops : List OperandValue) (far : Progress) (ret : Bool) (k : ℕ) (once : Once (Counts ops) (what_of ops)) where
+module _ (tail : BlockTail) (ops : List OperandValue) (far : Progress) (ends_block : Bool) (k : ℕ) (once : Once (Counts ops) (what_of ops)) where
   open tail use {Known, insts, placesf, i, n, E}
 
-  module _ (p : Place) (u : InstRegs) (old : StateValue) (g : Got tail ops far ret k p u old) where
+  module _ (p : Place) (u : InstRegs) (old : StateValue) (g : Got tail ops far ends_block k p u old) where
     abbrev num : ℕ
     num = (op_at ops k).vreg.number
 
@@ -88,12 +88,12 @@ module _ (tail : BlockTail) (ops : List OperandValue) (far : Progress) (ret : Bo
       arrive_whole new NoPlace at ne nowhere z slots = absurd (ne refl)
       arrive_whole new (InRegister r) at ne nowhere z slots =
           arrive_register old new v nowhere slots g.ready.located.whole r (g.ready.small k r g.claims (g.at_k ∙ at))
-          (λ x e. let y : NoPlace ≡ InRegister r = sym nowhere ∙ ap (place_in old) (nv ∙ sym (g.alone r at x e)) ∙ e in cc) z
+          (λ x e. let y : NoPlace ≡ InRegister r = sym nowhere ∙ ap (place_in old) (nv ∙ sym (g.only_vreg r at x e)) ∙ e in cc) z
       arrive_whole new (InSlot m) at ne nowhere z slots = arrive_slot old new v nowhere slots g.ready.located.whole m (ap (slot_in old) nv ∙ g.own_slot m at) z
 
       use_new : (new : StateValue) → place_in old v.number ≡ NoPlace → SetsAlloc old.places new.places v p → new.slots ≡ old.slots → new.edits ≡ old.edits →
           SameMachine old new →
-          Ready tail ops (record far { here = g.there; claimed = g.claimed2; done = and_one far.done k }) ret u new
+          Ready tail ops (record far { here = g.there; claimed = g.claimed2; done = and_one far.done k }) ends_block u new
       use_new new nowhere z slots edits machine =
           let z2 : SetsAlloc old.places new.places v (g.there k) = subst (SetsAlloc old.places new.places v) (sym g.at_k) z in
           let w : IsWhole new = arrive_whole new p refl (λ e. real (g.at_k ∙ e)) nowhere z slots in
@@ -118,7 +118,7 @@ module _ (tail : BlockTail) (ops : List OperandValue) (far : Progress) (ret : Bo
               claims = subst (λ es. Claims Known (after_part insts (listed es) placesf i n)
                   (Need far.lived far.out far.made_at (stands_at new) (slots_at new)) E) (sym edits) c2;
             };
-            nothing = λ a. subst (Nothing tail) (sym edits) (g.ready.nothing a);
+            nowhere_needed = λ a. subst (NoneNeeded tail) (sym edits) (g.ready.nowhere_needed a);
             held = g.ready.held;
             scratch_reserve = record {
               idle = λ c b is. (let y = g.ready.scratch_reserve.idle c b (scratch_back c u old new b machine is) in record {
@@ -139,15 +139,15 @@ module _ (tail : BlockTail) (ops : List OperandValue) (far : Progress) (ret : Bo
             small = g.ready.small;
           }
 
-      -- once a use's vreg has its location, the record holds with its operand among those that are placed
+      -- once a use's vreg has its location, the record holds with its operand among the placed ones
       pub use_step : (new : StateValue) → LocatesUse v p old new
-          → Ready tail ops (record far { here = g.there; claimed = g.claimed2; done = and_one far.done k }) ret u new
-      use_step new (stays there en) = subst (Ready tail ops (record far { here = g.there; claimed = g.claimed2; done = and_one far.done k }) ret u) (sym en)
+          → Ready tail ops (record far { here = g.there; claimed = g.claimed2; done = and_one far.done k }) ends_block u new
+      use_step new (stays there en) = subst (Ready tail ops (record far { here = g.there; claimed = g.claimed2; done = and_one far.done k }) ends_block u) (sym en)
           (record {
             located = use_stays (what_of ops) (record far { here = g.there; claimed = g.claimed2 }) (and_one far.done k) old k placed_use
                 (λ e. there (ap (place_in old) nv ∙ e)) g.ready.located;
             owes = g.ready.owes;
-            nothing = g.ready.nothing;
+            nowhere_needed = g.ready.nowhere_needed;
             held = g.ready.held;
             scratch_reserve = g.ready.scratch_reserve;
             fit = g.ready.fit;
@@ -158,17 +158,17 @@ module _ (tail : BlockTail) (ops : List OperandValue) (far : Progress) (ret : Bo
       use_step new (located nowhere z slots edits machine order) = use_new new nowhere z slots edits machine
 
     -- a definition
-    pub def_step : (w : InstRegs) (new : StateValue) → is_def (op_at ops k).kind ≡ true → FreesAlloc (after i) (op_at ops k).vreg ret p u w old new →
+    pub def_step : (w : InstRegs) (new : StateValue) → is_def (op_at ops k).kind ≡ true → FreesAlloc (after i) (op_at ops k).vreg ends_block p u w old new →
         Ready tail ops (record far {
           here = g.there;
           claimed = g.claimed2;
           done = and_one far.done k;
           out = and_one far.out (op_at ops k).vreg.number;
           made_at = made_one far.made_at (g.there k) (op_at ops k).vreg.number;
-        }) ret w new
+        }) ends_block w new
     def_step w new def d =
         frees_alloc_step tail ops (record far { here = g.there; claimed = g.claimed2 }) (and_one far.done k)
-        (and_one far.out (op_at ops k).vreg.number) (made_one far.made_at (g.there k) (op_at ops k).vreg.number) ret k
+        (and_one far.out (op_at ops k).vreg.number) (made_one far.made_at (g.there k) (op_at ops k).vreg.number) ends_block k
         (record {
           makes = makes_one ops g.there far.out far.made_at k;
           places = places_one far.done k;
@@ -176,4 +176,4 @@ module _ (tail : BlockTail) (ops : List OperandValue) (far : Progress) (ret : Bo
           claims = g.claims;
           is_def = def;
         }) u w old new
-        (subst (λ q. FreesAlloc (after i) (op_at ops k).vreg ret q u w old new) (sym g.at_k) d) g.ready
+        (subst (λ q. FreesAlloc (after i) (op_at ops k).vreg ends_block q u w old new) (sym g.at_k) d) g.ready

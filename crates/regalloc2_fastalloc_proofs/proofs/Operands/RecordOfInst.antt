@@ -12,7 +12,7 @@ use Rattle.regalloc2_semantics.specs.OperandsPlaced.{what_of, Progress, Held, On
 use Rattle.regalloc2_fastalloc_state.specs.declared.inst_regs.InstRegs.{InstRegs}
 use Rattle.regalloc2_function.specs.FunctionValue.{op_at}
 use Rattle.regalloc2_fastalloc_proofs.specs.InstSteps.{StateValue}
-use Rattle.regalloc2_fastalloc_proofs.proofs.Operands.RecordOverState.{stands_at, slots_at, Located, Owes, located_used}
+use Rattle.regalloc2_fastalloc_proofs.proofs.Operands.RecordOverState.{stands_at, slots_at, Located, OwesPlaces, located_used}
 use Rattle.regalloc2_fastalloc_proofs.proofs.Evictions.EvictVReg.{held_early, held_late}
 use Rattle.regalloc2_fastalloc_proofs.proofs.Moves.ScratchRegTaken.{Fit, Spare, fit_used, spare_used}
 use Rattle.regalloc2_fastalloc_proofs.proofs.Operands.BlockTail.{BlockTail}
@@ -30,7 +30,7 @@ pub record Orderly (ops : List OperandValue) : Type 0 where
       ⊎ ((r : Register) × ((op_at ops m).constraint ≡ FixedReg r))
   pub apart : (d e m : ℕ) → d < length ops → e < length ops → (op_at ops d).constraint ≡ Reuse m → (op_at ops e).constraint ≡ Reuse m → d ≡ e
 
--- An operand was allocated: in the pass over late operands the late ones before k, in that over early ones all late ones and those before k.
+-- An operand was allocated: in the pass over late operands the late ones before k, in the pass over early operands all late ones and the early ones before k.
 abbrev pub Turned : List OperandValue → Bool → ℕ → ℕ → Type 0
 Turned ops late k j = ((is_late (op_at ops j).position ≡ true) × (j < k)) ⊎ ((late ≡ false) × ((is_late (op_at ops j).position ≡ true) ⊎ (j < k)))
 
@@ -50,11 +50,11 @@ module _ (tail : BlockTail) where
   open tail use {Known, insts, placesf, i, n, E}
 
   -- What each step on the tables and on the instruction's registers keeps. far: the progress of its operands;
-  -- ret: the instruction is a return, after which nothing is needed.
-  pub record Ready (ops : List OperandValue) (far : Progress) (ret : Bool) (u : InstRegs) (t : StateValue) : Type 0 where
+  -- ends_block: the instruction is the last of its block, after which nothing is needed.
+  pub record Ready (ops : List OperandValue) (far : Progress) (ends_block : Bool) (u : InstRegs) (t : StateValue) : Type 0 where
     pub located : Located (what_of ops) far t
-    pub owes : Owes tail far.lived far.out far.made_at (stands_at t) (slots_at t) t.edits
-    pub nothing : ret ≡ true → Claims Known (after_part insts (listed t.edits) placesf i n) (λ x p. ⊥) E
+    pub owes : OwesPlaces tail far.lived far.out far.made_at (stands_at t) (slots_at t) t.edits
+    pub nowhere_needed : ends_block ≡ true → Claims Known (after_part insts (listed t.edits) placesf i n) (λ x p. ⊥) E
     pub held : Held (what_of ops) far.here far.claimed (held_early u) (held_late u)
     pub scratch_reserve : Spare far.here far.claimed far.made_at u t
     pub fit : Fit t
@@ -63,12 +63,12 @@ module _ (tail : BlockTail) where
     pub small : (j : ℕ) (r : Register) → far.claimed j ≡ true → far.here j ≡ InRegister r → r.number < 64
 
   -- the order in which registers were used doesn't matter
-  pub ready_used : (ops : List OperandValue) (far : Progress) (ret : Bool) (u : InstRegs) (t : StateValue) (order : List (List Register)) →
-      Ready ops far ret u t → Ready ops far ret u (record t { lrus = order })
-  ready_used ops far ret u t order h = record {
+  pub ready_used : (ops : List OperandValue) (far : Progress) (ends_block : Bool) (u : InstRegs) (t : StateValue) (order : List (List Register)) →
+      Ready ops far ends_block u t → Ready ops far ends_block u (record t { lrus = order })
+  ready_used ops far ends_block u t order h = record {
     located = located_used (what_of ops) far t order h.located;
     owes = h.owes;
-    nothing = h.nothing;
+    nowhere_needed = h.nowhere_needed;
     held = h.held;
     scratch_reserve = spare_used far.here far.claimed far.made_at u t order h.scratch_reserve;
     fit = fit_used t order h.fit;
@@ -78,14 +78,14 @@ module _ (tail : BlockTail) where
   }
 
   -- The record before the operand k is allocated in the pass over late or early operands; list has the places of the instruction so far.
-  pub record Laid (ops : List OperandValue) (lived : ℕ → Bool) (clob : Place → Bool) (ret late : Bool) (k : ℕ) (list : List Place) (u : InstRegs)
+  pub record Laid (ops : List OperandValue) (lived : ℕ → Bool) (clob : Place → Bool) (ends_block late : Bool) (k : ℕ) (list : List Place) (u : InstRegs)
       (t : StateValue) : Type 0 where
     pub here : ℕ → Place
     pub claimed : ℕ → Bool
     pub done : ℕ → Bool
     pub out : ℕ → Bool
     pub X : Place → ℕ → Bool
-    pub ready : Ready ops (progress lived clob here claimed done out X) ret u t
+    pub ready : Ready ops (progress lived clob here claimed done out X) ends_block u t
     pub turned : (j : ℕ) → done j ≡ true → Turned ops late k j
     pub all : (j : ℕ) → Counts ops j → Turned ops late k j → done j ≡ true
     -- fixed operands, and reuses of fixed ones, claimed their registers before
@@ -101,15 +101,15 @@ module _ (tail : BlockTail) where
     pub written : (j : ℕ) → done j ≡ true → is_def (op_at ops j).kind ≡ true → X (here j) (op_at ops j).vreg.number ≡ true
 
 -- The context of the passes over an instruction's operands: the tail of the block; the operands, which are orderly; the numbers that had a location when
--- the instruction began; the clobbered places; and whether the instruction is a return.
+-- the instruction began; the clobbered places; and whether the instruction ends its block.
 pub record LayingContext : Type 1 where
   pub tail : BlockTail
   pub ops : List OperandValue
   pub lived : ℕ → Bool
   pub clob : Place → Bool
-  pub ret : Bool
+  pub ends_block : Bool
   pub orderly : Orderly ops
 
 -- the record, built from its parts
 abbrev pub laying_of : BlockTail → (ops : List OperandValue) → (ℕ → Bool) → (Place → Bool) → Bool → Orderly ops → LayingContext
-laying_of tail ops lived clob ret orderly = record { tail = tail; ops = ops; lived = lived; clob = clob; ret = ret; orderly = orderly }
+laying_of tail ops lived clob ends_block orderly = record { tail = tail; ops = ops; lived = lived; clob = clob; ends_block = ends_block; orderly = orderly }

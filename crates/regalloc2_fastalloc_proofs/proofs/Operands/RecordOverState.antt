@@ -74,12 +74,12 @@ pub record Located (what : ℕ → What) (far : Progress) (t : StateValue) : Typ
   pub whole : IsWhole t
   pub placed : Placed what far (stands_at t) (slots_at t)
   pub below : (j k : ℕ) → far.claimed j ≡ true → far.here j ≡ InSlot k → k < t.slots.count
-  pub calm : (k : ℕ) → far.clobbered (InSlot k) ≡ false
+  pub unclobbered : (k : ℕ) → far.clobbered (InSlot k) ≡ false
 
 -- the order in which registers were used doesn't matter
 pub located_used : (what : ℕ → What) (far : Progress) (t : StateValue) (order : List (List Register)) → Located what far t →
     Located what far (record t { lrus = order })
-located_used what far t order l = record { whole = whole_used t order l.whole; placed = l.placed; below = l.below; calm = l.calm }
+located_used what far t order l = record { whole = whole_used t order l.whole; placed = l.placed; below = l.below; unclobbered = l.unclobbered }
 
 -- a vreg moves from its register to its slot, which it had or which is made
 pub record Shifts (old new : StateValue) (v : VirtualRegister) (r : Register) (s : Place) : Type 0 where
@@ -90,7 +90,7 @@ pub record Shifts (old new : StateValue) (v : VirtualRegister) (r : Register) (s
   pub now : stands_at new v.number ≡ Some s
   pub slot : slots_at new v.number ≡ Some s
   pub same : (x : ℕ) → (x ≡ v.number → ⊥) → stands_at new x ≡ stands_at old x
-  pub alone : (x : ℕ) → stands_at old x ≡ Some (InRegister r) → x ≡ v.number
+  pub only_vreg : (x : ℕ) → stands_at old x ≡ Some (InRegister r) → x ≡ v.number
   pub empty : (x : ℕ) → place_in new x ≡ InRegister r → ⊥
   pub no_slot : (x : ℕ) (q : Register) → slots_at new x ≡ Some (InRegister q) → ⊥
   pub grows : (x : ℕ) (p : Place) → slots_at old x ≡ Some p → slots_at new x ≡ Some p
@@ -101,7 +101,7 @@ pub record Shifts (old new : StateValue) (v : VirtualRegister) (r : Register) (s
 pub grown_slots : (At : ℕ → Type 0) (old new : StateValue) → Grown At old new → (x : ℕ) (p : Place) → slots_at old x ≡ Some p → slots_at new x ≡ Some p
 grown_slots At old new g x p e = ap opt (g.stay x (λ none. opt_real (slot_in old x) p e (sym (opt_from (slot_in old x) p e) ∙ none))) ∙ e
 
--- and over any sequence of changes
+-- a vreg keeps its slot over any sequence of changes
 pub changes_slots : {old new : StateValue} → Changes Anything old new → (x : ℕ) (p : Place) → slots_at old x ≡ Some p → slots_at new x ≡ Some p
 changes_slots {old} {new} c = grown_slots (λ q. Unit {0}) old new (changes_grow (λ q. Unit {0}) c)
 
@@ -166,7 +166,7 @@ module _ (old new : StateValue) (v : VirtualRegister) (s : Place) (g : GetsSpill
         whole = whole_given e;
         placed = subst (λ (y : VRegAllocsValue). Placed what far (λ n. opt (alloc_of y n)) (slots_at new)) (sym e) p;
         below = λ j k c h. (let lt = st.below j k c h in omega (arith, lt, g.grows));
-        calm = st.calm;
+        unclobbered = st.unclobbered;
       }
 
 -- a vreg is evicted from a register, or leaves it for another reason
@@ -217,7 +217,7 @@ module _ (old new : StateValue) (v : VirtualRegister) (r : Register) (s : Place)
     now = ap opt z.here ∙ opt_some s g.there;
     slot = ap opt g.gives ∙ opt_some s g.there;
     same = λ x n. ap opt (z.others x n);
-    alone = λ x e. (whole_tidy old w).apart x v.number r (opt_from (place_in old x) (InRegister r) e) there;
+    only_vreg = λ x e. (whole_tidy old w).apart x v.number r (opt_from (place_in old x) (InRegister r) e) there;
     empty = λ x e. elim (cases_eq x v.number) [
       | inl i ↦ (let y : InSlot slot_is.0 ≡ InRegister r = sym slot_is.1 ∙ sym z.here ∙ ap (place_in new) (sym i) ∙ e in cc)
       | inr n ↦ n ((whole_tidy old w).apart x v.number r (sym (z.others x n) ∙ e) there)
@@ -237,7 +237,7 @@ shift_goes old new v r s h = record {
   was = h.was;
   own = h.slot;
   sets = record { now = h.now; same = h.same };
-  alone = h.alone;
+  alone = h.only_vreg;
   no_slot = λ x e. h.no_slot x r e;
 }
 
@@ -252,9 +252,9 @@ shift_stands old new v r s w h what far l st =
     record {
       whole = w;
       placed = step_evict what far (stands_at old) (stands_at new) (slots_at new) v.number (InRegister r) s (shift_goes old new v r s h) l
-          (ap far.clobbered h.is_slot ∙ st.calm h.number) p;
+          (ap far.clobbered h.is_slot ∙ st.unclobbered h.number) p;
       below = λ j k c e. (let less = st.below j k c e in omega (arith, less, h.count));
-      calm = st.calm;
+      unclobbered = st.unclobbered;
     }
 
 -- what the moves after the instruction, and the rest of the listing, carry
@@ -262,7 +262,7 @@ module _ (tail : BlockTail) where
   open tail use {Known, insts, placesf, i, n, E}
 
   -- no edit is before the point after the instruction, and what is listed from there on carries each known vreg from where it is needed
-  pub record Owes (lived out : ℕ → Bool) (X : Place → ℕ → Bool) (T S : ℕ → Option Place) (edits : List (ℕ × MoveValue)) : Type 0 where
+  pub record OwesPlaces (lived out : ℕ → Bool) (X : Place → ℕ → Bool) (T S : ℕ → Option Place) (edits : List (ℕ × MoveValue)) : Type 0 where
     pub later : AllFrom (after i) (listed edits)
     pub claims : Claims Known (after_part insts (listed edits) placesf i n) (Need lived out X T S) E
 
@@ -274,7 +274,7 @@ module _ (tail : BlockTail) where
   -- the reload of the vreg is pushed
   pub shift_owes : (old new : StateValue) (v : VirtualRegister) (r : Register) (s : Place) → Shifts old new v r s →
       (lived out : ℕ → Bool) (X : Place → ℕ → Bool) (edits : List (ℕ × MoveValue)) → ((u : ℕ) → X (InRegister r) u ≡ false) →
-      Owes lived out X (stands_at old) (slots_at old) edits → Owes lived out X (stands_at new) (slots_at new) (edits ++ a_move (after i) s (InRegister r) ∷ [])
+      OwesPlaces lived out X (stands_at old) (slots_at old) edits → OwesPlaces lived out X (stands_at new) (slots_at new) (edits ++ a_move (after i) s (InRegister r) ∷ [])
   shift_owes old new v r s h lived out X edits clear o =
       let L : List Item = after_part insts (listed edits) placesf i n in
       let c : Claims Known (Move (record { from = s; to = InRegister r }) ∷ L) (Need lived out X (stands_at new) (slots_at new)) E =
@@ -301,5 +301,5 @@ stands_edits what far t es st = record {
   };
   placed = st.placed;
   below = st.below;
-  calm = st.calm;
+  unclobbered = st.unclobbered;
 }

@@ -16,7 +16,7 @@ use Rattle.regalloc2_semantics.proofs.BoundaryToBoundary.{Covers, FreeAt, free_o
 use Rattle.regalloc2_semantics.proofs.Cells.{is_register-same}
 use Rattle.regalloc2_semantics.proofs.AllowedPlaces.{clear_free, clear_reuse, reuse_alone}
 use Rattle.regalloc2_fastalloc_state.specs.declared.inst_regs.InstRegs.{InstRegs}
-use Rattle.regalloc2_steps.specs.declared.positions.Positions.{Positions}
+use Rattle.regalloc2_fastalloc_state.specs.declared.positions.Positions.{Positions}
 use Rattle.regalloc2_fastalloc_state.specs.declared.request.Requirement.{Requirement}
 use Rattle.regalloc2_fastalloc_state.specs.declared.request.Requirement.TheVariants.{AnyPlace, AnyReg, InMemory, InPReg}
 use Rattle.regalloc2_fastalloc_state.specs.declared.request.OperandRequest.{OperandRequest}
@@ -44,9 +44,9 @@ adds_move_if_less point class is_made from to t u old new (sent e c) = adds_move
 adds_move_if_less point class is_made from to t u old new (unsent e eu en) = less_same t u eu
 
 -- freeing a definition and adding its moves makes no register available
-pub frees_alloc_less : (point : ℕ) (v : VirtualRegister) (ret : Bool) (p : Place) (t u : InstRegs) (old new : StateValue) → FreesAlloc point v ret p t u old new
+pub frees_alloc_less : (point : ℕ) (v : VirtualRegister) (ends_block : Bool) (p : Place) (t u : InstRegs) (old new : StateValue) → FreesAlloc point v ends_block p t u old new
     → Less t u
-frees_alloc_less point v ret p t u old new d = less_then t d.inst_regs u (adds_move_if_less _ _ _ _ _ t d.inst_regs d.left d.middle d.awaited)
+frees_alloc_less point v ends_block p t u old new d = less_then t d.inst_regs u (adds_move_if_less _ _ _ _ _ t d.inst_regs d.left d.middle d.expected)
     (adds_move_if_less _ _ _ _ _ d.inst_regs u d.middle new d.stored)
 
 held_now : (b c s : Bool) → c ≡ (not (true && s) && b) → s ≡ true → c ≡ false
@@ -82,9 +82,9 @@ selects_place_register t o p old new w (slot h g e ed machine order) = absurd (e
 selects_place_register t o p old new w (free r h away may fr first e en) = (r, e)
 
 module _ (laying : LayingContext) (late : Bool) (k : ℕ) (list : List Place) (u : InstRegs) (t : StateValue)
-    (L : Laid laying.tail laying.ops laying.lived laying.clob laying.ret late k list u t) (lt : k < length laying.ops)
+    (L : Laid laying.tail laying.ops laying.lived laying.clob laying.ends_block late k list u t) (lt : k < length laying.ops)
     (inst_regs : is_late (op_at laying.ops k).position ≡ late) (q : ℕ) (reuse : (op_at laying.ops k).constraint ≡ Reuse q) where
-  open laying use {tail, ops, lived, clob, ret, orderly}
+  open laying use {tail, ops, lived, clob, ends_block, orderly}
   open laying.tail use {Known, insts, placesf, i, n, E}
 
   -- the progress of the operands
@@ -196,7 +196,7 @@ module _ (laying : LayingContext) (late : Bool) (k : ℕ) (list : List Place) (u
         clear_free (what_of ops) L.here L.claimed (held_early u) (held_late u) q (InRegister r) L.ready.held
         (free_of (what_of ops q) (held_early u) (held_late u) true true (InRegister r) (covers_both (what_of ops q)) free_at)
 
-  module _ (p : Place) (w : InstRegs) (m : StateValue) (s : AllocsDefOp (after i) (reuse_request (op_at ops k) (op_at ops q)) ret p u w t m) where
+  module _ (p : Place) (w : InstRegs) (m : StateValue) (s : AllocsDefOp (after i) (reuse_request (op_at ops k) (op_at ops q)) ends_block p u w t m) where
     abbrev o : OperandRequest
     o = reuse_request (op_at ops k) (op_at ops q)
 
@@ -207,8 +207,8 @@ module _ (laying : LayingContext) (late : Bool) (k : ℕ) (list : List Place) (u
     real : p ≢ NoPlace
     real e = let x : InRegister in_reg.0 ≡ NoPlace = sym in_reg.1 ∙ e in cc
 
-    got : Got tail ops now ret k p s.inst_regs s.middle
-    got = allocs_operand_step tail ops now ret (record {
+    got : Got tail ops now ends_block k p s.inst_regs s.middle
+    got = allocs_operand_step tail ops now ends_block (record {
       k = k;
       o = o;
       nv = refl;
@@ -230,8 +230,8 @@ module _ (laying : LayingContext) (late : Bool) (k : ℕ) (list : List Place) (u
     abbrev X2 : Place → ℕ → Bool
     X2 = made_one L.X (got.there k) (op_at ops k).vreg.number
 
-    ready : Ready tail ops (progress lived clob got.there got.claimed2 (and_one L.done k) out2 X2) ret w m
-    ready = def_step tail ops now ret k orderly.once p s.inst_regs s.middle got w m def s.defines
+    ready : Ready tail ops (progress lived clob got.there got.claimed2 (and_one L.done k) out2 X2) ends_block w m
+    ready = def_step tail ops now ends_block k orderly.once p s.inst_regs s.middle got w m def s.defines
 
     abbrev list1 : List Place
     list1 = slice_set list k p
@@ -259,7 +259,7 @@ module _ (laying : LayingContext) (late : Bool) (k : ℕ) (list : List Place) (u
         (waits_set ops list k j p r (omega (arith, lt, L.long)) real nk x)
 
     -- the named use is fixed, and has claimed the register before
-    laid_fixed : (r : Register) → (op_at ops q).constraint ≡ FixedReg r → Laid tail ops lived clob ret late (k + 1) list2 w m
+    laid_fixed : (r : Register) → (op_at ops q).constraint ≡ FixedReg r → Laid tail ops lived clob ends_block late (k + 1) list2 w m
     laid_fixed r fx =
         let fq = L.fixed q r counts_q fx in
         let fk = L.fixed_reuse k q r counts_k reuse fx in
@@ -317,7 +317,7 @@ module _ (laying : LayingContext) (late : Bool) (k : ℕ) (list : List Place) (u
           (ap opt e ∙ ap Some (sym in_reg.1 ∙ sym got.at_k))
 
       held_w : held_early w (InRegister in_reg.0) ≡ true
-      held_w = ap not ((frees_alloc_less (after i) (op_at ops k).vreg ret p s.inst_regs w s.middle m s.defines).early in_reg.0
+      held_w = ap not ((frees_alloc_less (after i) (op_at ops k).vreg ends_block p s.inst_regs w s.middle m s.defines).early in_reg.0
           (claims_place_early (after i) o p in_reg.0 u s.inst_regs s.gets.middle s.gets.takes.claimed refl in_reg.1
           s.gets.takes.occupies))
 
@@ -341,8 +341,8 @@ module _ (laying : LayingContext) (late : Bool) (k : ℕ) (list : List Place) (u
             absurd cc;
       }
 
-      ready3 : Ready tail ops (progress lived clob there3 claimed3 (and_one L.done k) out2 X2) ret w m
-      ready3 = ready_claim tail ops (progress lived clob got.there got.claimed2 (and_one L.done k) out2 X2) there3 claimed3 ret puts counts_q covers_q grips
+      ready3 : Ready tail ops (progress lived clob there3 claimed3 (and_one L.done k) out2 X2) ends_block w m
+      ready3 = ready_claim tail ops (progress lived clob got.there got.claimed2 (and_one L.done k) out2 X2) there3 claimed3 ends_block puts counts_q covers_q grips
           (λ z e. ready.small k z got.claims (got.at_k ∙ in_reg.1 ∙ e))
           (λ c b is e. (ready.scratch_reserve.idle c b is).unclaimed k got.claims (got.at_k ∙ in_reg.1 ∙ e))
           (claim_register (what_of ops) (progress lived clob got.there got.claimed2 (and_one L.done k) out2 X2) there3 claimed3 m q in_reg.0 puts clear2
@@ -355,7 +355,7 @@ module _ (laying : LayingContext) (late : Bool) (k : ℕ) (list : List Place) (u
       same3 : (j : ℕ) → L.claimed j ≡ true → there3 j ≡ L.here j
       same3 j c = set_at_other got.there q j p (not_q j (got.keeps j c)) ∙ got.same j c
 
-      laid_any : Laid tail ops lived clob ret late (k + 1) list2 w m
+      laid_any : Laid tail ops lived clob ends_block late (k + 1) list2 w m
       laid_any =
           laid_next laying late k list u t L lt inst_regs there3 claimed3 out2 X2 list2 w m ready3 same3
           (λ j c. and_one_keeps got.claimed2 q j (got.keeps j c)) long2 (at_k ∙ sym got.at_k ∙ sym (set_at_other got.there q k p (λ e. apart (sym e))))
@@ -381,5 +381,5 @@ module _ (laying : LayingContext) (late : Bool) (k : ℕ) (list : List Place) (u
           (λ e. ap (λ z. X2 z (op_at ops k).vreg.number) (set_at_other got.there q k p (λ h. apart (sym h))) ∙ (makes_one ops got.there L.out L.X k).is_made)
 
     -- allocating operand k as a reuse keeps the record of the pass: k is done, and the use that it names has claimed the same place
-    pub laid_reuse : Laid tail ops lived clob ret late (k + 1) (slice_set (slice_set list k p) q p) w m
+    pub laid_reuse : Laid tail ops lived clob ends_block late (k + 1) (slice_set (slice_set list k p) q p) w m
     laid_reuse = elim (orderly.named_as k q lt reuse) [ inl a ↦ laid_any a | inr a ↦ laid_fixed a.0 a.1 ]

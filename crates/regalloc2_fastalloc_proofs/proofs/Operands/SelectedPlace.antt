@@ -8,7 +8,7 @@ use Rattle.regalloc2_names.specs.Place.{Place, NoPlace, InRegister, InSlot, is_p
 use Rattle.regalloc2_names.specs.declared.sets.PRegSet.{PRegSet}
 use Rattle.regalloc2_semantics.proofs.Cells.{is_place-true, is_place-same}
 use Rattle.regalloc2_fastalloc_state.specs.declared.inst_regs.InstRegs.{InstRegs}
-use Rattle.regalloc2_steps.specs.declared.positions.Positions.{Positions}
+use Rattle.regalloc2_fastalloc_state.specs.declared.positions.Positions.{Positions}
 use Rattle.regalloc2_fastalloc_state.specs.declared.request.Requirement.{Requirement}
 use Rattle.regalloc2_fastalloc_state.specs.declared.request.Requirement.TheVariants.{AnyPlace, AnyReg, InMemory, InPReg}
 use Rattle.regalloc2_fastalloc_state.specs.declared.request.OperandRequest.{OperandRequest}

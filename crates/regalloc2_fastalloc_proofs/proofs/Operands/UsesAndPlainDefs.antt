@@ -59,13 +59,13 @@ turned_not ops late k e t = elim t [
 ]
 
 -- an operand that is passed over in the pass over early operands was allocated before
-pub skipped : (ops : List OperandValue) (late : Bool) (k j : ℕ) → j ≡ k → (is_late (op_at ops k).position ≡ late → ⊥) → Turned ops late (k + 1) j →
+pub turned_before : (ops : List OperandValue) (late : Bool) (k j : ℕ) → j ≡ k → (is_late (op_at ops k).position ≡ late → ⊥) → Turned ops late (k + 1) j →
     Turned ops late k j
-skipped ops true k j e other t = elim t [
+turned_before ops true k j e other t = elim t [
   | inl a ↦ absurd (other (ap (λ x. is_late (op_at ops x).position) (sym e) ∙ a.0))
   | inr a ↦ (let x : true ≡ false = a.0 in absurd cc)
 ]
-skipped ops false k j e other t = ⊎_elim
+turned_before ops false k j e other t = ⊎_elim
     (λ (a : is_late (op_at ops k).position ≡ true). inr (refl, inl (ap (λ x. is_late (op_at ops x).position) e ∙ a)))
     (λ (a : is_late (op_at ops k).position ≡ false). absurd (other a))
     (cases_Bool (is_late (op_at ops k).position))
@@ -97,17 +97,17 @@ pub reads_no_fixed : (o : OperandValue) → is_reading o ≡ true → is_fixed_n
 reads_no_fixed o e f = both_ways (is_fixed_nonallocatable o) (reads_allocated o e) f
 
 module _ (laying : LayingContext) where
-  open laying use {tail, ops, lived, clob, ret, orderly}
+  open laying use {tail, ops, lived, clob, ends_block, orderly}
   open laying.tail use {Known, insts, placesf, i, n, E}
 
   module _ (late : Bool) (k : ℕ) (list : List Place) (u : InstRegs) (t : StateValue)
-      (L : Laid tail ops lived clob ret late k list u t) where
+      (L : Laid tail ops lived clob ends_block late k list u t) where
     -- the progress of the operands
     abbrev now : Progress
     now = progress lived clob L.here L.claimed L.done L.out L.X
 
     -- the operand isn't placed in this pass
-    pub laid_pass : (is_late (op_at ops k).position ≡ late → ⊥) → Laid tail ops lived clob ret late (k + 1) list u t
+    pub laid_pass : (is_late (op_at ops k).position ≡ late → ⊥) → Laid tail ops lived clob ends_block late (k + 1) list u t
     laid_pass other = record {
       here = L.here;
       claimed = L.claimed;
@@ -116,7 +116,7 @@ module _ (laying : LayingContext) where
       X = L.X;
       ready = L.ready;
       turned = λ j d. turned_next ops late k j (L.turned j d);
-      all = λ j c x. elim (turned_back ops late k j x) [ inl e ↦ L.all j c (skipped ops late k j e other x) | inr e ↦ L.all j c e ];
+      all = λ j c x. elim (turned_back ops late k j x) [ inl e ↦ L.all j c (turned_before ops late k j e other x) | inr e ↦ L.all j c e ];
       fixed = L.fixed;
       fixed_reuse = L.fixed_reuse;
       waiting = L.waiting;
@@ -127,7 +127,7 @@ module _ (laying : LayingContext) where
     }
 
     -- an operand has no place that matters
-    pub laid_aside : (q : Place) → (Counts ops k → ⊥) → Laid tail ops lived clob ret late (k + 1) (slice_set list k q) u t
+    pub laid_aside : (q : Place) → (Counts ops k → ⊥) → Laid tail ops lived clob ends_block late (k + 1) (slice_set list k q) u t
     laid_aside q out_of =
         let other : (j : ℕ) → Counts ops j → j ≡ k → ⊥ = λ j c e. out_of (subst (Counts ops) e c) in
         let same : (j : ℕ) → Counts ops j → slice_index_or (slice_set list k q) j NoPlace ≡ slice_index_or list j NoPlace = λ j c. get_or-set_other list k j q
@@ -176,7 +176,7 @@ module _ (laying : LayingContext) where
 
       -- the record after it
       pub laid_next : (there : ℕ → Place) (claimed2 out2 : ℕ → Bool) (X2 : Place → ℕ → Bool) (list2 : List Place) (w : InstRegs) (m : StateValue) →
-          Ready tail ops (progress lived clob there claimed2 (and_one L.done k) out2 X2) ret w m →
+          Ready tail ops (progress lived clob there claimed2 (and_one L.done k) out2 X2) ends_block w m →
           ((j : ℕ) → L.claimed j ≡ true → there j ≡ L.here j) → ((j : ℕ) → L.claimed j ≡ true → claimed2 j ≡ true) →
           length list2 ≡ length ops → slice_index_or list2 k NoPlace ≡ there k →
           ((j : ℕ) → Counts ops j → (j ≡ k → ⊥) → slice_index_or list2 j NoPlace ≢ NoPlace → (claimed2 j ≡ true) × (slice_index_or list2 j NoPlace ≡ there j)) →
@@ -184,7 +184,7 @@ module _ (laying : LayingContext) where
           ((j : ℕ) → claimed2 j ≡ true → L.done j ≡ false → (j ≡ k → ⊥) → (r : Register) × (there j ≡ InRegister r) × Waits ops list2 j r) →
           claimed2 k ≡ true →
           ((p : Place) (x : ℕ) → L.X p x ≡ true → X2 p x ≡ true) → (is_def (op_at ops k).kind ≡ true → X2 (there k) (op_at ops k).vreg.number ≡ true) →
-          Laid tail ops lived clob ret late (k + 1) list2 w m
+          Laid tail ops lived clob ends_block late (k + 1) list2 w m
       laid_next there claimed2 out2 X2 list2 w m ready same keeps long at_k listed2 placed2 waiting2 ck grows2 made2 = record {
         here = there;
         claimed = claimed2;
@@ -221,12 +221,12 @@ module _ (laying : LayingContext) where
         ];
       }
 
-      -- one place is set in the list
+      -- the list of places is set at k alone
       pub laid_one : (p : Place) (v w : InstRegs) (mid m : StateValue) (out2 : ℕ → Bool) (X2 : Place → ℕ → Bool)
-          (g : Got tail ops now ret k p v mid) →
-          Ready tail ops (progress lived clob g.there g.claimed2 (and_one L.done k) out2 X2) ret w m →
+          (g : Got tail ops now ends_block k p v mid) →
+          Ready tail ops (progress lived clob g.there g.claimed2 (and_one L.done k) out2 X2) ends_block w m →
           ((q : Place) (x : ℕ) → L.X q x ≡ true → X2 q x ≡ true) → (is_def (op_at ops k).kind ≡ true → X2 (g.there k) (op_at ops k).vreg.number ≡ true) →
-          Laid tail ops lived clob ret late (k + 1) (slice_set list k p) w m
+          Laid tail ops lived clob ends_block late (k + 1) (slice_set list k p) w m
       laid_one p v w mid m out2 X2 g ready grows2 made2 =
           let less : k < length list = omega (arith, lt, L.long) in
           let other : (j : ℕ) → (j ≡ k → ⊥) → slice_index_or (slice_set list k p) j NoPlace ≡ slice_index_or list j NoPlace = λ j ne. get_or-set_other list k j
@@ -275,13 +275,13 @@ module _ (laying : LayingContext) where
       -- allocating operand k as a use keeps the record of the pass, with k done
       pub laid_use : (p : Place) (w : InstRegs) (m : StateValue) → is_reading (op_at ops k) ≡ true →
           AllocsUse (after i) (use_request (op_at ops k) (slice_index_or list k NoPlace)) p u w t m →
-          Laid tail ops lived clob ret late (k + 1) (slice_set list k p) w m
+          Laid tail ops lived clob ends_block late (k + 1) (slice_set list k p) w m
       laid_use p w m reading s =
           let q : Place = slice_index_or list k NoPlace in
           let is_use : is_def (op_at ops k).kind ≡ false = reads_use (op_at ops k) reading in
           let counts : Counts ops k = (lt, inr reading) in
-          let g : Got tail ops now ret k p w s.middle =
-          allocs_operand_step tail ops now ret (record {
+          let g : Got tail ops now ends_block k p w s.middle =
+          allocs_operand_step tail ops now ends_block (record {
             k = k;
             o = use_request (op_at ops k) q;
             nv = use_number (op_at ops k) q;
@@ -297,7 +297,7 @@ module _ (laying : LayingContext) where
             s = L.ready;
           }) (use_due q refl counts is_use) s.gets in
           laid_one p w w s.middle m L.out L.X g
-          (use_step tail ops now ret k orderly.once p w s.middle g
+          (use_step tail ops now ends_block k orderly.once p w s.middle g
           (use_request (op_at ops k) q).vreg (use_number (op_at ops k) q) is_use m s.uses)
           (λ z x e. e) (λ e. absurd (let y : true ≡ false = sym e ∙ is_use in cc))
 
@@ -317,12 +317,12 @@ module _ (laying : LayingContext) where
 
       -- allocating operand k as a definition that is no reuse keeps the record of the pass, with k done
       pub laid_def : (p : Place) (w : InstRegs) (m : StateValue) → is_def (op_at ops k).kind ≡ true → ((a : ℕ) → (op_at ops k).constraint ≡ Reuse a → ⊥) →
-          AllocsDefOp (after i) (def_request (op_at ops k)) ret p u w t m →
-          Laid tail ops lived clob ret late (k + 1) (slice_set list k p) w m
+          AllocsDefOp (after i) (def_request (op_at ops k)) ends_block p u w t m →
+          Laid tail ops lived clob ends_block late (k + 1) (slice_set list k p) w m
       laid_def p w m def plain s =
           let counts : Counts ops k = (lt, inl def) in
-          let g : Got tail ops now ret k p s.inst_regs s.middle =
-          allocs_operand_step tail ops now ret (record {
+          let g : Got tail ops now ends_block k p s.inst_regs s.middle =
+          allocs_operand_step tail ops now ends_block (record {
             k = k;
             o = def_request (op_at ops k);
             nv = refl;
@@ -338,5 +338,5 @@ module _ (laying : LayingContext) where
             s = L.ready;
           }) (def_due counts def plain) s.gets in
           laid_one p s.inst_regs w s.middle m (and_one L.out (op_at ops k).vreg.number) (made_one L.X (g.there k) (op_at ops k).vreg.number) g
-          (def_step tail ops now ret k orderly.once p s.inst_regs s.middle g w m def s.defines)
+          (def_step tail ops now ends_block k orderly.once p s.inst_regs s.middle g w m def s.defines)
           (makes_one ops g.there L.out L.X k).keeps (λ e. (makes_one ops g.there L.out L.X k).is_made)

@@ -9,7 +9,7 @@ use Rattle.regalloc2_function.specs.WellFormed.{IsWellFormed, ReusesAreSound}
 use Rattle.regalloc2_semantics.specs.Instruction.{Knows}
 use Rattle.regalloc2_semantics.proofs.SingleDef.{Made, ReadsDefined, once_at, knows_at, defined_small, reads_defined}
 use Rattle.regalloc2_fastalloc_proofs.proofs.Operands.RecordOfInst.{Orderly}
-use Rattle.regalloc2_fastalloc_proofs.proofs.Safety.OperandAssumptions.{reusable}
+use Rattle.regalloc2_fastalloc_proofs.proofs.Safety.OperandAssumptions.{reused_constraint}
 
 module _ (env : MachineValue) (f : FunctionValue) (limited : IsLimited f) (ok : IsWellFormed env f) (i : ℕ) (lt : i < length f.insts) where
   reads : ReadsDefined f i
@@ -34,7 +34,7 @@ module _ (env : MachineValue) (f : FunctionValue) (limited : IsLimited f) (ok : 
         (r.0, ap is_def r.1.0, ap is_late r.1.1, r.1.2);
     named_as = λ d m less e.
         let r = reuses.targets d no_operand less m no_operand e in
-        reusable env (op_at (inst_at f i).operands m).vreg.class (op_at (inst_at f i).operands m).constraint r.1.4;
+        reused_constraint env (op_at (inst_at f i).operands m).vreg.class (op_at (inst_at f i).operands m).constraint r.1.4;
     apart = λ d e m ld le a b. reuses.apart d e m no_operand no_operand ld le a b;
   }
 

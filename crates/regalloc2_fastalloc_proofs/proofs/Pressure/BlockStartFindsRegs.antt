@@ -12,13 +12,13 @@ use Rattle.regalloc2_fastalloc_proofs.specs.InstSteps.{StateValue, Outcome, no_r
 use Rattle.regalloc2_fastalloc_proofs.specs.BlockStart.{ReloadParam, nowhere, comes, ReloadsParams, none_begun, one_begun}
 use Rattle.regalloc2_fastalloc_proofs.specs.BlockStart.{ReloadParams, ReloadRegs, ReloadAtBegin, at_parameter, at_register}
 use Rattle.regalloc2_fastalloc_proofs.specs.Safety.{IsEndOfMove, AreSafeRegs}
-use Rattle.regalloc2_fastalloc_proofs.proofs.Safety.StepsKeepSafe.{IsApart, StepKept, slot_end, stand_end, there_stands, rules_of}
+use Rattle.regalloc2_fastalloc_proofs.proofs.Safety.StepsKeepSafe.{AreKindsApart, StepKept, own_slot_is_end, stand_end, there_stands, rules_of}
 use Rattle.regalloc2_fastalloc_proofs.proofs.Slots.SlotsGrow.{gives_stay, end_grows}
 use Rattle.regalloc2_fastalloc_proofs.proofs.Safety.BlockStartKeepsSafe.{reloads_params_kept}
 use Rattle.regalloc2_fastalloc_proofs.proofs.Safety.InstKeepsSafe.{fresh_turn}
 use Rattle.regalloc2_fastalloc_proofs.specs.Pressure.EnoughRegs.{HasEnoughRegs, LeavesEnoughRegs, none_needed, AllWrite, AllMay, AreSafe}
 use Rattle.regalloc2_fastalloc_proofs.proofs.Safety.StepsKeepMachine.{keeps_of, machine_stays}
-use Rattle.regalloc2_fastalloc_proofs.proofs.Pressure.StepsKeepMachine.{HasAll, all_kept}
+use Rattle.regalloc2_fastalloc_proofs.proofs.Pressure.TablesHaveAllRegs.{HasAll, all_kept}
 use Rattle.regalloc2_fastalloc_proofs.proofs.Pressure.OneRegTaken.{ample_none, ample_kept}
 use Rattle.regalloc2_fastalloc_proofs.proofs.Pressure.StepsLeaveEnough.{ample_add_move_if, Demand, demand_of}
 use Rattle.regalloc2_fastalloc_proofs.proofs.Pressure.EvictionsLeaveEnough.{goes_away, never_after}
@@ -38,7 +38,7 @@ module _ (demand : Demand) where
       alloc_of old.places v.number ≢ NoPlace → not (is_place s (alloc_of old.places v.number)) ≡ true
       → IsEndOfMove env m.slots v s × IsEndOfMove env m.slots v (alloc_of old.places v.number) × (s ≡ alloc_of old.places v.number → ⊥)
   parameter_ends v s old m known h gives there made = (
-    slot_end env m.slots v s gives.gives gives.there gives.below,
+    own_slot_is_end env m.slots v s gives.gives gives.there gives.below,
     end_grows env old.slots m.slots v (alloc_of old.places v.number) (gives_stay old.slots m.slots v s gives)
         (stand_end env old.slots v (alloc_of old.places v.number) (there_stands env old.slots v (alloc_of old.places v.number) there (h.places v known))),
     goes_away s (alloc_of old.places v.number) made,
@@ -83,7 +83,7 @@ module _ (demand : Demand) where
 
 -- a block's start never fails
 pub never_reload_at_begin : (f : FunctionValue) (env : MachineValue) → MachineFits f env →
-    (apart : IsApart env) (Known : VirtualRegister → Type 0) (named : (v : VirtualRegister) → Known v → NamesClass f v.class) (point : ℕ)
+    (apart : AreKindsApart env) (Known : VirtualRegister → Type 0) (named : (v : VirtualRegister) → Known v → NamesClass f v.class) (point : ℕ)
     (params : List VirtualRegister)
     → ((k : ℕ) → k < length params → Known (slice_index_or params k no_vreg)) → (old : StateValue) → AreSafe env Known old → HasAll env old →
     ReloadAtBegin point params old no_register → ⊥

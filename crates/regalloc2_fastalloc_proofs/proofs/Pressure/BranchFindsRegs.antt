@@ -21,11 +21,11 @@ use Rattle.regalloc2_fastalloc_proofs.specs.BranchSteps.{ClassMove, is_class, of
 use Rattle.regalloc2_fastalloc_proofs.specs.BranchSteps.{none_gathered, one_gathered, own_argument, IsOwnDef, GathersMoves, no_edge, one_edge}
 use Rattle.regalloc2_fastalloc_proofs.specs.BranchSteps.{SpillArgument, GatherEdge, GatherMoves, ProcessBranch, in_gather, in_order}
 use Rattle.regalloc2_fastalloc_proofs.specs.Safety.{AreSafeRegs}
-use Rattle.regalloc2_fastalloc_proofs.proofs.Safety.StepsKeepSafe.{IsApart, StepKept, rules_of}
-use Rattle.regalloc2_fastalloc_proofs.proofs.Safety.BranchKeepsSafe.{AreGiven, gathers_edge_moves_kept as edge_kept_safe, gathers_moves_kept}
+use Rattle.regalloc2_fastalloc_proofs.proofs.Safety.StepsKeepSafe.{AreKindsApart, StepKept, rules_of}
+use Rattle.regalloc2_fastalloc_proofs.proofs.Safety.BranchKeepsSafe.{AreGatheredMoves, gathers_edge_moves_kept as edge_kept_safe, gathers_moves_kept}
 use Rattle.regalloc2_fastalloc_proofs.specs.Pressure.EnoughRegs.{HasEnoughRegs, AllWrite, AllMay, AreSafe}
 use Rattle.regalloc2_fastalloc_proofs.proofs.Safety.StepsKeepMachine.{keeps_of, machine_stays}
-use Rattle.regalloc2_fastalloc_proofs.proofs.Pressure.StepsKeepMachine.{HasAll, all_kept}
+use Rattle.regalloc2_fastalloc_proofs.proofs.Pressure.TablesHaveAllRegs.{HasAll, all_kept}
 use Rattle.regalloc2_fastalloc_proofs.proofs.Pressure.OneRegTaken.{ample_kept}
 use Rattle.regalloc2_fastalloc_proofs.proofs.Pressure.StepsLeaveEnough.{AreHeld, ample_evict_preg, Demand, demand_of}
 use Rattle.regalloc2_fastalloc_proofs.proofs.Pressure.ClaimLeavesEnough.{held_same, safe_held}
@@ -79,7 +79,7 @@ module _ (demand : Demand) where
   module _ (Own : VirtualRegister → Type 0) (params arguments : List VirtualRegister)
       (known : (j : ℕ) → j < length params → Known (slice_index_or params j no_vreg) × Unit {0}) (t : InstRegs)
       (old : StateValue) (before_it : List ClassMove)
-      (h : AreSafe env Known old) (ht : AreSafeRegs env t) (given_before : AreGiven Known AnyPasses old.slots before_it)
+      (h : AreSafe env Known old) (ht : AreSafeRegs env t) (given_before : AreGatheredMoves Known AnyPasses old.slots before_it)
       (a : HasEnoughRegs Named needed t old) where
     gathers_edge_moves_kept : (k : ℕ) (u : InstRegs) (m : StateValue) (given : List ClassMove) → GathersEdgeMoves Own point params arguments t old before_it
         k u m given →
@@ -112,7 +112,7 @@ module _ (demand : Demand) where
       Known (slice_index_or (block_at f (target_at f b k)).params j no_vreg) × Unit {0})
       (t : InstRegs) (old : StateValue) (h : AreSafe env Known old) (ht : AreSafeRegs env t) (a : HasEnoughRegs Named needed t old) where
     gathered_kept : (k : ℕ) (u : InstRegs) (m : StateValue) (given : List ClassMove) → GathersMoves f b point t old k u m given →
-        StepKept env Known AllWrite AllMay u m × AreGiven Known AnyPasses m.slots given
+        StepKept env Known AllWrite AllMay u m × AreGatheredMoves Known AnyPasses m.slots given
     gathered_kept k u m given gathers = gathers_moves_kept (rules_of env apart Known AllWrite AllMay point tt) AnyPasses (every_write point) f b known t old
         h ht k
         u m given
@@ -161,7 +161,7 @@ module _ (P : RegClass → Type 0) (point : ℕ) where
       (length (block_at f (target_at f b j)).params) u m given edge
 
 -- a branch never fails
-pub never_process_branch : {f : FunctionValue} {env : MachineValue} (fits : MachineFits f env) (apart : IsApart env) (Known : VirtualRegister → Type 0)
+pub never_process_branch : {f : FunctionValue} {env : MachineValue} (fits : MachineFits f env) (apart : AreKindsApart env) (Known : VirtualRegister → Type 0)
     (named : (v : VirtualRegister) → Known v → NamesClass f v.class) (needed : RegClass → ℕ) {b i : ℕ}
     → ((k j : ℕ) → k < length (block_at f b).succs → j < length (block_at f (target_at f b k)).params →
     Known (slice_index_or (block_at f (target_at f b k)).params j no_vreg) × Unit {0})

@@ -21,15 +21,15 @@ use Rattle.regalloc2_fastalloc_proofs.specs.InstSteps.{direct, through, EvictsPR
 use Rattle.regalloc2_fastalloc_proofs.specs.InstSteps.{cleared, EvictsOtherVRegs, own, others, SelectsPlace, ClaimsPlace, in_slot, in_register}
 use Rattle.regalloc2_fastalloc_proofs.specs.InstSteps.SelectsPlace.{stays, fixed, slot, free}
 use Rattle.regalloc2_fastalloc_proofs.specs.Safety.{MayBeLocatedAt, IsEndOfMove, AreSafeRegs}
-use Rattle.regalloc2_fastalloc_proofs.specs.InstSteps.{no_register, AllocOperand, in_pick, in_clear, FreeAlloc, to_awaited, to_slot}
-use Rattle.regalloc2_fastalloc_proofs.proofs.Safety.StepsKeepSafe.{IsApart, slot_end, stand_end, there_stands, adds_move_if_kept, rules_of}
+use Rattle.regalloc2_fastalloc_proofs.specs.InstSteps.{no_register, AllocOperand, in_pick, in_clear, FreeAlloc, to_expected, to_slot}
+use Rattle.regalloc2_fastalloc_proofs.proofs.Safety.StepsKeepSafe.{AreKindsApart, own_slot_is_end, stand_end, there_stands, adds_move_if_kept, rules_of}
 use Rattle.regalloc2_fastalloc_proofs.proofs.Slots.SlotsGrow.{SlotsStay, same_stay, end_grows, changes_stay}
 use Rattle.regalloc2_fastalloc_proofs.proofs.Moves.ScratchRegTaken.{Fit}
 use Rattle.regalloc2_fastalloc_proofs.proofs.Safety.OperandKeepsSafe.{leaves_safe, another_there}
 use Rattle.regalloc2_fastalloc_proofs.specs.Pressure.EnoughRegs.{HasEnoughRegs, AllWrite, AllMay, AreSafe}
 use Rattle.regalloc2_fastalloc_proofs.proofs.Safety.StepsKeepMachine.{KeepsMachine, keeps_of, keeps_same, machine_stays}
 use Rattle.regalloc2_fastalloc_proofs.proofs.Changes.InstChanges.{selects_place_changes, evicts_other_vregs_changes, adds_move_if_changes}
-use Rattle.regalloc2_fastalloc_proofs.proofs.Pressure.StepsKeepMachine.{HasAll, all_kept}
+use Rattle.regalloc2_fastalloc_proofs.proofs.Pressure.TablesHaveAllRegs.{HasAll, all_kept}
 use Rattle.regalloc2_fastalloc_proofs.proofs.Pressure.OneRegTaken.{free_but_one, free_kept, holds_loses, ample_same, ample_kept, ample_less, ample_some}
 use Rattle.regalloc2_fastalloc_proofs.proofs.Pressure.StepsLeaveEnough.{AreHeld, ample_evict_other_vregs, ample_add_move_if, demand_of}
 use Rattle.regalloc2_fastalloc_proofs.proofs.Changes.OneChange.{uses_rest}
@@ -68,13 +68,13 @@ IsPaid needed o p t old = (r : Register) → p ≡ InRegister r → is_free old.
 pub record Naming : Type 1 where
   pub Named : RegClass → Type 0
   pub env : MachineValue
-  pub apart : IsApart env
+  pub apart : AreKindsApart env
   pub Known : VirtualRegister → Type 0
   pub named : (v : VirtualRegister) → Known v → Named v.class
   pub point : ℕ
 
 -- the record, built from its parts
-abbrev pub naming_of : (Named : RegClass → Type 0) (env : MachineValue) → IsApart env → (Known : VirtualRegister → Type 0) →
+abbrev pub naming_of : (Named : RegClass → Type 0) (env : MachineValue) → AreKindsApart env → (Known : VirtualRegister → Type 0) →
     ((v : VirtualRegister) → Known v → Named v.class) → ℕ → Naming
 naming_of Named env apart Known named point = record { Named = Named; env = env; apart = apart; Known = Known; named = named; point = point }
 
@@ -155,7 +155,7 @@ module _ (naming : Naming) where
                 let b = free_kept claimed.allocatable r m u c (holds_loses r o.positions m u holds) (λ k. f) in omega (arith, a, b, s, w))
           ]
 
-  -- and the operand finds a place
+  -- an operand finds a place if enough registers are left
   pub never_alloc_operand : (needed : RegClass → ℕ) (o : OperandRequest) (t : InstRegs) (old : StateValue) → AllocOperand point o t old no_register →
       Known o.vreg →
       (o.requirement ≡ AnyReg → 0 < needed o.vreg.class) → AreHeld Known old → AreSafeRegs env t → HasEnoughRegs Named needed t old → ⊥
@@ -185,7 +185,7 @@ module _ (naming : Naming) (same : (v w : VirtualRegister) → naming.Known v �
   open naming use {Named, env, apart, Known, named, point}
 
   -- the moves of a definition
-  module _ (needed : RegClass → ℕ) (v : VirtualRegister) (is_ret : Bool) (p : Place) (t : InstRegs) (old : StateValue) (known : Known v)
+  module _ (needed : RegClass → ℕ) (v : VirtualRegister) (ends_block : Bool) (p : Place) (t : InstRegs) (old : StateValue) (known : Known v)
       (place : MayBeLocatedAt env old.slots v p) (h : AreSafe env Known old) (m : HasAll env old)
       (ht : AreSafeRegs env t) (a : HasEnoughRegs Named needed t old) where
     -- a vreg that is defined leaves the tables
@@ -202,11 +202,11 @@ module _ (naming : Naming) (same : (v w : VirtualRegister) → naming.Known v �
       from : IsEndOfMove env left.slots v p
       from = end_grows env old.slots left.slots v p stay (stand_end env old.slots v p place)
 
-      first_ends : (not is_ret && is_another (alloc_of old.places v.number) p) ≡ true → IsEndOfMove env left.slots v p
+      first_ends : (not ends_block && is_another (alloc_of old.places v.number) p) ≡ true → IsEndOfMove env left.slots v p
           × IsEndOfMove env left.slots v (alloc_of old.places v.number) × (p ≡ alloc_of old.places v.number → ⊥)
       first_ends made =
           let w : Place = alloc_of old.places v.number in
-          let other : is_another w p ≡ true = (and_parts (not is_ret) (is_another w p) made).1 in (
+          let other : is_another w p ≡ true = (and_parts (not ends_block) (is_another w p) made).1 in (
             from,
             end_grows env old.slots left.slots v w stay (stand_end env old.slots v w
                 (there_stands env old.slots v w (another_there w p other) (h.places v known))),
@@ -214,14 +214,14 @@ module _ (naming : Naming) (same : (v w : VirtualRegister) → naming.Known v �
           )
 
       second_ends : (middle : StateValue) → SlotsStay left.slots middle.slots →
-          (not is_ret && (is_another (slot_name old.slots v.number) p && not (is_place (slot_name old.slots v.number) (alloc_of old.places v.number)))) ≡ true
+          (not ends_block && (is_another (slot_name old.slots v.number) p && not (is_place (slot_name old.slots v.number) (alloc_of old.places v.number)))) ≡ true
           → IsEndOfMove env middle.slots v p × IsEndOfMove env middle.slots v (slot_name old.slots v.number) × (p ≡ slot_name old.slots v.number → ⊥)
       second_ends middle more made =
           let s : Place = slot_name old.slots v.number in
-          let other : is_another s p ≡ true = (and_parts (is_another s p) _ ((and_parts (not is_ret) _ made).1)).0 in (
+          let other : is_another s p ≡ true = (and_parts (is_another s p) _ ((and_parts (not ends_block) _ made).1)).0 in (
             end_grows env left.slots middle.slots v p more from,
             end_grows env old.slots middle.slots v s (λ n k is. more n k (stay n k is))
-                (slot_end env old.slots v s refl (another_there s p other) (h.slots v.number)),
+                (own_slot_is_end env old.slots v s refl (another_there s p other) (h.slots v.number)),
             another_differs s p other,
           )
 
@@ -231,7 +231,7 @@ module _ (naming : Naming) (same : (v w : VirtualRegister) → naming.Known v �
         all : HasAll env middle
         ample : HasEnoughRegs Named needed inst_regs middle
 
-      first_sent : (inst_regs : InstRegs) (middle : StateValue) → AddsMoveIf point v.class (not is_ret && is_another (alloc_of old.places v.number) p) p
+      first_sent : (inst_regs : InstRegs) (middle : StateValue) → AddsMoveIf point v.class (not ends_block && is_another (alloc_of old.places v.number) p) p
           (alloc_of old.places v.number) t inst_regs left middle → Sent inst_regs middle
       first_sent inst_regs middle sends = (let w : Place = alloc_of old.places v.number in
           record {
@@ -242,15 +242,15 @@ module _ (naming : Naming) (same : (v w : VirtualRegister) → naming.Known v �
 
     first_safe : (left : StateValue) → SetsAlloc old.places left.places v NoPlace → (slots : left.slots ≡ old.slots) → left.edits ≡ old.edits →
         (machine : SameMachine old left) → (inst_regs : InstRegs) (middle : StateValue) → AddsMoveIf point v.class
-        (not is_ret && is_another (alloc_of old.places v.number) p) p (alloc_of old.places v.number) t inst_regs left middle → AreSafeRegs env inst_regs
+        (not ends_block && is_another (alloc_of old.places v.number) p) p (alloc_of old.places v.number) t inst_regs left middle → AreSafeRegs env inst_regs
     first_safe left settles slots edits machine inst_regs middle sends =
         (adds_move_if_kept (rules_of env apart Known AllWrite AllMay point tt) v _ p (alloc_of old.places v.number) t inst_regs left middle sends known
         (λ made. let e = first_ends left slots machine made in (e.0, e.1, λ n x. tt))
         (leaves_safe (rules_of env apart Known AllWrite AllMay point tt) same v old left settles slots edits machine h) ht).inst_regs
 
     -- if registers are enough, the moves of a definition lack none
-    pub never_free_alloc : FreeAlloc point v is_ret p t old no_register → ⊥
-    never_free_alloc (to_awaited left settles slots edits machine stops) =
+    pub never_free_alloc : FreeAlloc point v ends_block p t old no_register → ⊥
+    never_free_alloc (to_expected left settles slots edits machine stops) =
         ample_add_move_if (demand_of Named needed point env apart Known named) v stops known (first_ends left slots machine) (left_all left slots machine) ht
         (left_ample left slots machine)
     never_free_alloc (to_slot left middle inst_regs settles slots edits machine sends stops) =
@@ -259,8 +259,8 @@ module _ (naming : Naming) (same : (v w : VirtualRegister) → naming.Known v �
         (first_safe left settles slots edits machine inst_regs middle sends) s.ample
 
     -- freeing a definition and adding its moves leaves enough registers
-    pub ample_frees_alloc : {u : InstRegs} {new : StateValue} → FreesAlloc point v is_ret p t u old new → HasEnoughRegs Named needed u new
+    pub ample_frees_alloc : {u : InstRegs} {new : StateValue} → FreesAlloc point v ends_block p t u old new → HasEnoughRegs Named needed u new
     ample_frees_alloc {u} {new} d =
-        let s = first_sent d.left d.slots d.machine d.inst_regs d.middle d.awaited in
+        let s = first_sent d.left d.slots d.machine d.inst_regs d.middle d.expected in
         ample_add_move_if (demand_of Named needed point env apart Known named) v d.stored known (second_ends d.left d.slots d.machine d.middle s.stay_too) s.all
-        (first_safe d.left d.settles d.slots d.edits d.machine d.inst_regs d.middle d.awaited) s.ample
+        (first_safe d.left d.settles d.slots d.edits d.machine d.inst_regs d.middle d.expected) s.ample

@@ -20,7 +20,7 @@ use Rattle.regalloc2_fastalloc_state.specs.InstRegs.{is_free, is_free_throughout
 use Rattle.regalloc2_fastalloc_state.proofs.CountingLaws.{count_some, some_count}
 use Rattle.regalloc2_fastalloc_proofs.specs.InstSteps.{StateValue, ReservesRegs, RemovesClobbers, IsFixedIn, scratch_reserve_left}
 use Rattle.regalloc2_fastalloc_proofs.specs.Pressure.EnoughRegs.{HasEnoughRegs, waiting, none_needed}
-use Rattle.regalloc2_fastalloc_proofs.proofs.Pressure.StepsKeepMachine.{HasAll}
+use Rattle.regalloc2_fastalloc_proofs.proofs.Pressure.TablesHaveAllRegs.{HasAll}
 use Rattle.regalloc2_fastalloc_proofs.proofs.Pressure.WaitingOperands.{is_taken_first, fits_enough, all_wait}
 
 -- all registers of the machine are free, and none was taken for moves

@@ -13,13 +13,13 @@ use Rattle.regalloc2_fastalloc_proofs.specs.Safety.{MayBeLocatedAt, IsEndOfMove,
 use Rattle.regalloc2_fastalloc_proofs.proofs.Safety.StepsKeepSafe.{StepKept, evicts_preg_kept, stand_end, there_stands, rules_of, safe_used}
 use Rattle.regalloc2_fastalloc_proofs.proofs.Slots.SlotsGrow.{end_grows, changes_stay}
 use Rattle.regalloc2_fastalloc_proofs.proofs.Slots.LocatedStaysLocated.{changes_last}
-use Rattle.regalloc2_fastalloc_proofs.proofs.Operands.AllocsSoFar.{at_place, IsTame, reads_allocated}
+use Rattle.regalloc2_fastalloc_proofs.proofs.Operands.AllocsSoFar.{at_place, AreSoundOperands, reads_allocated}
 use Rattle.regalloc2_fastalloc_proofs.proofs.Safety.InstKeepsSafe.{moves_uses_kept as all_kept_safe}
 use Rattle.regalloc2_fastalloc_proofs.specs.Pressure.EnoughRegs.{HasEnoughRegs, AllWrite, AllMay, AreSafe}
 use Rattle.regalloc2_fastalloc_proofs.proofs.Safety.StepsKeepMachine.{machine_stays}
 use Rattle.regalloc2_fastalloc_proofs.proofs.Changes.InstChanges.{moves_uses_changes}
 use Rattle.regalloc2_fastalloc_proofs.proofs.Changes.Evictions.{Evictions, evictions_keep}
-use Rattle.regalloc2_fastalloc_proofs.proofs.Pressure.StepsKeepMachine.{HasAll, all_kept}
+use Rattle.regalloc2_fastalloc_proofs.proofs.Pressure.TablesHaveAllRegs.{HasAll, all_kept}
 use Rattle.regalloc2_fastalloc_proofs.proofs.Pressure.StepsLeaveEnough.{ample_evict_preg, ample_add_move_if, Demand}
 use Rattle.regalloc2_fastalloc_proofs.proofs.Pressure.ClaimLeavesEnough.{safe_held}
 
@@ -61,13 +61,13 @@ module _ (demand : Demand) where
       (let x = evictions_ample evicts h ht a in ample_evict_preg demand stops (safe_held env Known m x.kept.safe) x.kept.inst_regs x.ample)
 
   -- the moves of uses
-  module _ (ops : List OperandValue) (tame : IsTame Known ops) (here : List Place) (t : InstRegs) (old : StateValue) (h : AreSafe env Known old)
+  module _ (ops : List OperandValue) (sound_ops : AreSoundOperands Known ops) (here : List Place) (t : InstRegs) (old : StateValue) (h : AreSafe env Known old)
       (all : HasAll env old) (ht : AreSafeRegs env t)
       (good : (j : ℕ) → j < length ops → is_reading (op_at ops j) ≡ true → MayBeLocatedAt env old.slots (op_at ops j).vreg (at_place here j))
       (found : (j : ℕ) → j < length ops → is_reading (op_at ops j) ≡ true → alloc_of old.places (op_at ops j).vreg.number ≢ NoPlace)
       (a : HasEnoughRegs Named needed t old) where
     moves_uses_kept : (k : ℕ) (u : InstRegs) (m : StateValue) → MovesUses point ops here t old k u m → k ≤ length ops → StepKept env Known AllWrite AllMay u m
-    moves_uses_kept k u m moves le = all_kept_safe apart tt tame h ht (λ j n less reads e. tt) good found moves le
+    moves_uses_kept k u m moves le = all_kept_safe apart tt sound_ops h ht (λ j n less reads e. tt) good found moves le
 
     -- the ends of a use's move
     ends : (j k : ℕ) (m : StateValue) (u : InstRegs) → MovesUses point ops here t old k u m → k ≤ length ops → j < length ops →
@@ -80,7 +80,7 @@ module _ (demand : Demand) where
         let from : Place = alloc_of m.places v.number in (
           stand_end env m.slots v from (there_stands env m.slots v from
               (changes_last v.number (moves_uses_changes (λ q r. tt) (λ n lt is q. tt) moves) (found j less reads))
-              ((moves_uses_kept k u m moves le).safe.places v (tame.known j less (reads_allocated (op_at ops j) reads)))),
+              ((moves_uses_kept k u m moves le).safe.places v (sound_ops.known j less (reads_allocated (op_at ops j) reads)))),
           end_grows env old.slots m.slots v (at_place here j) (changes_stay (moves_uses_changes (λ q r. tt) (λ n lt is q. tt) moves))
               (stand_end env old.slots v (at_place here j) (good j less reads)),
           goes_away from (at_place here j) made,
@@ -92,7 +92,7 @@ module _ (demand : Demand) where
     ample_moves_uses {u} {m} (not_moved j x s prev silent) le = ample_moves_uses prev (omega arith)
     ample_moves_uses {u} {m} (one_moved j x w s n prev reads sends) le =
         let p = moves_uses_kept j x s prev (omega arith) in
-        ample_add_move_if demand (op_at ops j).vreg sends (tame.known j (omega arith) (reads_allocated (op_at ops j) reads))
+        ample_add_move_if demand (op_at ops j).vreg sends (sound_ops.known j (omega arith) (reads_allocated (op_at ops j) reads))
         (ends j j s x prev (omega arith) (omega arith) reads)
         (all_kept env old s (machine_stays (moves_uses_changes (λ q r. tt) (λ n lt reads q. tt) prev)) all) p.inst_regs (ample_moves_uses prev (omega arith))
 
@@ -100,7 +100,7 @@ module _ (demand : Demand) where
     pub never_move_uses : MoveUses point ops here t old no_register → ⊥
     never_move_uses s =
         let lt : s.index < length ops = s.inside in
-        ample_add_move_if demand (op_at ops s.index).vreg s.stops.1 (tame.known s.index lt (reads_allocated (op_at ops s.index) s.stops.0))
+        ample_add_move_if demand (op_at ops s.index).vreg s.stops.1 (sound_ops.known s.index lt (reads_allocated (op_at ops s.index) s.stops.0))
         (ends s.index s.index s.middle s.given s.done (omega (arith, lt)) lt s.stops.0)
         (all_kept env old s.middle (machine_stays (moves_uses_changes (λ q r. tt) (λ n lt reads q. tt) s.done)) all)
         (moves_uses_kept s.index s.given s.middle s.done (omega (arith, lt))).inst_regs (ample_moves_uses s.done (omega (arith, lt)))

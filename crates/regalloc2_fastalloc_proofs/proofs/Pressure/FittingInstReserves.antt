@@ -10,12 +10,12 @@ use Rattle.regalloc2_function.specs.FunctionValue.{FunctionValue, InstValue, no_
 use Rattle.regalloc2_function.specs.Machine.{MachineValue, is_allocatable, IsFixedStackSlot}
 use Rattle.regalloc2_function.specs.Fitting.{Fits, HoldsEarly, HoldsLate, is_reuse}
 use Rattle.regalloc2_semantics.proofs.Operands.{reads_use}
-use Rattle.regalloc2_steps.specs.declared.positions.Positions.{Positions}
-use Rattle.regalloc2_steps.specs.Positions.{positions_of}
+use Rattle.regalloc2_fastalloc_state.specs.declared.positions.Positions.{Positions}
+use Rattle.regalloc2_fastalloc_state.specs.Positions.{positions_of}
 use Rattle.regalloc2_fastalloc_proofs.specs.InstSteps.{StateValue, NeedsFixedReg, own, named, RegsAreNotReserved, unknown, shared}
-use Rattle.regalloc2_fastalloc_proofs.proofs.Operands.AllocsSoFar.{IsTame, reads_allocated}
+use Rattle.regalloc2_fastalloc_proofs.proofs.Operands.AllocsSoFar.{AreSoundOperands, reads_allocated}
 use Rattle.regalloc2_fastalloc_proofs.proofs.BlockEnd.NoMoveInPasses.{overlap_cases}
-use Rattle.regalloc2_fastalloc_proofs.proofs.Pressure.StepsKeepMachine.{HasAll}
+use Rattle.regalloc2_fastalloc_proofs.proofs.Pressure.TablesHaveAllRegs.{HasAll}
 
 -- an operand that claims its register early holds the early position, and one that claims it late the late position
 holds_early : (o : OperandValue) → (positions_of o).early ≡ true → HoldsEarly o
@@ -39,7 +39,7 @@ either_false a b (inl e) h = both_ways (a || b) h (or_left a b e)
 either_false a b (inr e) h = both_ways (a || b) h (or_right a b e)
 
 module _ (f : FunctionValue) (env : MachineValue) (inst : InstValue) (fits : Fits f env inst) (Known : VirtualRegister → Type 0)
-    (tame : IsTame Known inst.operands) where
+    (sound_ops : AreSoundOperands Known inst.operands) where
   abbrev ops : List OperandValue
   ops = inst.operands
 
@@ -66,7 +66,7 @@ module _ (f : FunctionValue) (env : MachineValue) (inst : InstValue) (fits : Fit
       (op_at ops n).constraint ≡ FixedReg r → p ≡ record { early = false; late = true } → ClaimAt n r p
   named_at k n r p lt reuses within is at = record {
     within = within;
-    allocated = reads_allocated (op_at ops n) (tame.named k n lt reuses).2;
+    allocated = reads_allocated (op_at ops n) (sound_ops.named k n lt reuses).2;
     is_fixed = is;
     early = λ e. (let x : false ≡ true = ap (λ (q : Positions). q.early) (sym at) ∙ e in absurd cc);
     late = λ e x. (k, no_operand, lt, reuses);
@@ -104,13 +104,13 @@ module _ (f : FunctionValue) (env : MachineValue) (inst : InstValue) (fits : Fit
   -- an early use holds no register at the late position
   early_use : (k n : ℕ) → k < length ops → (op_at ops k).constraint ≡ Reuse n → (positions_of (op_at ops n)).late ≡ true → ⊥
   early_use k n lt reuses h = both_ways (positions_of (op_at ops n)).late (or_from (is_def (op_at ops n).kind) (is_late (op_at ops n).position)
-      (reads_use (op_at ops n) (tame.named k n lt reuses).2) (tame.named k n lt reuses).1) h
+      (reads_use (op_at ops n) (sound_ops.named k n lt reuses).2) (sound_ops.named k n lt reuses).1) h
 
   -- a reuse shares the late position alone
-  late_alone : (p q : Positions) → q ≡ record { early = false; late = true } → ((p.early ≡ true) × (q.early ≡ true)) ⊎ ((p.late ≡ true) × (q.late ≡ true)) →
+  late_of_shared : (p q : Positions) → q ≡ record { early = false; late = true } → ((p.early ≡ true) × (q.early ≡ true)) ⊎ ((p.late ≡ true) × (q.late ≡ true)) →
       p.late ≡ true
-  late_alone p q e (inl x) = (let y : false ≡ true = ap (λ (z : Positions). z.early) (sym e) ∙ x.1 in absurd cc)
-  late_alone p q e (inr x) = x.0
+  late_of_shared p q e (inl x) = (let y : false ≡ true = ap (λ (z : Positions). z.early) (sym e) ∙ x.1 in absurd cc)
+  late_of_shared p q e (inr x) = x.0
 
   never_shared : (j k : ℕ) (r : Register) (p q : Positions) → j < k → k < length ops → NeedsFixedReg ops j r p → NeedsFixedReg ops k r q →
       ((p.early ≡ true) × (q.early ≡ true)) ⊎ ((p.late ≡ true) × (q.late ≡ true)) → ⊥
@@ -118,16 +118,16 @@ module _ (f : FunctionValue) (env : MachineValue) (inst : InstValue) (fits : Fit
       (own_at j r p (omega (arith, less, lt)) a is at) (own_at k r q lt b it there) both
   never_shared j k r p q less lt (own a is at) (named n reuses within it there) both = elim (cases_eq j n) [
     | inl e ↦ early_use k n lt reuses (ap (λ (m : ℕ). (positions_of (op_at ops m)).late) (sym e) ∙ ap (λ (z : Positions). z.late) (sym at)
-        ∙ late_alone p q there both)
+        ∙ late_of_shared p q there both)
     | inr ne ↦ apart_claims j n r p q ne (own_at j r p (omega (arith, less, lt)) a is at) (named_at k n r q lt reuses within it there) both
   ]
   never_shared j k r p q less lt (named m reuses within is at) (own b it there) both = elim (cases_eq k m) [
     | inl e ↦ early_use j m (omega (arith, less, lt)) reuses (ap (λ (x : ℕ). (positions_of (op_at ops x)).late) (sym e)
-        ∙ ap (λ (z : Positions). z.late) (sym there) ∙ late_alone q p at (swapped p q both))
+        ∙ ap (λ (z : Positions). z.late) (sym there) ∙ late_of_shared q p at (swapped p q both))
     | inr ne ↦ apart_claims m k r p q (λ e. ne (sym e)) (named_at j m r p (omega (arith, less, lt)) reuses within is at) (own_at k r q lt b it there) both
   ]
   never_shared j k r p q less lt (named m reuses within is at) (named n too inside it there) both = elim (cases_eq m n) [
-    | inl e ↦ (let same : j ≡ k = tame.apart j k n (omega (arith, less, lt)) lt (reuses ∙ ap Reuse e) too in omega (arith, same, less))
+    | inl e ↦ (let same : j ≡ k = sound_ops.apart j k n (omega (arith, less, lt)) lt (reuses ∙ ap Reuse e) too in omega (arith, same, less))
     | inr ne ↦ apart_claims m n r p q ne (named_at j m r p (omega (arith, less, lt)) reuses within is at) (named_at k n r q lt too inside it there) both
   ]
 

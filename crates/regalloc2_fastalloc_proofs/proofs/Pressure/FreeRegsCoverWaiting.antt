@@ -24,9 +24,9 @@ use Rattle.regalloc2_fastalloc_proofs.specs.InstSteps.{StateValue, scratch_reser
 use Rattle.regalloc2_fastalloc_proofs.specs.Safety.{MayBeLocatedAt}
 use Rattle.regalloc2_fastalloc_proofs.proofs.Moves.ScratchRegTaken.{Less}
 use Rattle.regalloc2_fastalloc_proofs.proofs.Operands.AllocsSoFar.{at_place}
-use Rattle.regalloc2_fastalloc_proofs.proofs.Safety.OperandKeepsSafe.{IsAnswer}
+use Rattle.regalloc2_fastalloc_proofs.proofs.Safety.OperandKeepsSafe.{AnswersRequirement}
 use Rattle.regalloc2_fastalloc_proofs.specs.Pressure.EnoughRegs.{HasEnoughRegs, waiting}
-use Rattle.regalloc2_fastalloc_proofs.proofs.Pressure.StepsKeepMachine.{HasAll}
+use Rattle.regalloc2_fastalloc_proofs.proofs.Pressure.TablesHaveAllRegs.{HasAll}
 use Rattle.regalloc2_fastalloc_proofs.proofs.Pressure.ClaimLeavesEnough.{IsPaid}
 
 -- While operands are allocated: enough registers are free for the waiting operands, which are counted. A register that an operand has, or is fixed to, is
@@ -34,7 +34,7 @@ use Rattle.regalloc2_fastalloc_proofs.proofs.Pressure.ClaimLeavesEnough.{IsPaid}
 pub record Paying (Named : RegClass → Type 0) (ops : List OperandValue) (done : ℕ → Type 0) (here : List Place) (u : InstRegs) (t : StateValue) : Type 0 where
   pub ample : HasEnoughRegs Named (waiting ops here) u t
   pub awaited : (c : RegClass) → awaited_of u c ≡ waiting ops here c
-  pub settled : (j : ℕ) (r : Register) → j < length ops → is_fixed_nonallocatable (op_at ops j) ≡ false → (at_place here j ≡ InRegister r)
+  pub placed_unfree : (j : ℕ) (r : Register) → j < length ops → is_fixed_nonallocatable (op_at ops j) ≡ false → (at_place here j ≡ InRegister r)
       ⊎ ((op_at ops j).constraint ≡ FixedReg r) → is_free t.allocatable u r ≡ false
   pub named : (j : ℕ) (r : Register) → j < length ops → (done j → ⊥) → at_place here j ≡ InRegister r → (m : ℕ) × (m < length ops) × done m
       × ((op_at ops m).constraint ≡ Reuse j)
@@ -50,7 +50,7 @@ unfree_kept old new t u r same less h = elim (cases_Bool (has_register old r)) [
   | inr away ↦ (let gone : has_register new r ≡ false = ap (λ (x : PRegSet). has_register x r) same ∙ away in rw gone refl)
 ]
 
--- and is therefore no longer free
+-- the register of an operand that was placed is no longer free
 pub allocs_operand_settled : (point : ℕ) (o : OperandRequest) (p : Place) (t u : InstRegs) (old new : StateValue) → AllocsOperand point o p t u old new →
     (o.positions.early ≡ true) ⊎ (o.positions.late ≡ true) → (set : PRegSet) (r : Register) → p ≡ InRegister r → is_free set u r ≡ false
 allocs_operand_settled point o p t u old new g some set r is = by_case g.takes.occupies
@@ -101,7 +101,7 @@ awaited_fell awaited code some = get_or-set_same awaited code (slice_index await
     within (x ∷ xs) zero h = omega arith
     within (x ∷ xs) (suc k) h = let r = within xs k h in omega (arith, r)
 
--- and the waiting operands are counted
+-- the waiting operands are counted after an operand was placed
 pub pays_awaited : (ops : List OperandValue) (here there : List Place) (v : VirtualRegister) (w : Requirement) (t u : InstRegs) (old : StateValue) →
     Pays ops here there v w t old → ((c : RegClass) → awaited_of t c ≡ waiting ops here c)
     → u.awaited ≡ awaited_less w v.class t.awaited → (c : RegClass) → awaited_of u c ≡ waiting ops there c
@@ -133,10 +133,10 @@ memory_unfree env t u p r all stack is free =
     let yes : has_register t.fixed_stack r ≡ true = all.machine.memory r at in
     let nay : has_register t.fixed_stack r ≡ false = all.fit.stack_apart r ((and_parts (has_register t.allocatable r) _ free).0) in cc
 
--- and an operand's register is paid for
+-- the register of an operand that was placed is paid for
 pub pays_paid : (Named : RegClass → Type 0) {env : MachineValue} {ops : List OperandValue} {here there : List Place} {o : OperandRequest} {p : Place}
     {point : ℕ} {t u : InstRegs} {old new : StateValue} → Pays ops here there o.vreg o.requirement t old → AllocsOperand point o p t u old new
-    → HasAll env old → Named o.vreg.class → MayBeLocatedAt env new.slots o.vreg p → IsAnswer env o.requirement p →
+    → HasAll env old → Named o.vreg.class → MayBeLocatedAt env new.slots o.vreg p → AnswersRequirement env o.requirement p →
     HasEnoughRegs Named (waiting ops here) t old → ((c : RegClass) → awaited_of t c ≡ waiting ops here c) → IsPaid (waiting ops there) o p t old
 pays_paid Named {env} {ops} {there} {o} {t} {old} {new} (waited wants one rest) g all named place answer ample counted r is free =
     let stand : MayBeLocatedAt env new.slots o.vreg (InRegister r) = subst (MayBeLocatedAt env new.slots o.vreg) is place in
@@ -146,9 +146,9 @@ pays_paid Named {env} {ops} {there} {o} {t} {old} {new} (waited wants one rest) 
 pays_paid Named (anywhere wants same) g all named place answer ample counted r is free =
     (let a = g.affordable wants r is free in let b = counted r.class in let e = same r.class in omega (arith, a, b, e))
 pays_paid Named {env} {p} {t} {old} (memory wants same) g all named place answer ample counted r is free =
-    absurd (memory_unfree env old t p r all (subst (λ (w : Requirement). IsAnswer env w p) wants answer) is free)
+    absurd (memory_unfree env old t p r all (subst (λ (w : Requirement). AnswersRequirement env w p) wants answer) is free)
 pays_paid Named {env} {p} {t} {old} (at_one q wants unfree same) g all named place answer ample counted r is free =
-    let at : p ≡ InRegister q = subst (λ (w : Requirement). IsAnswer env w p) wants answer in
+    let at : p ≡ InRegister q = subst (λ (w : Requirement). AnswersRequirement env w p) wants answer in
     let x : InRegister q ≡ InRegister r = sym at ∙ is in
     let one : q ≡ r = cc in
     let nay : is_free old.allocatable t r ≡ false = ap (is_free old.allocatable t) (sym one) ∙ unfree in absurd cc

@@ -15,23 +15,23 @@ use Rattle.regalloc2_function.specs.Machine.{MachineValue}
 use Rattle.regalloc2_function.specs.Fitting.{Fits, NamesClass}
 use Rattle.regalloc2_fastalloc_state.specs.declared.inst_regs.InstRegs.{InstRegs}
 use Rattle.regalloc2_fastalloc_state.specs.InstRegs.{is_free}
-use Rattle.regalloc2_steps.specs.Positions.{positions_of}
+use Rattle.regalloc2_fastalloc_state.specs.Positions.{positions_of}
 use Rattle.regalloc2_fastalloc_proofs.specs.InstSteps.{StateValue, ReservesRegs, RemovesClobbers, own as claims_own, EvictsFixed, ends_block}
 use Rattle.regalloc2_fastalloc_proofs.specs.InstSteps.{ProcessesOperandsAt, MovesUses, PreparesRegs}
 use Rattle.regalloc2_fastalloc_proofs.specs.InstSteps.{no_register, EvictFixed, EvictEach, ProcessOperandsAt, MoveUses, PrepareRegs, in_reserve, in_fixed}
 use Rattle.regalloc2_fastalloc_proofs.specs.InstSteps.{in_clobbers, AllocInst, in_prepare, in_lates, in_earlies, in_moves}
 use Rattle.regalloc2_fastalloc_proofs.specs.Safety.{AreSafeRegs}
-use Rattle.regalloc2_fastalloc_proofs.proofs.Safety.StepsKeepSafe.{IsApart, safe_turn}
+use Rattle.regalloc2_fastalloc_proofs.proofs.Safety.StepsKeepSafe.{AreKindsApart, safe_turn}
 use Rattle.regalloc2_fastalloc_proofs.proofs.Moves.ScratchRegTaken.{Less, less_then}
 use Rattle.regalloc2_fastalloc_proofs.proofs.Evictions.EvictKeepsRecord.{evictions_less}
 use Rattle.regalloc2_fastalloc_proofs.proofs.Changes.Evictions.{Evictions, both_evicted, fixed_evicts, each_evicts}
-use Rattle.regalloc2_fastalloc_proofs.proofs.Operands.AllocsSoFar.{IsTame, Filled, FixedAreKnown, filled_same, reads_allocated, filling_of}
+use Rattle.regalloc2_fastalloc_proofs.proofs.Operands.AllocsSoFar.{AreSoundOperands, Filled, FixedAreKnown, filled_same, reads_allocated, filling_of}
 use Rattle.regalloc2_fastalloc_proofs.proofs.Safety.OperandPassesKeepSafe.{late_operands_kept, early_operands_kept, passes_of}
 use Rattle.regalloc2_fastalloc_proofs.proofs.Safety.InstKeepsSafe.{fresh_turn}
 use Rattle.regalloc2_fastalloc_proofs.specs.Pressure.EnoughRegs.{HasEnoughRegs, waiting, none_needed, AllWrite, AllMay, AreSafe}
 use Rattle.regalloc2_fastalloc_proofs.proofs.Safety.StepsKeepMachine.{KeepsMachine, keeps_then, machine_stays}
 use Rattle.regalloc2_fastalloc_proofs.proofs.Changes.InstChanges.{free_operand, processes_operands_at_changes, evicts_fixed_changes, evicts_each_changes}
-use Rattle.regalloc2_fastalloc_proofs.proofs.Pressure.StepsKeepMachine.{HasAll, all_kept}
+use Rattle.regalloc2_fastalloc_proofs.proofs.Pressure.TablesHaveAllRegs.{HasAll, all_kept}
 use Rattle.regalloc2_fastalloc_proofs.proofs.Pressure.OneRegTaken.{ample_less}
 use Rattle.regalloc2_fastalloc_proofs.proofs.Pressure.WaitingOperands.{all_wait}
 use Rattle.regalloc2_fastalloc_proofs.proofs.Pressure.FreeRegsCoverWaiting.{Paying, unfree_kept}
@@ -56,12 +56,12 @@ holds_less clobbers t u h = record {
 pub record FittingInst : Type 1 where
   pub f : FunctionValue
   pub env : MachineValue
-  pub apart : IsApart env
+  pub apart : AreKindsApart env
   pub Known : VirtualRegister → Type 0
   pub named : (v : VirtualRegister) → Known v → NamesClass f v.class
   pub i : ℕ
   pub inst : InstValue
-  pub tame : IsTame Known inst.operands
+  pub sound_ops : AreSoundOperands Known inst.operands
   pub fits : Fits f env inst
   pub old : StateValue
   pub h : AreSafe env Known old
@@ -73,7 +73,7 @@ pub record FittingInst : Type 1 where
   pub none : (k : ℕ) → slice_index_or blank k NoPlace ≡ NoPlace
 
 module _ (fitting : FittingInst) where
-  open fitting use {f, env, apart, Known, named, i, inst, tame, fits, old, h, all, began, s, blank, long, none}
+  open fitting use {f, env, apart, Known, named, i, inst, sound_ops, fits, old, h, all, began, s, blank, long, none}
 
   abbrev ops : List OperandValue
   ops = inst.operands
@@ -85,7 +85,7 @@ module _ (fitting : FittingInst) where
   fixed k r lt allocated is = fits.fixed k no_operand lt allocated r is
 
   abbrev operands : NamedOperands
-  operands = named_operands Named env apart Known named ops tame fixed i (ends_block inst)
+  operands = named_operands Named env apart Known named ops sound_ops fixed i (ends_block inst)
 
   abbrev InLates : ℕ → ℕ → Type 0
   InLates = Late operands
@@ -107,7 +107,7 @@ module _ (fitting : FittingInst) where
     never_in_fixed : EvictFixed (after i) ops held old no_register → ⊥
     never_in_fixed stops = never_after demand (fixed_evicts stops.done) stops.stops.1 h held_turn enough_held
 
-    -- and fixed registers are emptied
+    -- clobbers are emptied, after the fixed registers
     module _ (cleared : InstRegs) (m : StateValue) (clears : EvictsFixed (after i) ops held old (length ops) cleared m) where
       never_in_clobbers : EvictEach (after i) (registers_of inst.clobbers) cleared m no_register → ⊥
       never_in_clobbers stops =
@@ -157,7 +157,7 @@ module _ (fitting : FittingInst) where
     paying = record {
       ample = quiet_left.ample;
       awaited = λ c. r.awaited c ∙ sym (all_wait ops blank c none);
-      settled = λ j q lt allocated at. elim at [
+      placed_unfree = λ j q lt allocated at. elim at [
         | inl there ↦ absurd (no_place_there (slice_index_or blank j NoPlace) q (none j) there)
         | inr is ↦ fixed_settled j q lt allocated is
       ];
@@ -174,9 +174,9 @@ module _ (fitting : FittingInst) where
       half_all = all_kept env m n (machine_stays (processes_operands_at_changes (λ p q. tt) (λ j lt at. free_operand _) lates)) quiet_all
 
       half_filled : Filled env Known AllWrite AllMay ops (InEarlies 0) half late n
-      half_filled = filled_same (filling_of env Known AllWrite AllMay ops tame) (InLates (length ops)) (InEarlies 0) half late n
+      half_filled = filled_same (filling_of env Known AllWrite AllMay ops sound_ops) (InLates (length ops)) (InEarlies 0) half late n
           (λ j less e. elim e [ inl is ↦ (less, is) | inr below ↦ absurd (omega (arith, below)) ]) (λ j less d. inl d.1)
-          (late_operands_kept (passes_of (filling_of env Known AllWrite AllMay ops tame) apart fixed i (ends_block inst) tt (defs_write i ops)) blank quiet
+          (late_operands_kept (passes_of (filling_of env Known AllWrite AllMay ops sound_ops) apart fixed i (ends_block inst) tt (defs_write i ops)) blank quiet
           m filled (length ops)
           half late n
           lates (omega arith))
@@ -198,7 +198,7 @@ module _ (fitting : FittingInst) where
         last_all = all_kept env n o (machine_stays (processes_operands_at_changes (λ p q. tt) (λ j lt at. free_operand _) earlies)) half_all
 
         last_filled : Filled env Known AllWrite AllMay ops (InEarlies (length ops)) places early o
-        last_filled = early_operands_kept (passes_of (filling_of env Known AllWrite AllMay ops tame) apart fixed i (ends_block inst) tt (defs_write i ops))
+        last_filled = early_operands_kept (passes_of (filling_of env Known AllWrite AllMay ops sound_ops) apart fixed i (ends_block inst) tt (defs_write i ops))
             half late n half_filled
             (length ops) places early o earlies (omega arith)
 
@@ -209,7 +209,7 @@ module _ (fitting : FittingInst) where
             early o earlies (omega arith)).ample
 
         never_in_moves : MoveUses (before i) ops places early o no_register → ⊥
-        never_in_moves stops = never_move_uses (demand_of Named none_needed (before i) env apart Known named) ops tame places early o last_filled.safe last_all
+        never_in_moves stops = never_move_uses (demand_of Named none_needed (before i) env apart Known named) ops sound_ops places early o last_filled.safe last_all
             last_filled.inst_regs
             (λ j less reads. (last_filled.good j less (inr less)).place (reads_allocated (op_at ops j) reads))
             (λ j less reads. last_filled.found j less (inr less) reads) last_ample stops
@@ -217,15 +217,15 @@ module _ (fitting : FittingInst) where
         -- uses are moved
         pub ended_ample : (ended : InstRegs) (new : StateValue) → MovesUses (before i) ops places early o (length ops) ended new
             → HasEnoughRegs Named none_needed ended new
-        ended_ample ended new moves = ample_moves_uses (demand_of Named none_needed (before i) env apart Known named) ops tame places early o last_filled.safe
+        ended_ample ended new moves = ample_moves_uses (demand_of Named none_needed (before i) env apart Known named) ops sound_ops places early o last_filled.safe
             last_all
             last_filled.inst_regs
             (λ j less reads. (last_filled.good j less (inr less)).place (reads_allocated (op_at ops j) reads))
             (λ j less reads. last_filled.found j less (inr less) reads) last_ample moves (omega arith)
 
-  -- its registers are prepared
+  -- the registers of a fitting instruction are prepared
   never_prepare_regs : PrepareRegs i ops inst.clobbers began old no_register → ⊥
-  never_prepare_regs (in_reserve stops) = never_reserve_regs f env inst fits Known tame old all stops
+  never_prepare_regs (in_reserve stops) = never_reserve_regs f env inst fits Known sound_ops old all stops
   never_prepare_regs (in_fixed reserved held reserves holds stops) = never_in_fixed reserved held reserves holds stops
   never_prepare_regs (in_clobbers reserved held cleared m reserves holds clears stops) = never_in_clobbers reserved held reserves holds cleared m clears stops
 

@@ -9,7 +9,7 @@ use Rattle.regalloc2_names.specs.RegisterSet.{has_register}
 use Rattle.regalloc2_semantics.proofs.Cells.{is_register-true}
 use Rattle.regalloc2_function.specs.Fitting.{count_below, register_number}
 use Rattle.regalloc2_fastalloc_state.specs.declared.inst_regs.InstRegs.{InstRegs}
-use Rattle.regalloc2_steps.specs.declared.positions.Positions.{Positions}
+use Rattle.regalloc2_fastalloc_state.specs.declared.positions.Positions.{Positions}
 use Rattle.regalloc2_fastalloc_state.specs.StateParts.{needs_scratch_reserve}
 use Rattle.regalloc2_fastalloc_state.specs.InstRegs.{RemovesAvailable, is_free, free_count}
 use Rattle.regalloc2_fastalloc_state.proofs.CountingLaws.{count_le, count_but_one, count_some, some_count}
@@ -36,7 +36,7 @@ pub free_but_one : (set : PRegSet) (by : Register) (t u : InstRegs) (c : RegClas
 free_but_one set by t u c l = count_but_one (λ n. is_free set t (register_number c n)) (λ n. is_free set u (register_number c n)) by.number 64
     (λ k lt ne h. stays_free set by (register_number c k) t u l (other_register by (register_number c k) (λ e. ne (sym (ap (λ (r : Register). r.number) e)))) h)
 
--- and none is lost if that register wasn't free, or is of another class
+-- no free register of a class is lost if the register taken wasn't free, or is of another class
 pub free_kept : (set : PRegSet) (by : Register) (t u : InstRegs) (c : RegClass) → TakesAtMost by t u → (by.class ≡ c → is_free set t by ≡ false) →
     free_count set t c ≤ free_count set u c
 free_kept set by t u c l unfree = count_le (λ n. is_free set t (register_number c n)) (λ n. is_free set u (register_number c n)) 64

@@ -18,8 +18,8 @@ use Rattle.regalloc2_fastalloc_state.specs.declared.request.Requirement.TheVaria
 use Rattle.regalloc2_function.specs.FunctionValue.{op_at}
 use Rattle.regalloc2_fastalloc_proofs.specs.InstSteps.{StateValue, requirement_of, reuse_requirement_of, use_request}
 use Rattle.regalloc2_fastalloc_proofs.specs.Safety.{IsOfMachine, MayBeLocatedAt}
-use Rattle.regalloc2_fastalloc_proofs.proofs.Safety.OperandKeepsSafe.{IsAnswer}
-use Rattle.regalloc2_fastalloc_proofs.proofs.Operands.AllocsSoFar.{at_place, IsTame, Filled, FixedAreKnown}
+use Rattle.regalloc2_fastalloc_proofs.proofs.Safety.OperandKeepsSafe.{AnswersRequirement}
+use Rattle.regalloc2_fastalloc_proofs.proofs.Operands.AllocsSoFar.{at_place, AreSoundOperands, Filled, FixedAreKnown}
 use Rattle.regalloc2_fastalloc_proofs.proofs.Operands.AllocsSoFar.{reads_allocated, asked_fixed, asked_as_fixed, fixed_class}
 use Rattle.regalloc2_fastalloc_proofs.proofs.Safety.OperandPassesKeepSafe.{a_place_of}
 use Rattle.regalloc2_fastalloc_proofs.specs.Pressure.EnoughRegs.{waits, waiting, AllWrite, AllMay}
@@ -57,18 +57,18 @@ pub record CountedOperand (env : MachineValue) (Known : VirtualRegister → Type
   pub h : Filled env Known AllWrite AllMay ops D here t old
   pub p : Paying Named ops D here t old
 
-module _ (env : MachineValue) (Known : VirtualRegister → Type 0) (ops : List OperandValue) (tame : IsTame Known ops) where
+module _ (env : MachineValue) (Known : VirtualRegister → Type 0) (ops : List OperandValue) (sound_ops : AreSoundOperands Known ops) where
   -- what holds of an operand with this request, before it gets a place
   pub record Ready (v : VirtualRegister) (w : Requirement) (here : List Place) (there : Place → List Place) (t : InstRegs) (old : StateValue) : Type 0 where
     pub known : Known v
     pub asks_well : (r : Register) → w ≡ InPReg r → IsOfMachine env r × (r.class ≡ v.class)
     pub some : w ≡ AnyReg → 0 < waiting ops here v.class
-    pub pays : (p : Place) → IsAnswer env w p → Pays ops here (there p) v w t old
+    pub pays : (p : Place) → AnswersRequirement env w p → Pays ops here (there p) v w t old
 
   -- a place of an operand that doesn't wait changes nothing
-  pub unchanged : (here : List Place) (k : ℕ) (p : Place) → length here ≡ length ops → is_under_reg (op_at ops k).constraint ≡ false → (c : RegClass) →
+  pub waiting_unchanged : (here : List Place) (k : ℕ) (p : Place) → length here ≡ length ops → is_under_reg (op_at ops k).constraint ≡ false → (c : RegClass) →
       waiting ops (set here k p) c ≡ waiting ops here c
-  unchanged here k p long other c = waits_as_before ops here c k p long (λ lt. waits_not ops here c k other ∙ sym (waits_not ops (set here k p) c k other))
+  waiting_unchanged here k p long other c = waits_as_before ops here c k p long (λ lt. waits_not ops here c k other ∙ sym (waits_not ops (set here k p) c k other))
 
   module _ (turn : CountedOperand env Known ops) where
     open turn use {Named, fixed, D, k, here, t, old, lt, undone, h, p}
@@ -76,9 +76,9 @@ module _ (env : MachineValue) (Known : VirtualRegister → Type 0) (ops : List O
     -- an operand that has no place yet, and is no reuse
     module _ (allocated : is_fixed_nonallocatable (op_at ops k) ≡ false) (no_reuse : (n : ℕ) → (op_at ops k).constraint ≡ Reuse n → ⊥)
         (none : at_place here k ≡ NoPlace) where
-      by_constraint : (c : OperandConstraint) → (op_at ops k).constraint ≡ c → (q : Place) → IsAnswer env (requirement_of c) q →
+      by_constraint : (c : OperandConstraint) → (op_at ops k).constraint ≡ c → (q : Place) → AnswersRequirement env (requirement_of c) q →
           Pays ops here (set here k q) (op_at ops k).vreg (requirement_of c) t old
-      by_constraint Any e q a = anywhere refl (unchanged here k q h.long (not_under (op_at ops k).constraint Any e refl))
+      by_constraint Any e q a = anywhere refl (waiting_unchanged here k q h.long (not_under (op_at ops k).constraint Any e refl))
       by_constraint Reg e q a =
           let r = plain_at env q a in
           let under : is_under_reg (op_at ops k).constraint ≡ true = ap is_under_reg e in
@@ -86,19 +86,19 @@ module _ (env : MachineValue) (Known : VirtualRegister → Type 0) (ops : List O
           (subst (λ x. waiting ops here (op_at ops k).vreg.class ≡ waiting ops (set here k x) (op_at ops k).vreg.class + 1) (sym r.1)
           (waits_no_more ops here (op_at ops k).vreg.class k r.0 lt h.long (waits_here ops here k under none)))
           (λ c ne. waits_as_before ops here c k q h.long (λ within. waits_elsewhere ops here c k ne ∙ sym (waits_elsewhere ops (set here k q) c k ne)))
-      by_constraint Stack e q a = memory refl (unchanged here k q h.long (not_under (op_at ops k).constraint Stack e refl))
-      by_constraint (FixedReg r) e q a = at_one r refl (p.settled k r lt allocated (inr e))
-          (unchanged here k q h.long (not_under (op_at ops k).constraint (FixedReg r) e refl))
+      by_constraint Stack e q a = memory refl (waiting_unchanged here k q h.long (not_under (op_at ops k).constraint Stack e refl))
+      by_constraint (FixedReg r) e q a = at_one r refl (p.placed_unfree k r lt allocated (inr e))
+          (waiting_unchanged here k q h.long (not_under (op_at ops k).constraint (FixedReg r) e refl))
       by_constraint (Reuse n) e q a = absurd (no_reuse n e)
-      by_constraint (Limit n) e q a = absurd (tame.unlimited k n lt e)
+      by_constraint (Limit n) e q a = absurd (sound_ops.unlimited k n lt e)
 
       asked_ready : Ready (op_at ops k).vreg (requirement_of (op_at ops k).constraint) here (λ q. set here k q) t old
       asked_ready = record {
-        known = tame.known k lt allocated;
+        known = sound_ops.known k lt allocated;
         asks_well = λ r is. (let e : (op_at ops k).constraint ≡ FixedReg r = asked_fixed (op_at ops k).constraint r is in
-            (fixed k r lt allocated e, fixed_class (op_at ops k).vreg.class (op_at ops k).constraint r (tame.constraint k lt) e));
+            (fixed k r lt allocated e, fixed_class (op_at ops k).vreg.class (op_at ops k).constraint r (sound_ops.constraint k lt) e));
         some = λ any. some_wait ops here (op_at ops k).vreg.class k lt (waits_here ops here k
-            (asks_reg (op_at ops k).constraint no_reuse (λ n e. tame.unlimited k n lt e) any) none);
+            (asks_reg (op_at ops k).constraint no_reuse (λ n e. sound_ops.unlimited k n lt e) any) none);
         pays = λ q a. by_constraint (op_at ops k).constraint refl q a;
       }
 
@@ -106,11 +106,11 @@ module _ (env : MachineValue) (Known : VirtualRegister → Type 0) (ops : List O
     chosen_ready : (r : Register) → is_reading (op_at ops k) ≡ true → at_place here k ≡ InRegister r →
         MayBeLocatedAt env old.slots (op_at ops k).vreg (InRegister r) → Ready (op_at ops k).vreg (InPReg r) here (λ q. set here k q) t old
     chosen_ready r reads at stand = record {
-      known = tame.known k lt (reads_allocated (op_at ops k) reads);
+      known = sound_ops.known k lt (reads_allocated (op_at ops k) reads);
       asks_well = λ q is. (let x : InPReg r ≡ InPReg q = is in let same : r ≡ q = cc in
           subst (λ (x : Register). IsOfMachine env x × (x.class ≡ (op_at ops k).vreg.class)) same stand);
       some = λ any. absurd cc;
-      pays = λ q a. at_one r refl (p.settled k r lt (reads_allocated (op_at ops k) reads) (inl at))
+      pays = λ q a. at_one r refl (p.placed_unfree k r lt (reads_allocated (op_at ops k) reads) (inl at))
           (λ c. waits_as_before ops here c k q h.long (λ within. waits_placed ops here c k r at
           ∙ sym (waits_placed ops (set here k q) c k r (get_or-set_same here k q NoPlace (let l = h.long in omega (arith, l, lt)) ∙ a))));
     }
@@ -121,7 +121,7 @@ module _ (env : MachineValue) (Known : VirtualRegister → Type 0) (ops : List O
     use_ready reads = elim (h.waits k lt undone) [
       | inl none ↦ subst (λ x. Ready (use_request (op_at ops k) x).vreg (use_request (op_at ops k) x).requirement here (λ q. set here k q) t old) (sym none)
           (asked_ready (reads_allocated (op_at ops k) reads) (λ n e. both_ways (is_def (op_at ops k).kind)
-          (reads_use (op_at ops k) reads) (tame.late_reuse k n lt e).0) none)
+          (reads_use (op_at ops k) reads) (sound_ops.late_reuse k n lt e).0) none)
       | inr g ↦ (let r = a_place_of (at_place here k) g.1 in
           subst (λ x. Ready (use_request (op_at ops k) x).vreg (use_request (op_at ops k) x).requirement here (λ q. set here k q) t old) (sym r.1)
           (chosen_ready r.0 reads r.1 (subst (MayBeLocatedAt env old.slots (op_at ops k).vreg) r.1 (g.0.place (reads_allocated (op_at ops k) reads)))))
@@ -132,30 +132,30 @@ module _ (env : MachineValue) (Known : VirtualRegister → Type 0) (ops : List O
     def_blank def = elim (h.waits k lt undone) [
       | inl none ↦ none
       | inr g ↦ (let r = a_place_of (at_place here k) g.1 in let m = p.named k r.0 lt undone r.1 in
-          absurd (both_ways (is_def (op_at ops k).kind) (reads_use (op_at ops k) (tame.named m.0 k m.1 m.3).2) def))
+          absurd (both_ways (is_def (op_at ops k).kind) (reads_use (op_at ops k) (sound_ops.named m.0 k m.1 m.3).2) def))
     ]
 
     -- a definition that is no reuse meets this before it gets a place
     pub def_ready : is_def (op_at ops k).kind ≡ true → ((n : ℕ) → (op_at ops k).constraint ≡ Reuse n → ⊥) →
         Ready (op_at ops k).vreg (requirement_of (op_at ops k).constraint) here (λ q. set here k q) t old
-    def_ready def no_reuse = asked_ready (tame.allocated k lt def) no_reuse (def_blank def)
+    def_ready def no_reuse = asked_ready (sound_ops.allocated k lt def) no_reuse (def_blank def)
 
     -- a reuse, and the use that it names
     module _ (n : ℕ) (def : is_def (op_at ops k).kind ≡ true) (reuses : (op_at ops k).constraint ≡ Reuse n) (not_n : D n → ⊥) where
       named_blank : at_place here n ≡ NoPlace
-      named_blank = elim (h.waits n (tame.named k n lt reuses).0 not_n) [
+      named_blank = elim (h.waits n (sound_ops.named k n lt reuses).0 not_n) [
         | inl none ↦ none
-        | inr g ↦ (let r = a_place_of (at_place here n) g.1 in let m = p.named n r.0 (tame.named k n lt reuses).0 not_n r.1 in
-            absurd (undone (subst D (tame.apart m.0 k n m.1 lt m.3 reuses) m.2)))
+        | inr g ↦ (let r = a_place_of (at_place here n) g.1 in let m = p.named n r.0 (sound_ops.named k n lt reuses).0 not_n r.1 in
+            absurd (undone (subst D (sound_ops.apart m.0 k n m.1 lt m.3 reuses) m.2)))
       ]
 
       -- the use that a reuse names is another operand
       pub named_other : n ≢ k
       named_other e = both_ways (is_late (op_at ops k).position)
-          (ap (λ (m : ℕ). is_late (op_at ops m).position) (sym e) ∙ (tame.named k n lt reuses).1) (tame.late_reuse k n lt reuses).1
+          (ap (λ (m : ℕ). is_late (op_at ops m).position) (sym e) ∙ (sound_ops.named k n lt reuses).1) (sound_ops.late_reuse k n lt reuses).1
 
       same_class : (op_at ops n).vreg.class ≡ (op_at ops k).vreg.class
-      same_class = (tame.named k n lt reuses).3
+      same_class = (sound_ops.named k n lt reuses).3
 
       no_reg : is_under_reg (op_at ops k).constraint ≡ false
       no_reg = not_under (op_at ops k).constraint (Reuse n) reuses refl
@@ -168,37 +168,37 @@ module _ (env : MachineValue) (Known : VirtualRegister → Type 0) (ops : List O
           (waits_here ops (set here k q) n under (get_or-set_other here k n q NoPlace named_other ∙ named_blank))
 
       by_named : (c : OperandConstraint) → (op_at ops n).constraint ≡ c → (c ≡ Reg) ⊎ ((r : Register) × (c ≡ FixedReg r)) → (q : Place) →
-          IsAnswer env (reuse_requirement_of c) q → Pays ops here (set (set here k q) n q) (op_at ops k).vreg (reuse_requirement_of c) t old
+          AnswersRequirement env (reuse_requirement_of c) q → Pays ops here (set (set here k q) n q) (op_at ops k).vreg (reuse_requirement_of c) t old
       by_named c e (inl reg) q a =
-          let r = plain_at env q (subst (λ x. IsAnswer env (reuse_requirement_of x) q) reg a) in
+          let r = plain_at env q (subst (λ x. AnswersRequirement env (reuse_requirement_of x) q) reg a) in
           let under : is_under_reg (op_at ops n).constraint ≡ true = ap is_under_reg (e ∙ reg) in
-          let first = unchanged here k q h.long no_reg (op_at ops k).vreg.class in
+          let first = waiting_unchanged here k q h.long no_reg (op_at ops k).vreg.class in
           let second : waiting ops (set here k q) (op_at ops k).vreg.class ≡ waiting ops (set (set here k q) n q) (op_at ops k).vreg.class + 1 =
           subst (λ x. waiting ops (set here k q) (op_at ops k).vreg.class ≡ waiting ops (set (set here k q) n x) (op_at ops k).vreg.class + 1) (sym r.1)
-          (waits_no_more ops (set here k q) (op_at ops k).vreg.class n r.0 (tame.named k n lt reuses).0 (long_too q) (waits_named q under)) in
+          (waits_no_more ops (set here k q) (op_at ops k).vreg.class n r.0 (sound_ops.named k n lt reuses).0 (long_too q) (waits_named q under)) in
           waited (ap reuse_requirement_of reg) (omega (arith, first, second))
           (λ x ne. waits_as_before ops (set here k q) x n q (long_too q)
           (λ within. waits_elsewhere ops (set here k q) x n (λ s. ne (s ∙ ap class_code same_class))
-          ∙ sym (waits_elsewhere ops (set (set here k q) n q) x n (λ s. ne (s ∙ ap class_code same_class)))) ∙ unchanged here k q h.long no_reg x)
+          ∙ sym (waits_elsewhere ops (set (set here k q) n q) x n (λ s. ne (s ∙ ap class_code same_class)))) ∙ waiting_unchanged here k q h.long no_reg x)
       by_named c e (inr f) q a = at_one f.0 (ap reuse_requirement_of f.1)
-          (p.settled n f.0 (tame.named k n lt reuses).0 (reads_allocated (op_at ops n) (tame.named k n lt reuses).2) (inr (e ∙ f.1)))
-          (λ x. unchanged (set here k q) n q (long_too q) (not_under (op_at ops n).constraint (FixedReg f.0) (e ∙ f.1) refl) x
-          ∙ unchanged here k q h.long no_reg x)
+          (p.placed_unfree n f.0 (sound_ops.named k n lt reuses).0 (reads_allocated (op_at ops n) (sound_ops.named k n lt reuses).2) (inr (e ∙ f.1)))
+          (λ x. waiting_unchanged (set here k q) n q (long_too q) (not_under (op_at ops n).constraint (FixedReg f.0) (e ∙ f.1) refl) x
+          ∙ waiting_unchanged here k q h.long no_reg x)
 
       asks_some : (c : OperandConstraint) → (op_at ops n).constraint ≡ c → (c ≡ Reg) ⊎ ((r : Register) × (c ≡ FixedReg r)) → reuse_requirement_of c ≡ AnyReg →
           0 < waiting ops here (op_at ops k).vreg.class
       asks_some c e (inl reg) any = subst (λ (x : RegClass). 0 < waiting ops here x) same_class
-          (some_wait ops here (op_at ops n).vreg.class n (tame.named k n lt reuses).0 (waits_here ops here n (ap is_under_reg (e ∙ reg)) named_blank))
+          (some_wait ops here (op_at ops n).vreg.class n (sound_ops.named k n lt reuses).0 (waits_here ops here n (ap is_under_reg (e ∙ reg)) named_blank))
       asks_some c e (inr f) any = (let x : InPReg f.0 ≡ AnyReg = ap reuse_requirement_of (sym f.1) ∙ any in absurd cc)
 
       -- a reuse meets this before it gets a place, which its use gets too
       pub reuse_ready : Ready (op_at ops k).vreg (reuse_requirement_of (op_at ops n).constraint) here (λ q. set (set here k q) n q) t old
       reuse_ready = record {
-        known = tame.known k lt (tame.allocated k lt def);
+        known = sound_ops.known k lt (sound_ops.allocated k lt def);
         asks_well = λ r is. (let e : (op_at ops n).constraint ≡ FixedReg r = asked_as_fixed (op_at ops n).constraint r is in (
-          fixed n r (tame.named k n lt reuses).0 (reads_allocated (op_at ops n) (tame.named k n lt reuses).2) e,
-          fixed_class (op_at ops n).vreg.class (op_at ops n).constraint r (tame.constraint n (tame.named k n lt reuses).0) e ∙ same_class,
+          fixed n r (sound_ops.named k n lt reuses).0 (reads_allocated (op_at ops n) (sound_ops.named k n lt reuses).2) e,
+          fixed_class (op_at ops n).vreg.class (op_at ops n).constraint r (sound_ops.constraint n (sound_ops.named k n lt reuses).0) e ∙ same_class,
         ));
-        some = asks_some (op_at ops n).constraint refl (tame.named_as k n lt reuses);
-        pays = λ q a. by_named (op_at ops n).constraint refl (tame.named_as k n lt reuses) q a;
+        some = asks_some (op_at ops n).constraint refl (sound_ops.named_as k n lt reuses);
+        pays = λ q a. by_named (op_at ops n).constraint refl (sound_ops.named_as k n lt reuses) q a;
       }

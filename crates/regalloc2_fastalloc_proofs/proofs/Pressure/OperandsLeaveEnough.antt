@@ -22,21 +22,21 @@ use Rattle.regalloc2_function.specs.FunctionValue.{op_at}
 use Rattle.regalloc2_fastalloc_proofs.specs.InstSteps.{StateValue, use_request, def_request, reuse_request, AllocsOperand, ClaimsPlace, in_slot}
 use Rattle.regalloc2_fastalloc_proofs.specs.InstSteps.{in_register, AllocsDefOp, AllocsUse, ProcessesOperand, a_register, a_use, a_def, a_reuse}
 use Rattle.regalloc2_fastalloc_proofs.specs.InstSteps.{no_register, AllocOperand, AllocDefOp, in_get, in_define, ProcessOperand, at_use, at_def, at_reuse}
-use Rattle.regalloc2_fastalloc_proofs.proofs.Safety.StepsKeepSafe.{IsApart, rules_of}
+use Rattle.regalloc2_fastalloc_proofs.proofs.Safety.StepsKeepSafe.{AreKindsApart, rules_of}
 use Rattle.regalloc2_fastalloc_proofs.proofs.Moves.ScratchRegTaken.{Less, less_then}
 use Rattle.regalloc2_fastalloc_proofs.proofs.Evictions.EvictKeepsRecord.{evictions_less}
 use Rattle.regalloc2_fastalloc_proofs.proofs.Changes.Evictions.{but_evicts}
 use Rattle.regalloc2_fastalloc_proofs.proofs.Operands.ReuseDefs.{frees_alloc_less}
 use Rattle.regalloc2_fastalloc_proofs.proofs.Safety.OperandKeepsSafe.{PlaceKept, allocs_operand_kept}
-use Rattle.regalloc2_fastalloc_proofs.proofs.Operands.AllocsSoFar.{at_place, IsTame, Filled, FixedAreKnown}
+use Rattle.regalloc2_fastalloc_proofs.proofs.Operands.AllocsSoFar.{at_place, AreSoundOperands, Filled, FixedAreKnown}
 use Rattle.regalloc2_fastalloc_proofs.specs.Pressure.EnoughRegs.{HasEnoughRegs, waiting, AllWrite, AllMay}
 use Rattle.regalloc2_fastalloc_proofs.proofs.Safety.StepsKeepMachine.{KeepsMachine, keeps_then, machine_stays}
 use Rattle.regalloc2_fastalloc_proofs.proofs.Changes.InstChanges.{allocs_operand_changes, locates_use_changes, frees_alloc_changes}
-use Rattle.regalloc2_fastalloc_proofs.proofs.Pressure.StepsKeepMachine.{HasAll, all_kept}
+use Rattle.regalloc2_fastalloc_proofs.proofs.Pressure.TablesHaveAllRegs.{HasAll, all_kept}
 use Rattle.regalloc2_fastalloc_proofs.proofs.Pressure.OneRegTaken.{ample_kept}
 use Rattle.regalloc2_fastalloc_proofs.proofs.Pressure.ClaimLeavesEnough.{ample_allocs_operand, never_alloc_operand, never_free_alloc, ample_frees_alloc, safe_held}
 use Rattle.regalloc2_fastalloc_proofs.proofs.Pressure.FreeRegsCoverWaiting.{Paying, Pays, pays_fewer, pays_awaited, pays_paid, unfree_kept, allocs_operand_settled}
-use Rattle.regalloc2_fastalloc_proofs.proofs.Pressure.OperandFindsReg.{CountedOperand, Ready, unchanged, use_ready, def_ready, reuse_ready}
+use Rattle.regalloc2_fastalloc_proofs.proofs.Pressure.OperandFindsReg.{CountedOperand, Ready, waiting_unchanged, use_ready, def_ready, reuse_ready}
 use Rattle.regalloc2_fastalloc_proofs.proofs.BlockEnd.NoMoveInLastInst.{some_position}
 use Rattle.regalloc2_fastalloc_proofs.proofs.Pressure.ClaimLeavesEnough.{naming_of}
 
@@ -65,39 +65,39 @@ written_or here k q lt j = elim (cases_eq j k) [
   | inr ne ↦ inl (get_or-set_other here k j q NoPlace ne)
 ]
 
--- The operands of the instruction i, a return or not, tame and fixed to registers of the machine, whose kinds of registers are disjoint; the named
+-- The operands of the instruction i, which ends its block or not, sound and fixed to registers of the machine, whose kinds of registers are disjoint; the named
 -- classes; the known vregs, of such classes; and slots that exist at least.
 pub record NamedOperands : Type 1 where
   pub Named : RegClass → Type 0
   pub env : MachineValue
-  pub apart : IsApart env
+  pub apart : AreKindsApart env
   pub Known : VirtualRegister → Type 0
   pub named : (v : VirtualRegister) → Known v → Named v.class
   pub ops : List OperandValue
-  pub tame : IsTame Known ops
+  pub sound_ops : AreSoundOperands Known ops
   pub fixed : FixedAreKnown env ops
   pub i : ℕ
-  pub is_ret : Bool
+  pub ends_block : Bool
 
 -- the record, built from its parts
-abbrev pub named_operands : (Named : RegClass → Type 0) (env : MachineValue) → IsApart env → (Known : VirtualRegister → Type 0) →
-    ((v : VirtualRegister) → Known v → Named v.class) → (ops : List OperandValue) → IsTame Known ops → FixedAreKnown env ops → ℕ → Bool →
+abbrev pub named_operands : (Named : RegClass → Type 0) (env : MachineValue) → AreKindsApart env → (Known : VirtualRegister → Type 0) →
+    ((v : VirtualRegister) → Known v → Named v.class) → (ops : List OperandValue) → AreSoundOperands Known ops → FixedAreKnown env ops → ℕ → Bool →
     NamedOperands
-named_operands Named env apart Known named ops tame fixed i is_ret = record {
+named_operands Named env apart Known named ops sound_ops fixed i ends_block = record {
   Named = Named;
   env = env;
   apart = apart;
   Known = Known;
   named = named;
   ops = ops;
-  tame = tame;
+  sound_ops = sound_ops;
   fixed = fixed;
   i = i;
-  is_ret = is_ret;
+  ends_block = ends_block;
 }
 
 module _ (operands : NamedOperands) where
-  open operands use {Named, env, apart, Known, named, ops, tame, fixed, i, is_ret}
+  open operands use {Named, env, apart, Known, named, ops, sound_ops, fixed, i, ends_block}
 
   module _ (D : ℕ → Type 0) (k : ℕ) (here : List Place) (t : InstRegs) (old : StateValue) (lt : k < length ops) (undone : D k → ⊥)
       (not_n : (n : ℕ) → (op_at ops k).constraint ≡ Reuse n → D n → ⊥)
@@ -126,10 +126,10 @@ module _ (operands : NamedOperands) where
       keeps : KeepsMachine old new
       less : Less t u
 
-    got : (o : OperandRequest) (there : Place → List Place) → Ready env Known ops tame o.vreg o.requirement here there t old →
+    got : (o : OperandRequest) (there : Place → List Place) → Ready env Known ops sound_ops o.vreg o.requirement here there t old →
         (q : Place) (u : InstRegs) (new : StateValue) → AllocsOperand (after i) o q t u old new → Got o.vreg o.requirement (there q) q u new
     got o there r q u new g =
-        let x = allocs_operand_kept (rules_of env apart Known AllWrite AllMay (after i) tt) tame.same o q t u old new g r.known r.asks_well h.safe
+        let x = allocs_operand_kept (rules_of env apart Known AllWrite AllMay (after i) tt) sound_ops.same o q t u old new g r.known r.asks_well h.safe
         h.inst_regs in
         let y = r.pays q x.answer in
         record {
@@ -143,28 +143,28 @@ module _ (operands : NamedOperands) where
           less = allocs_operand_less (after i) o q t u old new g;
         }
 
-    never_place : (o : OperandRequest) (there : Place → List Place) → Ready env Known ops tame o.vreg o.requirement here there t old →
+    never_place : (o : OperandRequest) (there : Place → List Place) → Ready env Known ops sound_ops o.vreg o.requirement here there t old →
         AllocOperand (after i) o t old no_register → ⊥
     never_place o there r s = never_alloc_operand (naming_of Named env apart Known named (after i)) (waiting ops here) o t old s r.known r.some
         (safe_held env Known old h.safe) h.inst_regs p.ample
 
-    never_alloc_def_op : (o : OperandRequest) (there : Place → List Place) → Ready env Known ops tame o.vreg o.requirement here there t old
-        → AllocDefOp (after i) o is_ret t old no_register → ⊥
+    never_alloc_def_op : (o : OperandRequest) (there : Place → List Place) → Ready env Known ops sound_ops o.vreg o.requirement here there t old
+        → AllocDefOp (after i) o ends_block t old no_register → ⊥
     never_alloc_def_op o there r (in_get s) = never_place o there r s
     never_alloc_def_op o there r (in_define q u m g s) =
         let x = got o there r q u m g in
-        never_free_alloc (naming_of Named env apart Known named (after i)) tame.same (waiting ops (there q)) o.vreg is_ret q u m r.known x.kept.place
+        never_free_alloc (naming_of Named env apart Known named (after i)) sound_ops.same (waiting ops (there q)) o.vreg ends_block q u m r.known x.kept.place
         x.kept.kept.safe
         (all_kept env old m x.keeps all) x.kept.kept.inst_regs x.ample s
 
     -- an operand finds its place
-    pub never_process_operand : ProcessOperand i is_ret ops k here t old no_register → ⊥
+    pub never_process_operand : ProcessOperand i ends_block ops k here t old no_register → ⊥
     never_process_operand (at_use reads s) = never_place (use_request (op_at ops k) (at_place here k)) (λ q. set here k q)
-        (use_ready env Known ops tame turn reads) s
+        (use_ready env Known ops sound_ops turn reads) s
     never_process_operand (at_def def no_reuse s) = never_alloc_def_op (def_request (op_at ops k)) (λ q. set here k q)
-        (def_ready env Known ops tame turn def no_reuse) s
+        (def_ready env Known ops sound_ops turn def no_reuse) s
     never_process_operand (at_reuse n def reuses s) = never_alloc_def_op (reuse_request (op_at ops k) (op_at ops n)) (λ q. set (set here k q) n q)
-        (reuse_ready env Known ops tame turn n def reuses (not_n n reuses)) s
+        (reuse_ready env Known ops sound_ops turn n def reuses (not_n n reuses)) s
 
     module _ (E : ℕ → Type 0) (at_it : E k) (forth : (j : ℕ) → D j → E j) where
       -- the accounting with one more place
@@ -178,12 +178,12 @@ module _ (operands : NamedOperands) where
       paid there q u new ample counted less keeps places unfree names = record {
         ample = ample;
         awaited = counted;
-        settled = λ j r within allocated is. elim is [
+        placed_unfree = λ j r within allocated is. elim is [
           | inl at ↦ elim (places j) [
-            | inl same ↦ unfree_kept old.allocatable new.allocatable t u r keeps.allocatable less (p.settled j r within allocated (inl (sym same ∙ at)))
+            | inl same ↦ unfree_kept old.allocatable new.allocatable t u r keeps.allocatable less (p.placed_unfree j r within allocated (inl (sym same ∙ at)))
             | inr here_now ↦ unfree r (sym here_now ∙ at)
           ]
-          | inr to ↦ unfree_kept old.allocatable new.allocatable t u r keeps.allocatable less (p.settled j r within allocated (inr to))
+          | inr to ↦ unfree_kept old.allocatable new.allocatable t u r keeps.allocatable less (p.placed_unfree j r within allocated (inr to))
         ];
         named = names;
       }
@@ -210,7 +210,7 @@ module _ (operands : NamedOperands) where
           AllocsUse (after i) (use_request (op_at ops k) (at_place here k)) q t u old new → Paying Named ops E (set here k q) u new
       allocs_use_pays q u new reads d =
           let o : OperandRequest = use_request (op_at ops k) (at_place here k) in
-          let r = use_ready env Known ops tame turn reads in
+          let r = use_ready env Known ops sound_ops turn reads in
           let x = got o (λ z. set here k z) r q u d.middle d.gets in
           let then = machine_stays (locates_use_changes tt d.uses) in
           one_place q u new (ample_kept Named (waiting ops (set here k q)) u d.middle new then x.ample)
@@ -218,9 +218,9 @@ module _ (operands : NamedOperands) where
           (λ s is. allocs_operand_settled (after i) o q t u old d.middle d.gets (use_position (op_at ops k) (at_place here k)) new.allocatable s is)
 
       -- a definition has its place, and its moves are made
-      module _ (o : OperandRequest) (there : Place → List Place) (r : Ready env Known ops tame o.vreg o.requirement here there t old)
+      module _ (o : OperandRequest) (there : Place → List Place) (r : Ready env Known ops sound_ops o.vreg o.requirement here there t old)
           (some : (o.positions.early ≡ true) ⊎ (o.positions.late ≡ true)) (q : Place) (u : InstRegs) (new : StateValue)
-          (d : AllocsDefOp (after i) o is_ret q t u old new) where
+          (d : AllocsDefOp (after i) o ends_block q t u old new) where
         gotten : Got o.vreg o.requirement (there q) q d.inst_regs d.middle
         gotten = got o there r q d.inst_regs d.middle d.gets
 
@@ -228,10 +228,10 @@ module _ (operands : NamedOperands) where
         moved_keeps = machine_stays (frees_alloc_changes (λ p s. tt) (λ p. tt) (λ p. tt) tt d.defines)
 
         moved_less : Less d.inst_regs u
-        moved_less = frees_alloc_less (after i) o.vreg is_ret q d.inst_regs u d.middle new d.defines
+        moved_less = frees_alloc_less (after i) o.vreg ends_block q d.inst_regs u d.middle new d.defines
 
         def_ample : HasEnoughRegs Named (waiting ops (there q)) u new
-        def_ample = ample_frees_alloc (naming_of Named env apart Known named (after i)) tame.same (waiting ops (there q)) o.vreg is_ret q d.inst_regs d.middle
+        def_ample = ample_frees_alloc (naming_of Named env apart Known named (after i)) sound_ops.same (waiting ops (there q)) o.vreg ends_block q d.inst_regs d.middle
             r.known
             gotten.kept.place gotten.kept.kept.safe (all_kept env old d.middle gotten.keeps all) gotten.kept.kept.inst_regs gotten.ample d.defines
 
@@ -250,23 +250,23 @@ module _ (operands : NamedOperands) where
 
       allocs_def_op_pays : (q : Place) (u : InstRegs) (new : StateValue) → is_def (op_at ops k).kind ≡ true →
           ((n : ℕ) → (op_at ops k).constraint ≡ Reuse n → ⊥) →
-          AllocsDefOp (after i) (def_request (op_at ops k)) is_ret q t u old new → Paying Named ops E (set here k q) u new
+          AllocsDefOp (after i) (def_request (op_at ops k)) ends_block q t u old new → Paying Named ops E (set here k q) u new
       allocs_def_op_pays q u new def no_reuse d =
           let o : OperandRequest = def_request (op_at ops k) in
-          let r = def_ready env Known ops tame turn def no_reuse in
+          let r = def_ready env Known ops sound_ops turn def no_reuse in
           let some = some_position (op_at ops k) in
           one_place q u new (def_ample o (λ z. set here k z) r some q u new d) (def_counted o (λ z. set here k z) r some q u new d)
           (def_less o (λ z. set here k z) r some q u new d) (def_keeps o (λ z. set here k z) r some q u new d)
           (def_unfree o (λ z. set here k z) r some q u new d)
 
       allocs_reuse_pays : (n : ℕ) (q : Place) (u : InstRegs) (new : StateValue) → is_def (op_at ops k).kind ≡ true → (op_at ops k).constraint ≡ Reuse n →
-          AllocsDefOp (after i) (reuse_request (op_at ops k) (op_at ops n)) is_ret q t u old new
+          AllocsDefOp (after i) (reuse_request (op_at ops k) (op_at ops n)) ends_block q t u old new
           → Paying Named ops E (set (set here k q) n q) u new
       allocs_reuse_pays n q u new def reuses d =
           let o : OperandRequest = reuse_request (op_at ops k) (op_at ops n) in
           let there : Place → List Place = λ z. set (set here k z) n z in
-          let r = reuse_ready env Known ops tame turn n def reuses (not_n n reuses) in
-          let n_long : n < length (set here k q) = (let w = (tame.named k n lt reuses).0 in let l = h.long in let e = length-set here k q in
+          let r = reuse_ready env Known ops sound_ops turn n def reuses (not_n n reuses) in
+          let n_long : n < length (set here k q) = (let w = (sound_ops.named k n lt reuses).0 in let l = h.long in let e = length-set here k q in
           omega (arith, w, l, e)) in
           paid (there q) q u new (def_ample o there r (inl refl) q u new d) (def_counted o there r (inl refl) q u new d)
           (def_less o there r (inl refl) q u new d) (def_keeps o there r (inl refl) q u new d)
@@ -286,11 +286,11 @@ module _ (operands : NamedOperands) where
           Paying Named ops E (set here k (InRegister r)) t old
       register_pays r silent is =
           let other : is_under_reg (op_at ops k).constraint ≡ false = ap is_under_reg is in
-          let same = unchanged env Known ops tame here k (InRegister r) h.long other in
+          let same = waiting_unchanged env Known ops sound_ops here k (InRegister r) h.long other in
           record {
             ample = λ c n. (let a = p.ample c n in let e = same c in omega (arith, a, e));
             awaited = λ c. p.awaited c ∙ sym (same c);
-            settled = λ j s within allocated at. p.settled j s within allocated (elim at [
+            placed_unfree = λ j s within allocated at. p.placed_unfree j s within allocated (elim at [
               | inl there ↦ elim (cases_eq j k) [
                 | inl e ↦ absurd (both_ways (is_fixed_nonallocatable (op_at ops k))
                     (ap (λ (m : ℕ). is_fixed_nonallocatable (op_at ops m)) (sym e) ∙ allocated) silent)
@@ -302,7 +302,7 @@ module _ (operands : NamedOperands) where
           }
 
       -- an operand is allocated
-      pub processes_operand_pays : (there : List Place) (u : InstRegs) (new : StateValue) → ProcessesOperand i is_ret ops k here there t u old new
+      pub processes_operand_pays : (there : List Place) (u : InstRegs) (new : StateValue) → ProcessesOperand i ends_block ops k here there t u old new
           → Paying Named ops E there u new
       processes_operand_pays there u new (a_register r silent is written eu en) =
           subst (λ l. Paying Named ops E l u new) (sym written) (subst (λ z. Paying Named ops E (set here k (InRegister r)) z new) (sym eu)

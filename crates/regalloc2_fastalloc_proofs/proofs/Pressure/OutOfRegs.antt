@@ -23,14 +23,14 @@ use Rattle.regalloc2_fastalloc_proofs.specs.InstSteps.{StateValue, no_register, 
 use Rattle.regalloc2_fastalloc_proofs.specs.BlockSteps.{AllocInstInBlock, in_inst, in_pass, AllocBlocks, in_block, at_beginning, BeginBlock, at_reloads}
 use Rattle.regalloc2_fastalloc_proofs.specs.BlockSteps.{at_stores}
 use Rattle.regalloc2_fastalloc_proofs.specs.Safety.{HasMachine}
-use Rattle.regalloc2_fastalloc_proofs.proofs.Safety.StepsKeepSafe.{IsApart}
+use Rattle.regalloc2_fastalloc_proofs.proofs.Safety.StepsKeepSafe.{AreKindsApart}
 use Rattle.regalloc2_fastalloc_proofs.proofs.Moves.ScratchRegTaken.{Fit}
 use Rattle.regalloc2_fastalloc_proofs.proofs.Safety.InitialState.{begun_safe}
-use Rattle.regalloc2_fastalloc_proofs.proofs.Operands.AllocsSoFar.{IsTame}
+use Rattle.regalloc2_fastalloc_proofs.proofs.Operands.AllocsSoFar.{AreSoundOperands}
 use Rattle.regalloc2_fastalloc_proofs.proofs.Safety.OutputOfWalk.{machine_apart}
-use Rattle.regalloc2_fastalloc_proofs.proofs.Safety.WellFormedKeepsSafe.{tame_at}
+use Rattle.regalloc2_fastalloc_proofs.proofs.Safety.WellFormedKeepsSafe.{sound_ops_at}
 use Rattle.regalloc2_fastalloc_proofs.specs.Pressure.EnoughRegs.{HasEnoughRegs, none_needed, AllWrite, AllMay}
-use Rattle.regalloc2_fastalloc_proofs.proofs.Pressure.StepsKeepMachine.{all_kept}
+use Rattle.regalloc2_fastalloc_proofs.proofs.Pressure.TablesHaveAllRegs.{all_kept}
 use Rattle.regalloc2_fastalloc_proofs.proofs.Pressure.EnoughAtStart.{StartsFree}
 use Rattle.regalloc2_fastalloc_proofs.proofs.Pressure.InstFindsRegs.{FittingInst, ended_ample, never_alloc_inst}
 use Rattle.regalloc2_fastalloc_proofs.proofs.Safety.StepsKeepMachine.{machine_stays}
@@ -41,7 +41,7 @@ use Rattle.regalloc2_fastalloc_proofs.specs.StoreSteps.{branch_operands, IsStore
 use Rattle.regalloc2_fastalloc_proofs.proofs.Safety.StoresKeepSafe.{IsAlike, stored_defines}
 use Rattle.regalloc2_fastalloc_proofs.proofs.Safety.StoredDefs.{concerned_made, last_within, stored_of_class}
 use Rattle.regalloc2_fastalloc_proofs.proofs.Pressure.BranchRegsKnown.{FixedKnown, all_known_or}
-use Rattle.regalloc2_fastalloc_proofs.proofs.Pressure.WalkKeepsSafe.{IsSound, inst_kept, allocs_block_insts_sound, allocs_blocks_sound}
+use Rattle.regalloc2_fastalloc_proofs.proofs.Pressure.WalkKeepsSafe.{IsCompleteAndSafe, inst_kept, allocs_block_insts_sound, allocs_blocks_sound}
 use Rattle.regalloc2_fastalloc_proofs.proofs.Pressure.BranchFindsRegs.{never_process_branch, some_from}
 use Rattle.regalloc2_fastalloc_proofs.proofs.Pressure.BlockStartFindsRegs.{starts_fresh, never_reload_at_begin}
 
@@ -52,15 +52,15 @@ some_at P (x ∷ xs) zero d lt p = (0, x, omega arith, refl, p)
 some_at P (x ∷ xs) (suc k) d lt p = (let s = some_at P xs k d (omega (arith, lt)) p in (suc s.0, s.1, (let l = s.2 in omega (arith, l)), s.3, s.4))
 
 -- a vreg that is made names its class
-made_names : (f : FunctionValue) → ((i : ℕ) → i < length f.insts → IsTame (Made f) (inst_at f i).operands) → (v : VirtualRegister) → Made f v →
+made_names : (f : FunctionValue) → ((i : ℕ) → i < length f.insts → AreSoundOperands (Made f) (inst_at f i).operands) → (v : VirtualRegister) → Made f v →
     NamesClass f v.class
-made_names f tame v (by_operand i k at is) = inl (
+made_names f sound_ops v (by_operand i k at is) = inl (
   i,
   at.inst,
   some_at (λ (o : OperandValue). (is_fixed_nonallocatable o ≡ false) × (o.vreg.class ≡ v.class)) (inst_at f i).operands k no_operand at.operand
-      ((tame i at.inst).allocated k at.operand at.definition, ap (λ (w : VirtualRegister). w.class) is),
+      ((sound_ops i at.inst).allocated k at.operand at.definition, ap (λ (w : VirtualRegister). w.class) is),
 )
-made_names f tame v (Made.by_param b k at is) =
+made_names f sound_ops v (Made.by_param b k at is) =
     inr (
       b,
       at.block,
@@ -70,14 +70,14 @@ made_names f tame v (Made.by_param b k at is) =
 
 module _ (f : FunctionValue) (env : MachineValue) (fits : MachineFits f env) (limited : IsLimited f) (ok : IsWellFormed env f) (taken : AreTaken f)
     (alike : (b e k j : ℕ) (v : VirtualRegister) (slots : SpillSlotsValue) → IsEdgeInto f b e k → IsStoredFor f e k slots j v → IsAlike env f e j v) where
-  apart : IsApart env
+  apart : AreKindsApart env
   apart = machine_apart f env fits
 
-  tame : (i : ℕ) → i < length f.insts → IsTame (Made f) (inst_at f i).operands
-  tame = tame_at env f limited ok taken
+  sound_ops : (i : ℕ) → i < length f.insts → AreSoundOperands (Made f) (inst_at f i).operands
+  sound_ops = sound_ops_at env f limited ok taken
 
   named : (v : VirtualRegister) → Made f v → NamesClass f v.class
-  named = made_names f tame
+  named = made_names f sound_ops
 
   params : (b k : ℕ) → b < length f.blocks → k < length (block_at f b).params → Made f (slice_index_or (block_at f b).params k no_vreg)
   params b k lt less = Made.by_param b k (record { block = lt; param = less; number = refl }) refl
@@ -105,8 +105,8 @@ module _ (f : FunctionValue) (env : MachineValue) (fits : MachineFits f env) (li
 
   -- an instruction that fits, and the moves of its branch
   module _ (b i : ℕ) (lt : b < length f.blocks) (less : i < length f.insts) (inst_fits : Fits f env (inst_at f i)) (old : StateValue)
-      (s : IsSound env (Made f) old) where
-    -- with the registers and the list of places with which it begins
+      (s : IsCompleteAndSafe env (Made f) old) where
+    -- an instruction that fits, with the registers and the list of places with which it begins
     abbrev fitting : (began : InstRegs) → StartsFree began old → (blank : List Place) → length blank ≡ length (inst_at f i).operands →
         ((k : ℕ) → slice_index_or blank k NoPlace ≡ NoPlace) → FittingInst
     fitting began starts blank long none = record {
@@ -117,7 +117,7 @@ module _ (f : FunctionValue) (env : MachineValue) (fits : MachineFits f env) (li
       named = named;
       i = i;
       inst = inst_at f i;
-      tame = tame i less;
+      sound_ops = sound_ops i less;
       fits = inst_fits;
       old = old;
       h = s.safe;
@@ -140,7 +140,7 @@ module _ (f : FunctionValue) (env : MachineValue) (fits : MachineFits f env) (li
     never_alloc_inst_in_block : (before_it : List Place) → AllocInstInBlock f b i before_it old no_register → ⊥
     never_alloc_inst_in_block before_it (in_inst t fresh stops) = never_alloc_inst (fitting t (starts_fresh t old fresh) stops.0 stops.1 stops.2) stops.3
     never_alloc_inst_in_block before_it (in_pass places m a branch stops) =
-        let k = inst_kept env apart (Made f) f ok.follow tame params targets (concerned_made f ok.successors ok.follow) alike less
+        let k = inst_kept env apart (Made f) f ok.follow sound_ops params targets (concerned_made f ok.successors ok.follow) alike less
         a.allocates s.safe in
         never_process_branch fits apart (Made f) named none_needed (λ e j edge within. (params (target_at f b e) j (targets b e lt edge) within, tt))
         (λ e j edge within. arguments_name b e j lt edge within) k.safe
@@ -149,7 +149,7 @@ module _ (f : FunctionValue) (env : MachineValue) (fits : MachineFits f env) (li
         (left_ample a.blank a.here m a.allocates) stops
 
   -- the start of a block
-  never_begin_block : (b : ℕ) → b < length f.blocks → (old : StateValue) → IsSound env (Made f) old → BeginBlock f b old no_register → ⊥
+  never_begin_block : (b : ℕ) → b < length f.blocks → (old : StateValue) → IsCompleteAndSafe env (Made f) old → BeginBlock f b old no_register → ⊥
   never_begin_block b lt old s (at_reloads stops) = never_reload_at_begin f env fits apart (Made f) named (before (block_at f b).range.first)
       (block_at f b).params
       (λ k less. params b k lt less) old s.safe s.all stops
@@ -161,19 +161,19 @@ module _ (f : FunctionValue) (env : MachineValue) (fits : MachineFits f env) (li
       some_from f env fits m all (op_at (branch_operands f stops.from) stops.index).vreg.class stops.none (named _ made)
 
   -- the instruction at which the walk fails
-  stops_there : (blank : List Place) (old : StateValue) → IsSound env (Made f) old → AllocBlocks f blank old no_register → (i : ℕ) × (i < length f.insts)
+  stops_there : (blank : List Place) (old : StateValue) → IsCompleteAndSafe env (Made f) old → AllocBlocks f blank old no_register → (i : ℕ) × (i < length f.insts)
       × (Fits f env (inst_at f i) → ⊥)
   stops_there blank old s (in_block b places m lt walks stops) =
       let end = end_within f ok.follow b lt in
       let inside = stops.inside in
       let less : stops.index < length f.insts = omega (arith, end, inside) in
-      let first = allocs_blocks_sound env apart (Made f) f ok.follow tame params targets (concerned_made f ok.successors ok.follow) alike s walks in
-      let here = allocs_block_insts_sound env apart (Made f) f ok.follow tame params targets (concerned_made f ok.successors ok.follow) alike lt first
+      let first = allocs_blocks_sound env apart (Made f) f ok.follow sound_ops params targets (concerned_made f ok.successors ok.follow) alike s walks in
+      let here = allocs_block_insts_sound env apart (Made f) f ok.follow sound_ops params targets (concerned_made f ok.successors ok.follow) alike lt first
       stops.walks in
       (stops.index, less, λ inst_fits. never_alloc_inst_in_block b stops.index lt less inst_fits stops.middle here stops.places stops.stops)
   stops_there blank old s (at_beginning b places there m n lt walks walked stops) =
-      let first = allocs_blocks_sound env apart (Made f) f ok.follow tame params targets (concerned_made f ok.successors ok.follow) alike s walks in
-      absurd (never_begin_block b lt n (allocs_block_insts_sound env apart (Made f) f ok.follow tame params targets
+      let first = allocs_blocks_sound env apart (Made f) f ok.follow sound_ops params targets (concerned_made f ok.successors ok.follow) alike s walks in
+      absurd (never_begin_block b lt n (allocs_block_insts_sound env apart (Made f) f ok.follow sound_ops params targets
       (concerned_made f ok.successors ok.follow) alike lt first
       walked) stops)
 
@@ -198,7 +198,7 @@ pub walk_stops : {f : FunctionValue} {env : MachineValue} → MachineFits f env 
     → {blank : List Place} {old : StateValue} → AreFresh env old → AllocBlocks f blank old no_register →
     (i : ℕ) × (i < length f.insts) × (Fits f env (inst_at f i) → ⊥)
 walk_stops {f} {env} fits limited ok taken {blank} {old} fresh stops =
-    elim (all_known_or env f (Made f) old fresh.machine (tame_at env f limited ok taken)) [
+    elim (all_known_or env f (Made f) old fresh.machine (sound_ops_at env f limited ok taken)) [
       | inr one ↦ one
       | inl known ↦ stops_there f env fits limited ok taken (alike_known known) blank old
           (record {

@@ -14,7 +14,7 @@ use Rattle.regalloc2_fastalloc_proofs.proofs.Safety.OperandPassesKeepSafe.{InLat
 use Rattle.regalloc2_fastalloc_proofs.specs.Pressure.EnoughRegs.{AllWrite, AllMay}
 use Rattle.regalloc2_fastalloc_proofs.proofs.Safety.StepsKeepMachine.{machine_stays}
 use Rattle.regalloc2_fastalloc_proofs.proofs.Changes.InstChanges.{free_operand, processes_operands_at_changes}
-use Rattle.regalloc2_fastalloc_proofs.proofs.Pressure.StepsKeepMachine.{HasAll, all_kept}
+use Rattle.regalloc2_fastalloc_proofs.proofs.Pressure.TablesHaveAllRegs.{HasAll, all_kept}
 use Rattle.regalloc2_fastalloc_proofs.proofs.Pressure.FreeRegsCoverWaiting.{Paying}
 use Rattle.regalloc2_fastalloc_proofs.proofs.Pressure.OperandsLeaveEnough.{processes_operand_pays, never_process_operand, NamedOperands}
 use Rattle.regalloc2_fastalloc_proofs.proofs.Safety.OperandPassesKeepSafe.{PassesContext, passes_of}
@@ -25,7 +25,7 @@ pub paying_more : (Named : RegClass → Type 0) (ops : List OperandValue) (D E :
 paying_more Named ops D E here u t forth p = record {
   ample = p.ample;
   awaited = p.awaited;
-  settled = p.settled;
+  placed_unfree = p.placed_unfree;
   named = λ j r less not_e at. let x = p.named j r less (λ d. not_e (forth j less d)) at in (x.0, x.1, forth x.0 x.1 x.2, x.3);
 }
 
@@ -34,11 +34,11 @@ pub defs_write : (i : ℕ) (ops : List OperandValue) → DefsAreWritten AllWrite
 defs_write i ops k n less def = tt
 
 module _ (operands : NamedOperands) where
-  open operands use {Named, env, apart, Known, named, ops, tame, fixed, i, is_ret}
+  open operands use {Named, env, apart, Known, named, ops, sound_ops, fixed, i, ends_block}
 
   -- the passes, wherever the walk may write and move
   abbrev passes : PassesContext
-  passes = passes_of (filling_of env Known AllWrite AllMay ops tame) apart fixed i is_ret tt (defs_write i ops)
+  passes = passes_of (filling_of env Known AllWrite AllMay ops sound_ops) apart fixed i ends_block tt (defs_write i ops)
 
   -- which operands are done in each pass
   abbrev pub Late : ℕ → ℕ → Type 0
@@ -50,16 +50,16 @@ module _ (operands : NamedOperands) where
 
   module _ (blank : List Place) (t : InstRegs) (old : StateValue) (all : HasAll env old) where
     module _ (h : Filled env Known AllWrite AllMay ops (Late 0) blank t old) (p : Paying Named ops (Late 0) blank t old) where
-      filled_late : (k : ℕ) (there : List Place) (u : InstRegs) (m : StateValue) → ProcessesOperandsAt i is_ret true ops blank t old k there u m →
+      filled_late : (k : ℕ) (there : List Place) (u : InstRegs) (m : StateValue) → ProcessesOperandsAt i ends_block true ops blank t old k there u m →
           k ≤ length ops → Filled env Known AllWrite AllMay ops (Late k) there u m
       filled_late k there u m places le = late_operands_kept passes blank t old h k there u
           m places le
 
       not_late : (k : ℕ) → k < length ops → (n : ℕ) → (op_at ops k).constraint ≡ Reuse n → Late k n → ⊥
-      not_late k lt n reuses d = both_ways (is_late (op_at ops n).position) (tame.named k n lt reuses).1 d.1
+      not_late k lt n reuses d = both_ways (is_late (op_at ops n).position) (sound_ops.named k n lt reuses).1 d.1
 
       -- the pass over late operands
-      pub late_operands_pay : (k : ℕ) (there : List Place) (u : InstRegs) (m : StateValue) → ProcessesOperandsAt i is_ret true ops blank t old k there u m →
+      pub late_operands_pay : (k : ℕ) (there : List Place) (u : InstRegs) (m : StateValue) → ProcessesOperandsAt i ends_block true ops blank t old k there u m →
           k ≤ length ops → Paying Named ops (Late k) there u m
       late_operands_pay k there u m none_placed le = p
       late_operands_pay k there u m (of_other j l w s prev other) le = paying_more Named ops (Late j) (Late (j + 1)) there u m
@@ -72,7 +72,7 @@ module _ (operands : NamedOperands) where
           more.at_it more.forth there u m one
 
       -- if registers are enough, the pass over late operands lacks none
-      pub never_late : ProcessOperandsAt i is_ret true ops blank t old no_register → ⊥
+      pub never_late : ProcessOperandsAt i ends_block true ops blank t old no_register → ⊥
       never_late s =
           let more = late_more passes s.index s.stops.0 in
           let lt : s.index < length ops = s.inside in
@@ -83,16 +83,16 @@ module _ (operands : NamedOperands) where
           (all_kept env old s.middle (machine_stays (processes_operands_at_changes (λ p q. tt) (λ n lt at. free_operand _) s.done)) all) s.stops.1
 
     module _ (h : Filled env Known AllWrite AllMay ops (Early 0) blank t old) (p : Paying Named ops (Early 0) blank t old) where
-      filled_early : (k : ℕ) (there : List Place) (u : InstRegs) (m : StateValue) → ProcessesOperandsAt i is_ret false ops blank t old k there u m →
+      filled_early : (k : ℕ) (there : List Place) (u : InstRegs) (m : StateValue) → ProcessesOperandsAt i ends_block false ops blank t old k there u m →
           k ≤ length ops → Filled env Known AllWrite AllMay ops (Early k) there u m
       filled_early k there u m places le = early_operands_kept passes blank t old h k there
           u m places le
 
       not_early : (k : ℕ) → k < length ops → is_late (op_at ops k).position ≡ false → (n : ℕ) → (op_at ops k).constraint ≡ Reuse n → Early k n → ⊥
-      not_early k lt early n reuses d = both_ways (is_late (op_at ops k).position) early (tame.late_reuse k n lt reuses).1
+      not_early k lt early n reuses d = both_ways (is_late (op_at ops k).position) early (sound_ops.late_reuse k n lt reuses).1
 
       -- the pass over early operands
-      pub early_operands_pay : (k : ℕ) (there : List Place) (u : InstRegs) (m : StateValue) → ProcessesOperandsAt i is_ret false ops blank t old k there u m →
+      pub early_operands_pay : (k : ℕ) (there : List Place) (u : InstRegs) (m : StateValue) → ProcessesOperandsAt i ends_block false ops blank t old k there u m →
           k ≤ length ops → Paying Named ops (Early k) there u m
       early_operands_pay k there u m none_placed le = p
       early_operands_pay k there u m (of_other j l w s prev other) le = paying_more Named ops (Early j) (Early (j + 1)) there u m
@@ -105,7 +105,7 @@ module _ (operands : NamedOperands) where
           more.at_it more.forth there u m one
 
       -- if registers are enough, the pass over early operands lacks none
-      pub never_early : ProcessOperandsAt i is_ret false ops blank t old no_register → ⊥
+      pub never_early : ProcessOperandsAt i ends_block false ops blank t old no_register → ⊥
       never_early s =
           let more = early_more passes s.index s.stops.0 in
           let lt : s.index < length ops = s.inside in

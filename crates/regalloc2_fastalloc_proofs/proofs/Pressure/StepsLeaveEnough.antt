@@ -17,11 +17,11 @@ use Rattle.regalloc2_fastalloc_proofs.specs.InstSteps.{StateValue, SameMachine, 
 use Rattle.regalloc2_fastalloc_proofs.specs.InstSteps.{Outcome, dedicated_scratch, had, found, LacksScratchReg, AddMove, direct, through, no_scratch, EvictPReg}
 use Rattle.regalloc2_fastalloc_proofs.specs.InstSteps.{empty, cleared, EvictOtherVRegs, own, others, AddMoveIf, sent, unsent}
 use Rattle.regalloc2_fastalloc_proofs.specs.Safety.{IsEndOfMove, AreSafeRegs}
-use Rattle.regalloc2_fastalloc_proofs.proofs.Safety.StepsKeepSafe.{IsApart}
+use Rattle.regalloc2_fastalloc_proofs.proofs.Safety.StepsKeepSafe.{AreKindsApart}
 use Rattle.regalloc2_fastalloc_proofs.specs.Pressure.EnoughRegs.{HasEnoughRegs, LeavesEnoughRegs, TakesAtMost}
 use Rattle.regalloc2_fastalloc_proofs.proofs.Safety.StepsKeepMachine.{keeps_of, machine_stays}
 use Rattle.regalloc2_fastalloc_proofs.proofs.Changes.InstChanges.{evicts_vreg_changes}
-use Rattle.regalloc2_fastalloc_proofs.proofs.Pressure.StepsKeepMachine.{HasAll}
+use Rattle.regalloc2_fastalloc_proofs.proofs.Pressure.TablesHaveAllRegs.{HasAll}
 use Rattle.regalloc2_fastalloc_proofs.proofs.Pressure.OneRegTaken.{free_but_one, free_kept, ample_kept, ample_none, ample_some, HasStack}
 use Rattle.regalloc2_fastalloc_proofs.proofs.Pressure.OneRegTaken.{has_stack, spare_is_one, spare_is_none}
 
@@ -74,7 +74,7 @@ module _ (Named : RegClass → Type 0) (needed : RegClass → ℕ) (point : ℕ)
             omega (arith, scratch_reserve, kept, was))
       ]
 
-  -- and the class has a scratch register
+  -- a class with a stack place has a scratch register
   some_scratch : (class : RegClass) (t : InstRegs) (old : StateValue) → LacksScratchReg class t old → Named class → HasStack old.fixed_stack class →
       HasEnoughRegs Named needed t old → ⊥
   some_scratch class t old s named stack h =
@@ -103,12 +103,12 @@ pub record Demand : Type 1 where
   pub needed : RegClass → ℕ
   pub point : ℕ
   pub env : MachineValue
-  pub apart : IsApart env
+  pub apart : AreKindsApart env
   pub Known : VirtualRegister → Type 0
   pub named : (v : VirtualRegister) → Known v → Named v.class
 
 -- the record, built from its parts
-abbrev pub demand_of : (Named : RegClass → Type 0) → (RegClass → ℕ) → ℕ → (env : MachineValue) → IsApart env → (Known : VirtualRegister → Type 0) →
+abbrev pub demand_of : (Named : RegClass → Type 0) → (RegClass → ℕ) → ℕ → (env : MachineValue) → AreKindsApart env → (Known : VirtualRegister → Type 0) →
     ((v : VirtualRegister) → Known v → Named v.class) → Demand
 demand_of Named needed point env apart Known named =
     record { Named = Named; needed = needed; point = point; env = env; apart = apart; Known = Known; named = named }

@@ -43,7 +43,7 @@ pub waits_not : (ops : List OperandValue) (here : List Place) (c : RegClass) (k 
     waits ops here c k ≡ false
 waits_not ops here c k e = rw e refl
 
--- nor does an operand of another class
+-- an operand of another class doesn't wait
 pub waits_elsewhere : (ops : List OperandValue) (here : List Place) (c : RegClass) (k : ℕ) → (class_code c ≡ class_code (op_at ops k).vreg.class → ⊥) →
     waits ops here c k ≡ false
 waits_elsewhere ops here c k ne =
@@ -52,7 +52,7 @@ waits_elsewhere ops here c k ne =
     rw e (and_left (is_under_reg (op_at ops k).constraint && false) (not (is_in_register (slice_index_or here k NoPlace)))
     (and_right (is_under_reg (op_at ops k).constraint) false refl))
 
--- nor does an operand that has its place already
+-- an operand that has its place already doesn't wait
 pub waits_placed : (ops : List OperandValue) (here : List Place) (c : RegClass) (k : ℕ) (r : Register) → slice_index_or here k NoPlace ≡ InRegister r →
     waits ops here c k ≡ false
 waits_placed ops here c k r e = rw e (and_right (asks_reg_of_class c (op_at ops k)) false refl)
@@ -71,7 +71,7 @@ abbrev pub is_taken_first : MachineValue → RegClass → InstValue → ℕ → 
 is_taken_first env class i n = is_allocatable env class (register_number class n)
     && (has_register i.clobbers (register_number class n) || nat_lt 0 (count_by (λ o. is_fixed_to (register_number class n) o.constraint) i.operands))
 
--- all others are free, where only those are taken
+-- all registers are free but the taken ones
 pub rest_is_free : (env : MachineValue) (class : RegClass) (i : InstValue) (is_left : ℕ → Bool) →
     ((n : ℕ) → n < 64 → is_allocatable env class (register_number class n) ≡ true → is_taken_first env class i n ≡ false → is_left n ≡ true)
     → allocatable_count env class ≤ count_below is_left 64 + count_below (is_taken_first env class i) 64

@@ -11,13 +11,13 @@ use Rattle.regalloc2_function.specs.Following.{end_within}
 use Rattle.regalloc2_semantics.specs.Blocks.{target_at}
 use Rattle.regalloc2_fastalloc_proofs.specs.InstSteps.{StateValue, AllocsInst}
 use Rattle.regalloc2_fastalloc_proofs.specs.BlockSteps.{AllocsInstInBlock, AllocsBlockInsts, at_end, one_in, AllocsBlocks, all_left, one_block}
-use Rattle.regalloc2_fastalloc_proofs.proofs.Safety.StepsKeepSafe.{IsApart, rules_of}
-use Rattle.regalloc2_fastalloc_proofs.proofs.Operands.AllocsSoFar.{IsTame, UsesAreWritten}
+use Rattle.regalloc2_fastalloc_proofs.proofs.Safety.StepsKeepSafe.{AreKindsApart, rules_of}
+use Rattle.regalloc2_fastalloc_proofs.proofs.Operands.AllocsSoFar.{AreSoundOperands, UsesAreWritten}
 use Rattle.regalloc2_fastalloc_proofs.proofs.Safety.InstKeepsSafe.{InstKept, allocs_inst_kept}
 use Rattle.regalloc2_fastalloc_proofs.proofs.Safety.BlockStartKeepsSafe.{reloads_at_begin_kept}
 use Rattle.regalloc2_fastalloc_proofs.proofs.Safety.BranchKeepsSafe.{processes_branch_kept}
 use Rattle.regalloc2_fastalloc_proofs.specs.Pressure.EnoughRegs.{AllWrite, AllMay, AreSafe}
-use Rattle.regalloc2_fastalloc_proofs.proofs.Pressure.StepsKeepMachine.{HasAll, all_kept}
+use Rattle.regalloc2_fastalloc_proofs.proofs.Pressure.TablesHaveAllRegs.{HasAll, all_kept}
 use Rattle.regalloc2_analysis.specs.BranchDefs.BranchDefs.{IsEdgeInto}
 use Rattle.regalloc2_fastalloc_state.specs.StateParts.{SpillSlotsValue}
 use Rattle.regalloc2_fastalloc_proofs.specs.StoreSteps.{IsConcerned, IsStoredFor}
@@ -27,7 +27,7 @@ use Rattle.regalloc2_fastalloc_proofs.proofs.Changes.WalkChanges.{free_inst, fre
 use Rattle.regalloc2_fastalloc_proofs.proofs.Pressure.PassesLeaveEnough.{defs_write}
 
 -- the tables have all registers, and are safe
-pub record IsSound (env : MachineValue) (Known : VirtualRegister → Type 0) (t : StateValue) : Type 0 where
+pub record IsCompleteAndSafe (env : MachineValue) (Known : VirtualRegister → Type 0) (t : StateValue) : Type 0 where
   pub all : HasAll env t
   pub safe : AreSafe env Known t
 
@@ -39,8 +39,8 @@ uses_write i inst places k n less reads is = tt
 pub every_write : (point : ℕ) (v : VirtualRegister) → Unit {0} → (n : ℕ) → AllWrite point v n
 every_write point v is n = tt
 
-module _ (env : MachineValue) (apart : IsApart env) (Known : VirtualRegister → Type 0) (f : FunctionValue) (follow : BlocksFollow f)
-    (tame : (i : ℕ) → i < length f.insts → IsTame Known (inst_at f i).operands)
+module _ (env : MachineValue) (apart : AreKindsApart env) (Known : VirtualRegister → Type 0) (f : FunctionValue) (follow : BlocksFollow f)
+    (sound_ops : (i : ℕ) → i < length f.insts → AreSoundOperands Known (inst_at f i).operands)
     (params : (b k : ℕ) → b < length f.blocks → k < length (block_at f b).params → Known (slice_index_or (block_at f b).params k no_vreg))
     (targets : (b k : ℕ) → b < length f.blocks → k < length (block_at f b).succs → target_at f b k < length f.blocks)
     (concerned : (b e k : ℕ) (v : VirtualRegister) → IsEdgeInto f b e k → IsConcerned f e k v → Known v)
@@ -49,11 +49,11 @@ module _ (env : MachineValue) (apart : IsApart env) (Known : VirtualRegister →
   pub inst_kept : {i : ℕ} → i < length f.insts → {blank places : List Place} {old new : StateValue} → (a : AllocsInst i (inst_at f i) blank places old new) →
       AreSafe env Known old → InstKept env Known AllWrite AllMay (inst_at f i).operands places a.ended new
   inst_kept {i} lt {blank} {places} {old} {new} a h =
-      allocs_inst_kept apart (inst_at f i) tt tt (tame i lt) (defs_write i (inst_at f i).operands)
+      allocs_inst_kept apart (inst_at f i) tt tt (sound_ops i lt) (defs_write i (inst_at f i).operands)
       (uses_write i (inst_at f i) places) a h
 
   allocs_inst_in_block_sound : (b i : ℕ) → b < length f.blocks → i < length f.insts → (before_it places : List Place) (old new : StateValue) →
-      AllocsInstInBlock f b i before_it places old new → IsSound env Known old → IsSound env Known new
+      AllocsInstInBlock f b i before_it places old new → IsCompleteAndSafe env Known old → IsCompleteAndSafe env Known new
   allocs_inst_in_block_sound b i small lt before_it places old new a s =
       let k = inst_kept lt a.allocates.allocates s.safe in
       record {
@@ -67,16 +67,16 @@ module _ (env : MachineValue) (apart : IsApart env) (Known : VirtualRegister →
       }
 
   -- the instructions of a block
-  pub allocs_block_insts_sound : {b : ℕ} → b < length f.blocks → {blank : List Place} {old : StateValue} → IsSound env Known old →
-      {i : ℕ} {places : List Place} {t : StateValue} → AllocsBlockInsts f b blank old i places t → IsSound env Known t
+  pub allocs_block_insts_sound : {b : ℕ} → b < length f.blocks → {blank : List Place} {old : StateValue} → IsCompleteAndSafe env Known old →
+      {i : ℕ} {places : List Place} {t : StateValue} → AllocsBlockInsts f b blank old i places t → IsCompleteAndSafe env Known t
   allocs_block_insts_sound lt s at_end = s
   allocs_block_insts_sound {b} lt {blank} {old} s {places} {t} (one_in n before_it p m u ge less prev a) =
       let end = end_within f follow b lt in
       allocs_inst_in_block_sound b n lt (omega (arith, end, less)) before_it places m t a (allocs_block_insts_sound lt s prev)
 
   -- all blocks
-  pub allocs_blocks_sound : {blank : List Place} {old : StateValue} → IsSound env Known old → {c : ℕ} {places : List Place} {t : StateValue} →
-      AllocsBlocks f blank old c places t → IsSound env Known t
+  pub allocs_blocks_sound : {blank : List Place} {old : StateValue} → IsCompleteAndSafe env Known old → {c : ℕ} {places : List Place} {t : StateValue} →
+      AllocsBlocks f blank old c places t → IsCompleteAndSafe env Known t
   allocs_blocks_sound s all_left = s
   allocs_blocks_sound {blank} {old} s {t} (one_block b before_it p m u w lt prev walks begins) =
       let x = allocs_block_insts_sound lt (allocs_blocks_sound s prev) walks in

@@ -19,13 +19,13 @@ use Rattle.regalloc2_fastalloc_proofs.specs.StoreSteps.{IsConcerned, IsStoredFor
 use Rattle.regalloc2_fastalloc_proofs.specs.BranchSteps.{ProcessesBranch}
 use Rattle.regalloc2_fastalloc_proofs.specs.Safety.{IsSafe, AreSafeRegs}
 use Rattle.regalloc2_fastalloc_proofs.specs.BlockSteps.{AllocsInstInBlock, AllocsBlockInsts, at_end, one_in, AllocsBlocks, all_left, one_block}
-use Rattle.regalloc2_fastalloc_proofs.proofs.Safety.StepsKeepSafe.{IsApart, StepKept, rules_of}
+use Rattle.regalloc2_fastalloc_proofs.proofs.Safety.StepsKeepSafe.{AreKindsApart, StepKept, rules_of}
 use Rattle.regalloc2_fastalloc_proofs.proofs.Slots.SlotsGrow.{SlotsStay, changes_stay}
 use Rattle.regalloc2_fastalloc_proofs.proofs.Changes.WalkChanges.{any_passed, free_begin, processes_branch_changes, begins_block_changes}
-use Rattle.regalloc2_fastalloc_proofs.proofs.Operands.AllocsSoFar.{IsTame, good_grows, DefsAreWritten, UsesAreWritten}
+use Rattle.regalloc2_fastalloc_proofs.proofs.Operands.AllocsSoFar.{AreSoundOperands, good_grows, DefsAreWritten, UsesAreWritten}
 use Rattle.regalloc2_fastalloc_proofs.proofs.Safety.InstKeepsSafe.{InstKept, allocs_inst_kept, allocs_inst_last_kept}
 use Rattle.regalloc2_fastalloc_proofs.proofs.BlockEnd.NoMoveForOperand.{IsOutside}
-use Rattle.regalloc2_fastalloc_proofs.proofs.BlockEnd.NoMoveInLastInst.{calm_end}
+use Rattle.regalloc2_fastalloc_proofs.proofs.BlockEnd.NoMoveInLastInst.{no_move_at_end}
 use Rattle.regalloc2_fastalloc_proofs.proofs.Safety.InstsKeepSafe.{place_of, WritesByBranch, WritesFrom, more_written, WalkKept, AreLast, later_same}
 use Rattle.regalloc2_fastalloc_proofs.proofs.Safety.InstsKeepSafe.{more_places, defs_written, uses_written}
 use Rattle.regalloc2_fastalloc_proofs.proofs.Safety.BlockStartKeepsSafe.{reloads_at_begin_kept}
@@ -72,14 +72,14 @@ later_blocks_same f b within blank old i places t (one_in n before_it p s u ge l
     ∙ later_blocks_same f b within blank old (n + 1) before_it s prev j k le less
 
 -- The context of a function's walk: a machine, whose kinds of registers are disjoint; the known vregs, among them parameters and the vregs that stores
--- are for; the function, with tame operands; and the places at the walk's end. Blocks follow one another, definitions that need a return have one, branches end
+-- are for; the function, with sound operands; and the places at the walk's end. Blocks follow one another, definitions that need a return have one, branches end
 -- their blocks, and lead to blocks of the function.
 pub record WalkRules : Type 1 where
   pub env : MachineValue
-  pub apart : IsApart env
+  pub apart : AreKindsApart env
   pub Known : VirtualRegister → Type 0
   pub f : FunctionValue
-  pub tame : (i : ℕ) → i < length f.insts → IsTame Known (inst_at f i).operands
+  pub sound_ops : (i : ℕ) → i < length f.insts → AreSoundOperands Known (inst_at f i).operands
   pub last : List Place
   pub follow : BlocksFollow f
   pub returns : (b i : ℕ) → b < length f.blocks → i + 1 ≡ (block_at f b).range.end → (k : ℕ) → k < length (inst_at f i).operands →
@@ -92,7 +92,7 @@ pub record WalkRules : Type 1 where
   pub alike : (b e k j : ℕ) (v : VirtualRegister) (slots : SpillSlotsValue) → IsEdgeInto f b e k → IsStoredFor f e k slots j v → IsAlike env f e j v
 
 module _ (rules : WalkRules) where
-  open rules use {env, apart, Known, f, tame, last, follow, returns, branches, params, targets, concerned, alike}
+  open rules use {env, apart, Known, f, sound_ops, last, follow, returns, branches, params, targets, concerned, alike}
 
   -- safe tables stay safe with the same slots and more
   kept_grows : (c d i : ℕ) (places : List Place) (t u : StateValue) → IsSafe env Known (WritesFrom f last d) (MayInBlocks f) u → SlotsStay t.slots u.slots →
@@ -125,17 +125,17 @@ module _ (rules : WalkRules) where
       let end = end_within f follow b lt in
       let within : i < length f.insts = omega (arith, less, end) in
       let x = a.allocates in
-      let defs : DefsAreWritten (WritesFrom f last c) i inst.operands = defs_written env Known f tame (MayInBlocks f) last c i within in
-      let uses : UsesAreWritten (WritesFrom f last c) i inst.operands x.here = uses_written env Known f tame (MayInBlocks f) last c i before_it places s
+      let defs : DefsAreWritten (WritesFrom f last c) i inst.operands = defs_written env Known f sound_ops (MayInBlocks f) last c i within in
+      let uses : UsesAreWritten (WritesFrom f last c) i inst.operands x.here = uses_written env Known f sound_ops (MayInBlocks f) last c i before_it places s
       a.middle within x are_last in
       elim (cases_eq (i + 1) (block_at f b).range.end) [
         | inl e ↦ (
             let start : s ≡ old = block_start f b blank old (i + 1) before_it s prev e in
-            let still = calm_end Known i inst x.blank x.here s a.middle (tame i within) (returns b i lt e) x.allocates (subst IsOutside (sym start) bare) in
+            let no_edit = no_move_at_end Known i inst x.blank x.here s a.middle (sound_ops i within) (returns b i lt e) x.allocates (subst IsOutside (sym start) bare) in
             allocs_inst_last_kept apart inst (b, i, lt, ge, less, inl refl)
-            (tame i within) defs uses x.allocates still w.safe)
+            (sound_ops i within) defs uses x.allocates no_edit w.safe)
         | inr d ↦ allocs_inst_kept apart inst (b, i, lt, ge, less, inl refl)
-            (b, i, lt, ge, less, inr (refl, omega (arith, d, less))) (tame i within) defs uses x.allocates w.safe
+            (b, i, lt, ge, less, inr (refl, omega (arith, d, less))) (sound_ops i within) defs uses x.allocates w.safe
       ]
 
   -- the instructions of a block
@@ -152,7 +152,7 @@ module _ (rules : WalkRules) where
       let x = allocs_inst_in_block_kept (b + 1) b n lt blank before_it places old s t ge less bare prev a are_last w in
       let m : WalkKept env Known f (MayInBlocks f) last (b + 1) n places a.middle = record {
         safe = x.safe;
-        good = more_places env Known f tame (MayInBlocks f) last (b + 1) within a.allocates x w.good;
+        good = more_places env Known f sound_ops (MayInBlocks f) last (b + 1) within a.allocates x w.good;
       } in
       elim (cases_Bool (inst_at f n).is_branch) [
         | inl branch ↦ (let k = branch_kept (b + 1) b n lt ge less branch a.allocates.allocates.ended a.inst_regs a.middle t (a.branch branch) x.safe
@@ -193,7 +193,7 @@ module _ (rules : WalkRules) where
       subst (λ n. WalkKept env Known f (MayInBlocks f) last b n places t) (sym e) (kept_grows (b + 1) b B.range.first places u t stored
       (changes_stay (begins_block_changes (free_begin f b) begins)) second)
 
-  -- and therefore at each instruction of a block, with the blocks after it walked
+  -- the state is safe at each instruction of a block, with the blocks after it walked
   pub within_kept : (blank : List Place) (old : StateValue) → IsSafe env Known (WritesFrom f last (length f.blocks)) (MayInBlocks f) old →
       ((c : ℕ) (places : List Place) (t : StateValue) → AllocsBlocks f blank old c places t → IsOutside t)
       → (b : ℕ) → b < length f.blocks → (p : List Place) (s : StateValue) → AllocsBlocks f blank old (b + 1) p s → (i : ℕ) (q : List Place) (u : StateValue) →

@@ -23,7 +23,7 @@ use Rattle.regalloc2_fastalloc_proofs.specs.BranchSteps.{SpillsArgument, from_re
 use Rattle.regalloc2_fastalloc_proofs.specs.BranchSteps.{GathersMoves, no_edge, one_edge, ClassMove, is_class, of_class, MayBeScratch, IsScratchUsed}
 use Rattle.regalloc2_fastalloc_proofs.specs.BranchSteps.{IsOrdered, OrdersMoves, Pushes, ProcessesBranch}
 use Rattle.regalloc2_fastalloc_proofs.specs.Safety.{MayBeLocatedAtOrNone, HasMachine, IsMoveReg, IsEndOfArgMove, IsSafe, IsSafeEdit, AreSafeRegs}
-use Rattle.regalloc2_fastalloc_proofs.proofs.Safety.StepsKeepSafe.{StepKept, MayBeHeld, kept_none, same_units, shifted, evicts_preg_kept, StepRules}
+use Rattle.regalloc2_fastalloc_proofs.proofs.Safety.StepsKeepSafe.{StepKept, MayBeHeld, kept_none, same_units, safe_after_spill, evicts_preg_kept, StepRules}
 use Rattle.regalloc2_fastalloc_proofs.proofs.Slots.SlotsGrow.{SlotsStay, SlotsGrow, gives_stay, changes_stay, edits_grow, none_grows}
 use Rattle.regalloc2_fastalloc_proofs.proofs.BlockEnd.NoMoveForOperand.{slot_number}
 use Rattle.regalloc2_fastalloc_state.proofs.SlotsAsPlaces.{slot_grows}
@@ -34,7 +34,7 @@ use Rattle.regalloc2_fastalloc_proofs.proofs.Changes.WalkChanges.{spills_argumen
 use Rattle.regalloc2_fastalloc_proofs.proofs.Operands.RecordOverState.{slot_below}
 
 -- a given move goes from some vreg's slot to that of a known vreg whose value may be written
-pub record IsGiven (Known : VirtualRegister → Type 0) (Passed : VirtualRegister → Type 0) (slots : SpillSlotsValue) (from to : Place) : Type 0 where
+pub record IsGatheredMove (Known : VirtualRegister → Type 0) (Passed : VirtualRegister → Type 0) (slots : SpillSlotsValue) (from to : Place) : Type 0 where
   pub source : ℕ
   pub argument : ℕ
   pub comes : slot_name slots argument ≡ InSlot source
@@ -47,12 +47,12 @@ pub record IsGiven (Known : VirtualRegister → Type 0) (Passed : VirtualRegiste
   pub to_there : to ≡ InSlot target
 
 -- each gathered move goes from some vreg's slot to that of a known parameter
-abbrev pub AreGiven : (VirtualRegister → Type 0) → (VirtualRegister → Type 0) → SpillSlotsValue → List ClassMove → Type 0
-AreGiven Known Passed slots given = All (λ g. IsGiven Known Passed slots g.from g.to) given
+abbrev pub AreGatheredMoves : (VirtualRegister → Type 0) → (VirtualRegister → Type 0) → SpillSlotsValue → List ClassMove → Type 0
+AreGatheredMoves Known Passed slots given = All (λ g. IsGatheredMove Known Passed slots g.from g.to) given
 
--- the slots that a gathered move goes from and to stay those of their vregs where slots stay
-pub given_stays : (Known Passed : VirtualRegister → Type 0) (s t : SpillSlotsValue) (from to : Place) → SlotsStay s t → IsGiven Known Passed s from to →
-    IsGiven Known Passed t from to
+-- a gathered move goes from a vreg's slot to another's also in a later table, if slots stay
+pub given_stays : (Known Passed : VirtualRegister → Type 0) (s t : SpillSlotsValue) (from to : Place) → SlotsStay s t → IsGatheredMove Known Passed s from to →
+    IsGatheredMove Known Passed t from to
 given_stays Known Passed s t from to stay g = record {
   source = g.source;
   argument = g.argument;
@@ -66,9 +66,9 @@ given_stays Known Passed s t from to stay g = record {
   to_there = g.to_there;
 }
 
--- the slots that all gathered moves go from and to stay those of their vregs where slots stay
+-- all gathered moves go from a vreg's slot to another's also in a later table, if slots stay
 pub all_given_stay : (Known Passed : VirtualRegister → Type 0) (s t : SpillSlotsValue) (given : List ClassMove) → SlotsStay s t →
-    AreGiven Known Passed s given → AreGiven Known Passed t given
+    AreGatheredMoves Known Passed s given → AreGatheredMoves Known Passed t given
 all_given_stay Known Passed s t given stay h k d lt = given_stays Known Passed s t _ _ stay (h k d lt)
 
 perhaps_all : {X : Type 0} (P : X → Type 0) (b : Bool) (x : X) (xs : List X) → P x → All P xs → All P (cond b (x ∷ xs) xs)
@@ -76,7 +76,7 @@ perhaps_all P true x xs p h zero d lt = p
 perhaps_all P true x xs p h (suc k) d lt = h k d (omega arith)
 perhaps_all P false x xs p h k d lt = h k d lt
 
--- what holds of each move holds of those of one class
+-- what holds of each move holds of each move of one class
 of_class_all : (P : Place × Place × Unit {0} → Type 0) (c : RegClass) (given : List ClassMove) → All (λ g. P (g.from, g.to, tt)) given →
     All P (of_class c given)
 unfolding of_class
@@ -127,7 +127,7 @@ module _ (rules : StepRules) where
       let n = slot_number new.slots.count s gives.there gives.below in
       record {
         kept = record {
-          safe = shifted rules old new a s gives settles machine (given_edits env Known Writes May old new a s gives edits h) h;
+          safe = safe_after_spill rules old new a s gives settles machine (given_edits env Known Writes May old new a s gives edits h) h;
           inst_regs = subst (AreSafeRegs env) (sym eu) ht;
         };
         number = n.0;
@@ -144,9 +144,9 @@ module _ (rules : StepRules) where
     pub gathers_edge_moves_kept : {Own : VirtualRegister → Type 0} {params arguments : List VirtualRegister} →
         ((j : ℕ) → j < length params → Good (slice_index_or params j no_vreg)) →
         {t : InstRegs} {old : StateValue} {before_it : List ClassMove}
-        → IsSafe env Known Writes May old → AreSafeRegs env t → AreGiven Known Passed old.slots before_it
+        → IsSafe env Known Writes May old → AreSafeRegs env t → AreGatheredMoves Known Passed old.slots before_it
         → {k : ℕ} {u : InstRegs} {new : StateValue} {given : List ClassMove} → GathersEdgeMoves Own point params arguments t old before_it k u new given →
-        StepKept env Known Writes May u new × AreGiven Known Passed new.slots given
+        StepKept env Known Writes May u new × AreGatheredMoves Known Passed new.slots given
     gathers_edge_moves_kept good {t} {old} h ht begin none_gathered =
         (kept_none env Known Writes May old old t t refl refl h ht, begin)
     gathers_edge_moves_kept {params} {arguments} good {t} {old} {before_it} h ht begin {u} {new}
@@ -159,7 +159,7 @@ module _ (rules : StepRules) where
         let number = slot_number n.slots.count to gives.there gives.below in
         let later : SlotsStay n.slots new.slots = changes_stay (spills_argument_changes (λ q x. tt) tt tt settles) in (
           second.kept,
-          All-push (λ (g : ClassMove). IsGiven Known Passed new.slots g.from g.to) some (record { class = a.class; from = from; to = to })
+          All-push (λ (g : ClassMove). IsGatheredMove Known Passed new.slots g.from g.to) some (record { class = a.class; from = from; to = to })
               (all_given_stay Known Passed m.slots new.slots some (λ x d is. later x d (gives_stay m.slots n.slots v to gives x d is)) p.1)
               (record {
                 source = second.number;
@@ -182,7 +182,7 @@ module _ (rules : StepRules) where
         Good (slice_index_or (block_at f (target_at f b k)).params j no_vreg))
         → (t : InstRegs) (old : StateValue) → IsSafe env Known Writes May old → AreSafeRegs env t
         → (k : ℕ) (u : InstRegs) (new : StateValue) (given : List ClassMove) → GathersMoves f b point t old k u new given →
-        StepKept env Known Writes May u new × AreGiven Known Passed new.slots given
+        StepKept env Known Writes May u new × AreGatheredMoves Known Passed new.slots given
     gathers_moves_kept f b good t old h ht k u new given no_edge = (kept_none env Known Writes May old old t t refl refl h ht, λ j d lt. absurd (omega arith))
     gathers_moves_kept f b good t old h ht k u new given (one_edge j some more w x m n lt prev edge) =
         let p = gathers_moves_kept f b good t old h ht j w m some prev in
@@ -191,7 +191,7 @@ module _ (rules : StepRules) where
     -- the moves of one class are ordered and pushed
     module _ (class : RegClass) (inst_regs : InstRegs) (given : Moves) (old middle : StateValue) (made : Moves)
         (orders : OrdersMoves inst_regs class given made old middle) (h : IsSafe env Known Writes May old)
-        (all : All (λ m. IsGiven Known Passed old.slots m.0 m.1) given) where
+        (all : All (λ m. IsGatheredMove Known Passed old.slots m.0 m.1) given) where
       same_names : (n : ℕ) → slot_name middle.slots n ≡ slot_name old.slots n
       same_names n = ap (λ (l : List Place). slice_index_or l n NoPlace) orders.lends.2.vreg_spillslots
 
@@ -220,8 +220,8 @@ module _ (rules : StepRules) where
           let grows = orders.grows in
           subst (IsEndOfArgMove env middle.slots class) (sym is) (omega (arith, below, grows))
 
-      is_given : (x : Place × Place × Unit {0}) → Contains given x → IsGiven Known Passed old.slots x.0 x.1
-      is_given x c = All-contains (λ (m : Place × Place × Unit {0}). IsGiven Known Passed old.slots m.0 m.1) given x all c
+      is_given : (x : Place × Place × Unit {0}) → Contains given x → IsGatheredMove Known Passed old.slots x.0 x.1
+      is_given x c = All-contains (λ (m : Place × Place × Unit {0}). IsGatheredMove Known Passed old.slots m.0 m.1) given x all c
 
       source_end : (p : Place) → IsScratchUsed inst_regs old middle class p ⊎ ((x : Place × Place × Unit {0}) × Contains given x × (p ≡ x.0)) →
           IsEndOfArgMove env middle.slots class p
@@ -286,7 +286,7 @@ module _ (rules : StepRules) where
 
     -- pushing the ordered moves of one class keeps the state safe, where the given ones go between slots of vregs
     pub pushes_kept : (class : RegClass) (inst_regs : InstRegs) (given : Moves) (old new : StateValue) → Pushes point inst_regs class given old new →
-        All (λ m. IsGiven Known Passed old.slots m.0 m.1) given → IsSafe env Known Writes May old → AreSafeRegs env inst_regs
+        All (λ m. IsGatheredMove Known Passed old.slots m.0 m.1) given → IsSafe env Known Writes May old → AreSafeRegs env inst_regs
         → StepKept env Known Writes May inst_regs new
     pushes_kept class inst_regs given old new p all h ht = subst (StepKept env Known Writes May inst_regs) (sym p.pushes)
         (ordered_kept class inst_regs given old p.middle p.made p.orders h all ht)
@@ -300,10 +300,10 @@ module _ (rules : StepRules) where
     processes_branch_kept f b i e good t u old new p h ht =
         let x = gathers_moves_kept f b good t old h ht (length (block_at f b).succs) u p.gathered p.given
         (subst (λ q. GathersMoves f b q t old (length (block_at f b).succs) u p.gathered p.given) (sym e) p.gathers) in
-        let of : (c : RegClass) → All (λ m. IsGiven Known Passed p.gathered.slots m.0 m.1) (of_class c p.given) = λ c. of_class_all
-        (λ m. IsGiven Known Passed p.gathered.slots m.0 m.1) c p.given x.1 in
+        let of : (c : RegClass) → All (λ m. IsGatheredMove Known Passed p.gathered.slots m.0 m.1) (of_class c p.given) = λ c. of_class_all
+        (λ m. IsGatheredMove Known Passed p.gathered.slots m.0 m.1) c p.given x.1 in
         let stays : (t2 : StateValue) → SlotsStay p.gathered.slots t2.slots → (c : RegClass) →
-        All (λ m. IsGiven Known Passed t2.slots m.0 m.1) (of_class c p.given) =
+        All (λ m. IsGatheredMove Known Passed t2.slots m.0 m.1) (of_class c p.given) =
         λ t2 stay c k d lt. given_stays Known Passed p.gathered.slots t2.slots _ _ stay (of c k d lt) in
         let i1 = pushes_kept Int u (of_class Int p.given) p.gathered p.ints (subst (λ q. Pushes q u Int (of_class Int p.given) p.gathered p.ints) (sym e) p.int)
         (of Int) x.0.safe x.0.inst_regs in

@@ -24,8 +24,8 @@ use Rattle.regalloc2_fastalloc_proofs.specs.Safety.{HasMachine, IsSafe}
 use Rattle.regalloc2_fastalloc_proofs.specs.BlockSteps.{AllocsBlockInsts, AllocsBlocks}
 use Rattle.regalloc2_fastalloc_proofs.proofs.Safety.InitialState.{begun_safe}
 use Rattle.regalloc2_fastalloc_proofs.proofs.BlockEnd.NoMoveForOperand.{IsOutside}
-use Rattle.regalloc2_fastalloc_proofs.proofs.Safety.OutputOfWalk.{IsMade, each_edit, machine_apart}
-use Rattle.regalloc2_fastalloc_proofs.proofs.Safety.WellFormedKeepsSafe.{tame_at}
+use Rattle.regalloc2_fastalloc_proofs.proofs.Safety.OutputOfWalk.{IsOutputOfWalk, each_edit, machine_apart}
+use Rattle.regalloc2_fastalloc_proofs.proofs.Safety.WellFormedKeepsSafe.{sound_ops_at}
 use Rattle.regalloc2_fastalloc_proofs.proofs.Safety.InstsKeepSafe.{AreLast, WalkKept, WritesByBranch, WritesFrom}
 use Rattle.regalloc2_fastalloc_proofs.proofs.Safety.BlocksKeepSafe.{MayInBlocks, WalkRules, allocs_blocks_kept, within_kept}
 use Rattle.regalloc2_fastalloc_proofs.proofs.Safety.StoredDefs.{concerned_made, stored_alike}
@@ -102,7 +102,7 @@ module _ (fresh : FreshWalk) (outside : (c : ℕ) (ps : List Place) (u : StateVa
     apart = machine_apart f env fits;
     Known = Made f;
     f = f;
-    tame = tame_at env f limited ok taken;
+    sound_ops = sound_ops_at env f limited ok taken;
     last = places;
     follow = ok.follow;
     returns = λ b i lt e k less def. last_ends env f ok b i lt e;
@@ -122,7 +122,7 @@ module _ (fresh : FreshWalk) (outside : (c : ℕ) (ps : List Place) (u : StateVa
       (record { block = λ lt. sym ((ok.follow 0 some).1 refl); end = λ e. absurd (omega (arith, e, some)) })
       (λ j k le less within. refl)
 
-  -- and all its states are safe
+  -- all states of the walk are safe
   pub walk_safe : SafeWithin env f blank begin places
   walk_safe b lt p s prev i q u walk are_last = (within_kept walk_rules blank begin begun outside b lt p s prev i q u walk are_last).safe
 
@@ -155,7 +155,7 @@ listed_in_blocks f p (b, i, lt, ge, less, inr (e, next)) = (
       (lt-ltb (block_at f b).range.first (i + 1) (omega (arith, ge))) (eq-eqb (p + 1) (before (i + 1)) (omega (arith, e)))),
 )
 
--- and isn't after a block's last instruction
+-- a point at which moves may be pushed isn't after a block's last instruction
 not_behind : (f : FunctionValue) → BlocksFollow f → (p : ℕ) → MayInBlocks f p → (b : ℕ) → b < length f.blocks → p + 1 ≢ before (block_at f b).range.end
 not_behind f follow p (c, i, lt, ge, less, inl e) b small at = omega (arith, e, at)
 not_behind f follow p (c, i, lt, ge, less, inr (e, next)) b small at =
@@ -169,15 +169,15 @@ not_behind f follow p (c, i, lt, ge, less, inr (e, next)) b small at =
 
 -- each edit of an output made of the final state is in a block's listing
 pub made_listed_blocks : (f : FunctionValue) (env : MachineValue) (Known : VirtualRegister → Type 0) (t : StateValue) (o : OutputValue) →
-    IsMade f env Known (MayInBlocks f) t o → EditsAreListed f o
+    IsOutputOfWalk f env Known (MayInBlocks f) t o → EditsAreListed f o
 made_listed_blocks f env Known t o m =
     each_edit f env Known (MayInBlocks f) t o (λ e. (b i : ℕ) × (b < length f.blocks) × ((block_at f b).range.first ≤ i) × (i < (block_at f b).range.end)
     × (is_listed_at (block_at f b).range.first i e.0 ≡ true)) m
     (λ e sound. listed_in_blocks f e.0 sound.point)
 
--- and none is after a block's last instruction
+-- no edit is after a block's last instruction
 pub made_none_at_end : (f : FunctionValue) (env : MachineValue) (Known : VirtualRegister → Type 0) (t : StateValue) (o : OutputValue) → BlocksFollow f →
-    IsMade f env Known (MayInBlocks f) t o → (b : ℕ) → b < length f.blocks → All (λ e. e.0 + 1 ≢ before (block_at f b).range.end) o.edits
+    IsOutputOfWalk f env Known (MayInBlocks f) t o → (b : ℕ) → b < length f.blocks → All (λ e. e.0 + 1 ≢ before (block_at f b).range.end) o.edits
 made_none_at_end f env Known t o follow m b less =
     each_edit f env Known (MayInBlocks f) t o (λ e. e.0 + 1 ≢ before (block_at f b).range.end) m
     (λ e sound. not_behind f follow e.0 sound.point b less)
@@ -188,6 +188,6 @@ no_branch_writes f i v none (b, j, k, l, lt, end, branch, at, edge, within, is) 
     let same : j ≡ i = omega (arith, at) in
     let yes_branch : (inst_at f i).is_branch ≡ true = subst (λ n. (inst_at f n).is_branch ≡ true) same branch in cc
 
--- and no parameters are written after an instruction
+-- no parameter is written at the point after an instruction
 pub none_written_behind : (f : FunctionValue) (i : ℕ) (v : VirtualRegister) → WritesByBranch f (after i) v → ⊥
 none_written_behind f i v (b, j, k, l, lt, end, branch, at, edge, within, is) = omega (arith, at)

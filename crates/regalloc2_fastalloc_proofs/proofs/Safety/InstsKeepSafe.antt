@@ -16,7 +16,7 @@ use Rattle.regalloc2_fastalloc_proofs.specs.StoreSteps.{IsStoredAt}
 use Rattle.regalloc2_fastalloc_proofs.specs.InstSteps.{StateValue}
 use Rattle.regalloc2_fastalloc_proofs.specs.Safety.{IsSafe}
 use Rattle.regalloc2_fastalloc_proofs.specs.BlockSteps.{AllocsInstAt, offset_of}
-use Rattle.regalloc2_fastalloc_proofs.proofs.Operands.AllocsSoFar.{at_place, IsTame, IsGood, good_grows, DefsAreWritten, UsesAreWritten}
+use Rattle.regalloc2_fastalloc_proofs.proofs.Operands.AllocsSoFar.{at_place, AreSoundOperands, IsGood, good_grows, DefsAreWritten, UsesAreWritten}
 use Rattle.regalloc2_fastalloc_proofs.proofs.Safety.InstKeepsSafe.{InstKept}
 use Rattle.regalloc2_fastalloc_proofs.proofs.Slots.SlotsGrow.{SlotsStay, changes_stay}
 use Rattle.regalloc2_fastalloc_proofs.proofs.Changes.InstChanges.{free_operand, allocs_inst_changes}
@@ -25,7 +25,7 @@ use Rattle.regalloc2_fastalloc_proofs.proofs.Changes.InstChanges.{free_operand, 
 pub offset_next : (f : FunctionValue) (i : ℕ) → i < length f.insts → offset_of f (i + 1) ≡ offset_of f i + length (inst_at f i).operands
 offset_next f i lt = sum_by_more (λ n. length n.operands) f.insts i no_inst lt
 
--- an instruction's places begin no later than those of a later instruction
+-- the places of an instruction begin no later than the places of a later one
 pub offset_rises : (f : FunctionValue) (i n : ℕ) → i + n ≤ length f.insts → offset_of f i ≤ offset_of f (i + n)
 offset_rises f i zero le = (let e : offset_of f (i + 0) ≡ offset_of f i = ap (offset_of f) (omega arith) in omega arith)
 offset_rises f i (suc n) le =
@@ -34,18 +34,18 @@ offset_rises f i (suc n) le =
     let s : offset_of f (i + suc n) ≡ offset_of f (i + n + 1) = ap (offset_of f) (omega arith) in
     omega arith
 
--- the place of an operand among those of all operands
+-- the place of an operand, in the list of the places of all operands
 abbrev pub place_of : FunctionValue → List Place → ℕ → ℕ → Place
 place_of f places j k = at_place places (offset_of f j + k)
 
--- the slots that the walk writes: after an instruction those of the vregs that it defines, and before it those in which it reads
+-- the slots that the walk writes for operands: after an instruction the slots of the vregs that it defines, before it the slots in which it reads
 abbrev pub WritesByOperand : FunctionValue → List Place → ℕ → VirtualRegister → ℕ → Type 0
 WritesByOperand f places point v n =
     (i k : ℕ) × (i < length f.insts) × (k < length (inst_at f i).operands) × ((op_at (inst_at f i).operands k).vreg ≡ v)
     × (((point ≡ after i) × (is_def (op_at (inst_at f i).operands k).kind ≡ true))
     ⊎ ((point ≡ before i) × (is_reading (op_at (inst_at f i).operands k) ≡ true) × (place_of f places i k ≡ InSlot n)))
 
--- and before the branch at a block's end those of the parameters of its successors
+-- before the branch at a block's end the walk writes the slots of its successors' parameters
 abbrev pub WritesByBranch : FunctionValue → ℕ → VirtualRegister → Type 0
 WritesByBranch f point v =
     (b i k j : ℕ) × (b < length f.blocks) × (i + 1 ≡ (block_at f b).range.end) × ((inst_at f i).is_branch ≡ true) × (point ≡ before i)
@@ -97,7 +97,7 @@ later_same f i b p t u lt a j le less k =
 abbrev pub AreLast : FunctionValue → List Place → ℕ → List Place → Type 0
 AreLast f last i places = (j k : ℕ) → i ≤ j → j < length f.insts → k < length (inst_at f j).operands → place_of f last j k ≡ place_of f places j k
 
-module _ (env : MachineValue) (Known : VirtualRegister → Type 0) (f : FunctionValue) (tame : (i : ℕ) → i < length f.insts → IsTame Known (inst_at f i).operands)
+module _ (env : MachineValue) (Known : VirtualRegister → Type 0) (f : FunctionValue) (sound_ops : (i : ℕ) → i < length f.insts → AreSoundOperands Known (inst_at f i).operands)
     (May : ℕ → Type 0) (last : List Place) (c : ℕ) where
   -- the places of one more instruction
   pub more_places : {i : ℕ} {b p : List Place} {t u : StateValue} → (lt : i < length f.insts) → (a : AllocsInstAt i (inst_at f i) (offset_of f i) b p t u)
@@ -108,7 +108,7 @@ module _ (env : MachineValue) (Known : VirtualRegister → Type 0) (f : Function
     | inl e ↦ (let P : ℕ → Type 0 = λ n. k < length (inst_at f n).operands → HasGood env u.slots f p n k in
         subst P (sym e) (λ w. record {
           good = subst (IsGood env u.slots (op_at (inst_at f i).operands k)) (sym (a.inside k w)) (here.good k w);
-          shared = λ n is. (let m : n < length (inst_at f i).operands = ((tame i lt).named k n w is).0 in
+          shared = λ n is. (let m : n < length (inst_at f i).operands = ((sound_ops i lt).named k n w is).0 in
               (m, a.inside k w ∙ here.shared k n w is ∙ sym (a.inside n m)));
         }) within)
     | inr d ↦ (

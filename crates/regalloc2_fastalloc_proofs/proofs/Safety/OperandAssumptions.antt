@@ -13,13 +13,13 @@ use Rattle.regalloc2_function.specs.WellFormed.{MayBeReused, ReusesAreSound}
 use Rattle.regalloc2_semantics.specs.Instruction.{Knows}
 use Rattle.regalloc2_semantics.specs.OperandsPlaced.{Once, Counts, what_of}
 use Rattle.regalloc2_semantics.proofs.Operands.{reads_use}
-use Rattle.regalloc2_fastalloc_proofs.proofs.Operands.AllocsSoFar.{IsTame}
+use Rattle.regalloc2_fastalloc_proofs.proofs.Operands.AllocsSoFar.{AreSoundOperands}
 
 -- a constraint that may be reused is `Reg` or `FixedReg`
-pub reusable : (env : MachineValue) (class : RegClass) (c : OperandConstraint) → MayBeReused env class c → (c ≡ Reg) ⊎ ((r : Register) × (c ≡ FixedReg r))
-reusable env class Reg h = inl refl
-reusable env class (FixedReg r) h = inr (r, refl)
-reusable env class c h = absurd h
+pub reused_constraint : (env : MachineValue) (class : RegClass) (c : OperandConstraint) → MayBeReused env class c → (c ≡ Reg) ⊎ ((r : Register) × (c ≡ FixedReg r))
+reused_constraint env class Reg h = inl refl
+reused_constraint env class (FixedReg r) h = inr (r, refl)
+reused_constraint env class c h = absurd h
 
 -- an operand that names a vreg defines it or reads it
 pub defines_or_reads : (o : OperandValue) → is_fixed_nonallocatable o ≡ false → (is_def o.kind ≡ true) ⊎ (is_reading o ≡ true)
@@ -29,15 +29,15 @@ defines_or_reads o h = by_test (is_def o.kind) (is_fixed_nonallocatable o) h
     by_test true b e = inl refl
     by_test false b e = inr (ap not e)
 
--- operands of known vregs, each defined once, under legal constraints other than `Limit`, with valid reuses, are tame
-pub tame_of : (env : MachineValue) (Known : VirtualRegister → Type 0) (inst : InstValue) → Knows Known inst.operands →
+-- operands of known vregs, each defined once, under legal constraints other than `Limit`, with valid reuses, are sound
+pub sound_ops_of : (env : MachineValue) (Known : VirtualRegister → Type 0) (inst : InstValue) → Knows Known inst.operands →
     Once (Counts inst.operands) (what_of inst.operands)
     → ((k : ℕ) → k < length inst.operands → is_def (op_at inst.operands k).kind ≡ true → is_fixed_nonallocatable (op_at inst.operands k) ≡ false)
     → ReusesAreSound env inst
     → ((k : ℕ) → k < length inst.operands → IsConstraintOf (op_at inst.operands k).vreg.class (op_at inst.operands k).constraint)
     → ((k n : ℕ) → k < length inst.operands → (op_at inst.operands k).constraint ≡ Limit n → ⊥)
-    → IsTame Known inst.operands
-tame_of env Known inst knows once allocated reuses constraint unlimited =
+    → AreSoundOperands Known inst.operands
+sound_ops_of env Known inst knows once allocated reuses constraint unlimited =
     let ops : List OperandValue = inst.operands in
     record {
       same = knows.same;
@@ -51,7 +51,7 @@ tame_of env Known inst knows once allocated reuses constraint unlimited =
       late_reuse = λ k n less e. (let r = reuses.definitions k no_operand less n e in (ap is_def r.0, ap is_late r.1));
       named = λ k n less e. (let r = reuses.targets k no_operand less n no_operand e in (r.0, ap is_late r.1.1, r.1.2, r.1.3));
       named_as = λ k n less e. (let r = reuses.targets k no_operand less n no_operand e in
-          reusable env (op_at ops n).vreg.class (op_at ops n).constraint r.1.4);
+          reused_constraint env (op_at ops n).vreg.class (op_at ops n).constraint r.1.4);
       apart = λ j k n lj lk a b. reuses.apart j k n no_operand no_operand lj lk a b;
       unread = λ j k lj lk def reads e. once.unread j k (lj, inl def) (lk, inr reads) def (reads_use (op_at ops k) reads) (sym e);
     }

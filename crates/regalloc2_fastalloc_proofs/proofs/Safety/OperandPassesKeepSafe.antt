@@ -19,9 +19,9 @@ use Rattle.regalloc2_fastalloc_proofs.specs.Safety.{IsOfMachine, MayBeLocatedAt}
 use Rattle.regalloc2_fastalloc_proofs.proofs.Changes.InstChanges.{allocs_def_op_changes, allocs_use_changes}
 use Rattle.regalloc2_fastalloc_proofs.proofs.Slots.SlotsGrow.{changes_stay}
 use Rattle.regalloc2_fastalloc_proofs.proofs.Slots.LocatedStaysLocated.{changes_last}
-use Rattle.regalloc2_fastalloc_proofs.proofs.Safety.StepsKeepSafe.{IsApart, rules_of}
+use Rattle.regalloc2_fastalloc_proofs.proofs.Safety.StepsKeepSafe.{AreKindsApart, rules_of}
 use Rattle.regalloc2_fastalloc_proofs.proofs.Safety.OperandKeepsSafe.{allocs_def_op_kept, allocs_use_kept}
-use Rattle.regalloc2_fastalloc_proofs.proofs.Operands.AllocsSoFar.{at_place, IsInRegister, MeetsAlone, IsGood, FillingContext}
+use Rattle.regalloc2_fastalloc_proofs.proofs.Operands.AllocsSoFar.{at_place, IsInRegister, MeetsByItself, IsGood, FillingContext}
 use Rattle.regalloc2_fastalloc_proofs.proofs.Operands.AllocsSoFar.{reads_allocated, answer_meets, answer_named, reuse_meets, fixed_meets, asked_fixed}
 use Rattle.regalloc2_fastalloc_proofs.proofs.Operands.AllocsSoFar.{asked_as_fixed, fixed_class, FixedAreKnown, Filled, DefsAreWritten, reuse_register}
 use Rattle.regalloc2_fastalloc_proofs.proofs.Operands.AllocsSoFar.{no_place_register, OneMore, filled_same, filled_on, written, written_twice}
@@ -42,25 +42,25 @@ shared_register env slots v w (InRegister r) h e place = (place.0, place.1 ∙ e
 shared_register env slots v w (InSlot n) h e place = absurd h
 
 -- The two passes over an instruction's operands, on a machine whose kinds of registers are disjoint: the operands are fixed to registers of the machine only;
--- moves may follow the instruction, a return or not, and its definitions may be written.
+-- moves may follow the instruction, which ends its block or not, and its definitions may be written.
 pub record PassesContext : Type 1 where
   pub filling : FillingContext
-  pub apart : IsApart filling.env
+  pub apart : AreKindsApart filling.env
   pub fixed : FixedAreKnown filling.env filling.ops
   pub i : ℕ
-  pub is_ret : Bool
+  pub ends_block : Bool
   pub can : filling.May (after i)
   pub writes : DefsAreWritten filling.Writes i filling.ops
 
 -- the record, built from its parts
-abbrev pub passes_of : (filling : FillingContext) → IsApart filling.env → FixedAreKnown filling.env filling.ops → (i : ℕ) → Bool → filling.May (after i) →
+abbrev pub passes_of : (filling : FillingContext) → AreKindsApart filling.env → FixedAreKnown filling.env filling.ops → (i : ℕ) → Bool → filling.May (after i) →
     DefsAreWritten filling.Writes i filling.ops → PassesContext
-passes_of filling apart fixed i is_ret can writes =
-    record { filling = filling; apart = apart; fixed = fixed; i = i; is_ret = is_ret; can = can; writes = writes }
+passes_of filling apart fixed i ends_block can writes =
+    record { filling = filling; apart = apart; fixed = fixed; i = i; ends_block = ends_block; can = can; writes = writes }
 
 module _ (passes : PassesContext) where
-  open passes use {filling, apart, fixed, i, is_ret, can, writes}
-  open passes.filling use {env, Known, Writes, May, ops, tame}
+  open passes use {filling, apart, fixed, i, ends_block, can, writes}
+  open passes.filling use {env, Known, Writes, May, ops, sound_ops}
 
   -- an operand that names a register and no vreg
   register_kept : (D E : ℕ → Type 0) (k : ℕ) (r : Register) (here : List Place) (t : InstRegs) (old : StateValue) → k < length ops →
@@ -71,7 +71,7 @@ module _ (passes : PassesContext) where
       (λ n e. (let x : FixedReg r ≡ Reuse n = sym is ∙ e in cc))
       (record { place = λ a. absurd (both_ways (is_fixed_nonallocatable (op_at ops k)) a silent); meets = fixed_meets env (op_at ops k).constraint r is })
       (λ reads. absurd (both_ways (is_fixed_nonallocatable (op_at ops k)) (reads_allocated (op_at ops k) reads) silent))
-      (λ j within d names. absurd (both_ways (is_fixed_nonallocatable (op_at ops k)) (reads_allocated (op_at ops k) (tame.named j k within names).2) silent))
+      (λ j within d names. absurd (both_ways (is_fixed_nonallocatable (op_at ops k)) (reads_allocated (op_at ops k) (sound_ops.named j k within names).2) silent))
       h
 
   -- a use that no reuse has chosen a register for
@@ -82,18 +82,18 @@ module _ (passes : PassesContext) where
   use_kept D E k p here t u old new less more reads none places h =
       let o : OperandValue = op_at ops k in
       let allocated : is_fixed_nonallocatable o ≡ false = reads_allocated o reads in
-      let w = allocs_use_kept (rules_of env apart Known Writes May (after i) can) tame.same (use_request o NoPlace) p t u old new places
-      (tame.known k less allocated)
+      let w = allocs_use_kept (rules_of env apart Known Writes May (after i) can) sound_ops.same (use_request o NoPlace) p t u old new places
+      (sound_ops.known k less allocated)
       (λ r asks. (let e : o.constraint ≡ FixedReg r = asked_fixed o.constraint r asks in
-      (fixed k r less allocated e, fixed_class o.vreg.class o.constraint r (tame.constraint k less) e))) h.safe h.inst_regs in
+      (fixed k r less allocated e, fixed_class o.vreg.class o.constraint r (sound_ops.constraint k less) e))) h.safe h.inst_regs in
       let f = filled_on filling D here t u old new w.given.kept.safe w.given.kept.inst_regs (changes_stay (allocs_use_changes (λ q s. tt) tt tt places))
       (λ j within r there. changes_last (op_at ops j).vreg.number (allocs_use_changes (λ q s. tt) tt tt places) there) h in
       written filling D E k p here u new less more
-      (λ n e. both_ways (is_def o.kind) (reads_use o reads) (tame.late_reuse k n less e).0)
+      (λ n e. both_ways (is_def o.kind) (reads_use o reads) (sound_ops.late_reuse k n less e).0)
       (record {
         place = λ a. w.given.place;
         meets = answer_meets env o.constraint p
-            (λ n e. both_ways (is_def o.kind) (reads_use o reads) (tame.late_reuse k n less e).0) (λ n e. tame.unlimited k n less e) w.given.answer;
+            (λ n e. both_ways (is_def o.kind) (reads_use o reads) (sound_ops.late_reuse k n less e).0) (λ n e. sound_ops.unlimited k n less e) w.given.answer;
       })
       (λ r. w.found)
       (λ j within d names. absurd (no_place_register (at_place here j) (h.shared j k within d names ∙ none)
@@ -110,15 +110,15 @@ module _ (passes : PassesContext) where
       let o : OperandValue = op_at ops k in
       let allocated : is_fixed_nonallocatable o ≡ false = reads_allocated o reads in
       let stand : MayBeLocatedAt env old.slots o.vreg (InRegister r) = subst (MayBeLocatedAt env old.slots o.vreg) at_it (good.place allocated) in
-      let w = allocs_use_kept (rules_of env apart Known Writes May (after i) can) tame.same (use_request o (InRegister r)) p t u old new places
-      (tame.known k less allocated)
+      let w = allocs_use_kept (rules_of env apart Known Writes May (after i) can) sound_ops.same (use_request o (InRegister r)) p t u old new places
+      (sound_ops.known k less allocated)
       (λ q asks. subst (λ (x : Register). IsOfMachine env x × (x.class ≡ o.vreg.class)) (same_at r q asks) stand) h.safe h.inst_regs in
       let f = filled_on filling D here t u old new w.given.kept.safe w.given.kept.inst_regs (changes_stay (allocs_use_changes (λ q s. tt) tt tt places))
       (λ j within x there. changes_last (op_at ops j).vreg.number (allocs_use_changes (λ q s. tt) tt tt places) there) h in
       let as_chosen : p ≡ at_place here k = w.given.answer ∙ sym at_it in
       written filling D E k p here u new less more
-      (λ n e. both_ways (is_def o.kind) (reads_use o reads) (tame.late_reuse k n less e).0)
-      (record { place = λ a. w.given.place; meets = subst (MeetsAlone env o.constraint) (sym as_chosen) good.meets })
+      (λ n e. both_ways (is_def o.kind) (reads_use o reads) (sound_ops.late_reuse k n less e).0)
+      (record { place = λ a. w.given.place; meets = subst (MeetsByItself env o.constraint) (sym as_chosen) good.meets })
       (λ x. w.found)
       (λ j within d names. as_chosen)
       f
@@ -127,42 +127,42 @@ module _ (passes : PassesContext) where
   def_kept : (D E : ℕ → Type 0) (k : ℕ) (p : Place) (here : List Place) (t u : InstRegs) (old new : StateValue) → k < length ops →
       OneMore filling D E k
       → is_def (op_at ops k).kind ≡ true → ((n : ℕ) → (op_at ops k).constraint ≡ Reuse n → ⊥) →
-      AllocsDefOp (after i) (def_request (op_at ops k)) is_ret p t u old new
+      AllocsDefOp (after i) (def_request (op_at ops k)) ends_block p t u old new
       → Filled env Known Writes May ops D here t old → Filled env Known Writes May ops E (set here k p) u new
   def_kept D E k p here t u old new less more def no_reuse places h =
       let o : OperandValue = op_at ops k in
-      let allocated : is_fixed_nonallocatable o ≡ false = tame.allocated k less def in
-      let w = allocs_def_op_kept (rules_of env apart Known Writes May (after i) can) tame.same (def_request o) is_ret p t u old new places
-      (tame.known k less allocated)
+      let allocated : is_fixed_nonallocatable o ≡ false = sound_ops.allocated k less def in
+      let w = allocs_def_op_kept (rules_of env apart Known Writes May (after i) can) sound_ops.same (def_request o) ends_block p t u old new places
+      (sound_ops.known k less allocated)
       (λ n. writes k n less def)
       (λ r asks. (let e : o.constraint ≡ FixedReg r = asked_fixed o.constraint r asks in
-      (fixed k r less allocated e, fixed_class o.vreg.class o.constraint r (tame.constraint k less) e))) h.safe h.inst_regs in
+      (fixed k r less allocated e, fixed_class o.vreg.class o.constraint r (sound_ops.constraint k less) e))) h.safe h.inst_regs in
       let f = filled_on filling D here t u old new w.kept.safe w.kept.inst_regs (changes_stay (allocs_def_op_changes (λ q s. tt) tt tt places))
-      (λ j within r there. changes_last (op_at ops j).vreg.number (allocs_def_op_changes (λ q s. tt) tt (tame.unread k j less within def r) places) there) h in
+      (λ j within r there. changes_last (op_at ops j).vreg.number (allocs_def_op_changes (λ q s. tt) tt (sound_ops.unread k j less within def r) places) there) h in
       written filling D E k p here u new less more no_reuse
-      (record { place = λ a. w.place; meets = answer_meets env o.constraint p no_reuse (λ n e. tame.unlimited k n less e) w.answer })
+      (record { place = λ a. w.place; meets = answer_meets env o.constraint p no_reuse (λ n e. sound_ops.unlimited k n less e) w.answer })
       (λ reads. absurd (both_ways (is_def o.kind) (reads_use o reads) def))
-      (λ j within d names. absurd (both_ways (is_def o.kind) (reads_use o (tame.named j k within names).2) def))
+      (λ j within d names. absurd (both_ways (is_def o.kind) (reads_use o (sound_ops.named j k within names).2) def))
       f
 
   -- a reuse
   reuse_kept : (D E : ℕ → Type 0) (k n : ℕ) (p : Place) (here : List Place) (t u : InstRegs) (old new : StateValue) → k < length ops →
       OneMore filling D E k → (D n → ⊥)
       → is_def (op_at ops k).kind ≡ true → (op_at ops k).constraint ≡ Reuse n →
-      AllocsDefOp (after i) (reuse_request (op_at ops k) (op_at ops n)) is_ret p t u old new
+      AllocsDefOp (after i) (reuse_request (op_at ops k) (op_at ops n)) ends_block p t u old new
       → Filled env Known Writes May ops D here t old → Filled env Known Writes May ops E (set (set here k p) n p) u new
   reuse_kept D E k n p here t u old new less more not_n def reuses places h =
       let o : OperandValue = op_at ops k in
       let m : OperandValue = op_at ops n in
-      let named = tame.named k n less reuses in
-      let w = allocs_def_op_kept (rules_of env apart Known Writes May (after i) can) tame.same (reuse_request o m) is_ret p t u old new places
-      (tame.known k less (tame.allocated k less def)) (λ x. writes k x less def)
+      let named = sound_ops.named k n less reuses in
+      let w = allocs_def_op_kept (rules_of env apart Known Writes May (after i) can) sound_ops.same (reuse_request o m) ends_block p t u old new places
+      (sound_ops.known k less (sound_ops.allocated k less def)) (λ x. writes k x less def)
       (λ r asks. (let e : m.constraint ≡ FixedReg r = asked_as_fixed m.constraint r asks in
-      (fixed n r named.0 (reads_allocated m named.2) e, fixed_class m.vreg.class m.constraint r (tame.constraint n named.0) e ∙ named.3))) h.safe
+      (fixed n r named.0 (reads_allocated m named.2) e, fixed_class m.vreg.class m.constraint r (sound_ops.constraint n named.0) e ∙ named.3))) h.safe
       h.inst_regs in
       let f = filled_on filling D here t u old new w.kept.safe w.kept.inst_regs (changes_stay (allocs_def_op_changes (λ q s. tt) tt tt places))
-      (λ j within r there. changes_last (op_at ops j).vreg.number (allocs_def_op_changes (λ q s. tt) tt (tame.unread k j less within def r) places) there) h in
-      let a = answer_named env m.constraint p (tame.named_as k n less reuses) w.answer in
+      (λ j within r there. changes_last (op_at ops j).vreg.number (allocs_def_op_changes (λ q s. tt) tt (sound_ops.unread k j less within def r) places) there) h in
+      let a = answer_named env m.constraint p (sound_ops.named_as k n less reuses) w.answer in
       written_twice filling n less more reuses not_n
       (record { place = λ x. w.place; meets = reuse_meets env o.constraint n p reuses a.1 })
       (record { place = λ x. shared_register env new.slots o.vreg m.vreg p a.1 (sym named.3) w.place; meets = a.0 })
@@ -170,7 +170,7 @@ module _ (passes : PassesContext) where
 
   -- an operand is allocated
   pub processes_operand_kept : (D E : ℕ → Type 0) (k : ℕ) (here there : List Place) (t u : InstRegs) (old new : StateValue) →
-      ProcessesOperand i is_ret ops k here there t u old new → k < length ops → OneMore filling D E k
+      ProcessesOperand i ends_block ops k here there t u old new → k < length ops → OneMore filling D E k
       → ((n : ℕ) → (op_at ops k).constraint ≡ Reuse n → D n → ⊥) → Filled env Known Writes May ops D here t old →
       Filled env Known Writes May ops E there u new
   processes_operand_kept D E k here there t u old new (a_register r silent is written_it eu en) less more not_n h =
@@ -196,7 +196,7 @@ module _ (passes : PassesContext) where
   abbrev pub InLate : ℕ → ℕ → Type 0
   InLate k j = (j < k) × (is_late (op_at ops j).position ≡ true)
 
-  -- in the pass over early operands all late ones are done, and those before k
+  -- in the pass over early operands all late ones are done, and the early ones before k
   abbrev pub InEarly : ℕ → ℕ → Type 0
   InEarly k j = (is_late (op_at ops j).position ≡ true) ⊎ (j < k)
 
@@ -235,7 +235,7 @@ module _ (passes : PassesContext) where
 
   -- the pass over late operands
   pub late_operands_kept : (blank : List Place) (t : InstRegs) (old : StateValue) → Filled env Known Writes May ops (InLate 0) blank t old
-      → (k : ℕ) (there : List Place) (u : InstRegs) (m : StateValue) → ProcessesOperandsAt i is_ret true ops blank t old k there u m → k ≤ length ops →
+      → (k : ℕ) (there : List Place) (u : InstRegs) (m : StateValue) → ProcessesOperandsAt i ends_block true ops blank t old k there u m → k ≤ length ops →
       Filled env Known Writes May ops (InLate k) there u m
   late_operands_kept blank t old h k there u m none_placed le = h
   late_operands_kept blank t old h k there u m (of_other j l w s prev other) le =
@@ -250,12 +250,12 @@ module _ (passes : PassesContext) where
       (late_operands_kept blank t old h j there u m prev (omega arith))
   late_operands_kept blank t old h k there u m (one_placed j l next w x s n prev late one) le =
       processes_operand_kept (InLate j) (InLate (j + 1)) j l there w u s m one (omega arith) (late_more j late)
-      (λ y reuses d. both_ways (is_late (op_at ops y).position) (tame.named j y (omega arith) reuses).1 d.1)
+      (λ y reuses d. both_ways (is_late (op_at ops y).position) (sound_ops.named j y (omega arith) reuses).1 d.1)
       (late_operands_kept blank t old h j l w s prev (omega arith))
 
   -- the pass over early operands
   pub early_operands_kept : (half : List Place) (t : InstRegs) (old : StateValue) → Filled env Known Writes May ops (InEarly 0) half t old
-      → (k : ℕ) (there : List Place) (u : InstRegs) (m : StateValue) → ProcessesOperandsAt i is_ret false ops half t old k there u m → k ≤ length ops →
+      → (k : ℕ) (there : List Place) (u : InstRegs) (m : StateValue) → ProcessesOperandsAt i ends_block false ops half t old k there u m → k ≤ length ops →
       Filled env Known Writes May ops (InEarly k) there u m
   early_operands_kept half t old h k there u m none_placed le = h
   early_operands_kept half t old h k there u m (of_other j l w s prev other) le =
@@ -275,5 +275,5 @@ module _ (passes : PassesContext) where
       (early_operands_kept half t old h j there u m prev (omega arith))
   early_operands_kept half t old h k there u m (one_placed j l next w x s n prev early one) le =
       processes_operand_kept (InEarly j) (InEarly (j + 1)) j l there w u s m one (omega arith) (early_more j early)
-      (λ y reuses d. both_ways (is_late (op_at ops j).position) early (tame.late_reuse j y (omega arith) reuses).1)
+      (λ y reuses d. both_ways (is_late (op_at ops j).position) early (sound_ops.late_reuse j y (omega arith) reuses).1)
       (early_operands_kept half t old h j l w s prev (omega arith))

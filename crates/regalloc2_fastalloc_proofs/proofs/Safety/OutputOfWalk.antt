@@ -25,12 +25,12 @@ use Rattle.regalloc2_fastalloc_proofs.specs.Safety.{MayBeLocatedAt, IsEndOfMove,
 use Rattle.regalloc2_fastalloc_state.specs.StateParts.{SpillSlotsValue, IsSlotOrNone, slot_name, PointsDescend}
 use Rattle.regalloc2_fastalloc_proofs.specs.BlockSteps.{offset_of}
 use Rattle.regalloc2_fastalloc_state.proofs.PointsDescend.{rising_reverse}
-use Rattle.regalloc2_fastalloc_proofs.proofs.Operands.AllocsSoFar.{MeetsAlone, IsGood}
-use Rattle.regalloc2_fastalloc_proofs.proofs.Safety.StepsKeepSafe.{IsApart}
+use Rattle.regalloc2_fastalloc_proofs.proofs.Operands.AllocsSoFar.{MeetsByItself, IsGood}
+use Rattle.regalloc2_fastalloc_proofs.proofs.Safety.StepsKeepSafe.{AreKindsApart}
 use Rattle.regalloc2_fastalloc_proofs.proofs.Safety.InstsKeepSafe.{WalkKept, WritesFrom, offset_next, offset_rises}
 
 -- the machine's kinds of registers are disjoint
-pub machine_apart : (f : FunctionValue) (env : MachineValue) → MachineFits f env → IsApart env
+pub machine_apart : (f : FunctionValue) (env : MachineValue) → MachineFits f env → AreKindsApart env
 machine_apart f env fits = record {
   slots = λ r allowed is. (let apart = at_slot r.class r is in let nay : is_allocatable env r.class r ≡ false = apart.0 in cc);
   scratch = λ c r own is. (at_slot c r is).1 own;
@@ -46,7 +46,7 @@ abbrev pub IsOfLabel : FunctionValue → MachineValue → (VirtualRegister → T
 IsOfLabel f env Known slots d = SomeIn (λ l. (l.label ≡ d.label) × IsKept f l d.start d.end × Known l.vreg × MayBeLocatedAt env slots l.vreg d.place) f.labels
 
 -- an output that is made of the walk's tables
-pub record IsMade (f : FunctionValue) (env : MachineValue) (Known : VirtualRegister → Type 0) (May : ℕ → Type 0) (t : StateValue)
+pub record IsOutputOfWalk (f : FunctionValue) (env : MachineValue) (Known : VirtualRegister → Type 0) (May : ℕ → Type 0) (t : StateValue)
     (o : OutputValue) : Type 0 where
   pub count : o.num_spillslots ≡ t.slots.count
   pub edits : o.edits ≡ reverse t.edits
@@ -62,12 +62,12 @@ all_weaker P Q xs f h k d lt = f (slice_index_or xs k d) (h k d lt)
 
 -- what holds of each move that was pushed holds of each that is listed
 pub each_edit : (f : FunctionValue) (env : MachineValue) (Known : VirtualRegister → Type 0) (May : ℕ → Type 0) (t : StateValue) (o : OutputValue)
-    (Q : ℕ × MoveValue → Type 0) → IsMade f env Known May t o
+    (Q : ℕ × MoveValue → Type 0) → IsOutputOfWalk f env Known May t o
     → ((e : ℕ × MoveValue) → IsSafeEdit env Known (WritesFrom f o.allocs 0) t.slots May e → Q e) → All Q o.edits
 each_edit f env Known May t o Q m g =
     subst (All Q) (sym m.edits) (All-reversed Q t.edits (all_weaker (IsSafeEdit env Known (WritesFrom f o.allocs 0) t.slots May) Q t.edits g m.kept.safe.edits))
 
--- the list of all operands' places ends with those of the last instruction
+-- the list of all operands' places ends behind the last instruction
 last_offset : (f : FunctionValue) (n : ℕ) → n ≡ length f.insts → offset_of f n ≡ operand_count f
 last_offset f n e = ap (sum_by (λ i. length i.operands)) (take_all n f.insts (omega arith))
 
@@ -76,7 +76,7 @@ offset_within f i = sum_by-take-le (λ n. length n.operands) f.insts i
 
 -- where an instruction's places end, the next one's begin
 end_is : (f : FunctionValue) (env : MachineValue) (Known : VirtualRegister → Type 0) (May : ℕ → Type 0) (t : StateValue) (o : OutputValue) →
-    IsMade f env Known May t o → (i : ℕ) → i < length f.insts → alloc_end o i ≡ offset_of f (i + 1)
+    IsOutputOfWalk f env Known May t o → (i : ℕ) → i < length f.insts → alloc_end o i ≡ offset_of f (i + 1)
 end_is f env Known May t o m i lt = ⊎_elim
     (λ (e : i + 1 ≡ length f.insts).
     let last : nat_eq (i + 1) (length o.offsets) ≡ true = eq-eqb (i + 1) (length o.offsets) (e ∙ sym m.long) in
@@ -98,7 +98,7 @@ pass_is_no_place env s class (InSlot k) h = λ e. cc
 
 -- an output made of the final state is well-ordered: one offset for each instruction, edits by rising points, both ends of each a place
 pub made_in_order : (f : FunctionValue) (env : MachineValue) (Known : VirtualRegister → Type 0) (May : ℕ → Type 0) (t : StateValue) (o : OutputValue) →
-    IsMade f env Known May t o → IsInOrder f o
+    IsOutputOfWalk f env Known May t o → IsInOrder f o
 made_in_order f env Known May t o m = record {
   one_offset_each = m.long;
   offsets = record {
@@ -117,7 +117,7 @@ made_in_order f env Known May t o m = record {
 
 -- the place of an operand
 pub place_is : (f : FunctionValue) (env : MachineValue) (Known : VirtualRegister → Type 0) (May : ℕ → Type 0) (t : StateValue) (o : OutputValue) →
-    IsMade f env Known May t o → (i : ℕ) → i < length f.insts → (k : ℕ) → k < length (inst_at f i).operands
+    IsOutputOfWalk f env Known May t o → (i : ℕ) → i < length f.insts → (k : ℕ) → k < length (inst_at f i).operands
     → place_at (allocs_of o i) k ≡ slice_index_or o.allocs (offset_of f i + k) NoPlace
 place_is f env Known May t o m i lt k less =
     let a : alloc_start o i ≡ offset_of f i = m.offsets i lt in
@@ -128,13 +128,13 @@ place_is f env Known May t o m i lt k less =
 
 -- the place of an operand is good
 pub operand_good : (f : FunctionValue) (env : MachineValue) (Known : VirtualRegister → Type 0) (May : ℕ → Type 0) (t : StateValue) (o : OutputValue) →
-    IsMade f env Known May t o → (i : ℕ) → i < length f.insts → (k : ℕ) → k < length (inst_at f i).operands
+    IsOutputOfWalk f env Known May t o → (i : ℕ) → i < length f.insts → (k : ℕ) → k < length (inst_at f i).operands
     → IsGood env t.slots (op_at (inst_at f i).operands k) (place_at (allocs_of o i) k)
 operand_good f env Known May t o m i lt k less = subst (IsGood env t.slots (op_at (inst_at f i).operands k)) (sym (place_is f env Known May t o m i lt k less))
     (m.kept.good i k (omega arith) lt less).good
 
 -- what a constraint requires of the operand's own place, and of the place that a reuse shares
-meets_all : (env : MachineValue) (count : ℕ) (places : List Place) (c : OperandConstraint) (p : Place) → MeetsAlone env c p →
+meets_all : (env : MachineValue) (count : ℕ) (places : List Place) (c : OperandConstraint) (p : Place) → MeetsByItself env c p →
     ((n : ℕ) → c ≡ Reuse n → (n < count) × (p ≡ place_at places n)) → Meets env count places c p
 meets_all env count places Any p h s = λ e. h e
 meets_all env count places Reg p h s = h
@@ -147,7 +147,7 @@ meets_all env count places (Limit n) p h s = absurd h
 
 -- in an output made of the final state the place of every operand meets its constraint
 pub made_constraints : (f : FunctionValue) (env : MachineValue) (Known : VirtualRegister → Type 0) (May : ℕ → Type 0) (t : StateValue) (o : OutputValue) →
-    IsMade f env Known May t o → (i : ℕ) → i < length f.insts → ConstraintsMet f env o i
+    IsOutputOfWalk f env Known May t o → (i : ℕ) → i < length f.insts → ConstraintsMet f env o i
 made_constraints f env Known May t o m i lt k d less =
     let ops : List OperandValue = (inst_at f i).operands in
     let same : op_at ops k ≡ slice_index_or ops k d = get_or_default ops k _ d less in
@@ -189,7 +189,7 @@ proper_place env o s v (InSlot k) below h = own_below s o.num_spillslots v.numbe
 
 -- the slots of a made output
 pub slots_below : (f : FunctionValue) (env : MachineValue) (Known : VirtualRegister → Type 0) (May : ℕ → Type 0) (t : StateValue) (o : OutputValue) →
-    IsMade f env Known May t o → AreBelow t.slots o.num_spillslots
+    IsOutputOfWalk f env Known May t o → AreBelow t.slots o.num_spillslots
 slots_below f env Known May t o m = subst (AreBelow t.slots) (sym m.count) m.kept.safe.slots
 
 -- the register of an operand that names no vreg
@@ -199,7 +199,7 @@ names_register b c r e = absurd cc
 
 -- in an output made of the final state operands and moves have valid places
 pub made_proper : (f : FunctionValue) (env : MachineValue) (Known : VirtualRegister → Type 0) (May : ℕ → Type 0) (t : StateValue) (o : OutputValue) →
-    IsMade f env Known May t o → PlacesAreProper f env o
+    IsOutputOfWalk f env Known May t o → PlacesAreProper f env o
 made_proper f env Known May t o m = record {
   operands = λ i lt k d less named.
       let ops : List OperandValue = (inst_at f i).operands in
@@ -212,7 +212,7 @@ made_proper f env Known May t o m = record {
       let same : slice_index_or ops k d ≡ op_at ops k = get_or_default ops k d _ less in
       let x : OperandValue = op_at ops k in
       let fixed : x.constraint ≡ FixedReg r = names_register (nat_eq x.vreg.number 1073741823) x.constraint r (ap nonallocatable_register (sym same) ∙ names) in
-      subst (λ (c : OperandConstraint). MeetsAlone env c (place_at (allocs_of o i) k)) fixed (operand_good f env Known May t o m i lt k less).meets;
+      subst (λ (c : OperandConstraint). MeetsByItself env c (place_at (allocs_of o i) k)) fixed (operand_good f env Known May t o m i lt k less).meets;
   moves = each_edit f env Known May t o (λ e. IsMoveEnd env o e.1.from × IsMoveEnd env o e.1.to) m (λ e s. elim s.moves [
     | inl v ↦ (
       move_end env o t.slots v.vreg e.1.from (slots_below f env Known May t o m) v.from,
@@ -224,5 +224,5 @@ made_proper f env Known May t o m = record {
 
 -- no move of an output made of the final state is stack-to-stack
 pub made_in_registers : (f : FunctionValue) (env : MachineValue) (Known : VirtualRegister → Type 0) (May : ℕ → Type 0) (t : StateValue) (o : OutputValue) →
-    IsMade f env Known May t o → HasNoStackToStack env o
+    IsOutputOfWalk f env Known May t o → HasNoStackToStack env o
 made_in_registers f env Known May t o m = each_edit f env Known May t o (λ e. IsStackToStack env e.1 → ⊥) m (λ e s. s.not_both)

@@ -18,7 +18,7 @@ use Rattle.regalloc2_semantics.proofs.SingleDef.{Made, no_vreg}
 use Rattle.regalloc2_semantics.proofs.SingleDef.Made.{by_operand}
 use Rattle.regalloc2_fastalloc_state.specs.declared.inst_regs.InstRegs.{InstRegs}
 use Rattle.regalloc2_fastalloc_state.specs.StateParts.{SpillSlotsValue, AreUpTo}
-use Rattle.regalloc2_steps.specs.Units.{most_units}
+use Rattle.regalloc2_fastalloc_state.specs.StateParts.{most_units}
 use Rattle.regalloc2_fastalloc_state.specs.OutOfResources.{IsResourceError, SlotsExhaustedWith, IsResourceErrorIn}
 use Rattle.regalloc2_fastalloc_proofs.specs.BranchSteps.{RegsAvoidStack, AddsTempSlotsAtMost}
 use Rattle.regalloc2_fastalloc_proofs.specs.InstSteps.{StateValue, SameMachine, ends_block}
@@ -29,7 +29,7 @@ use Rattle.regalloc2_fastalloc_state.proofs.SpillSlotUnits.{lacks_then}
 pub none_lends : (most : ℕ) (a : StateValue) → AddsTempSlotsAtMost most a a
 none_lends most a = record { allocatable = refl; fixed_stack = refl; dedicated_scratch = refl; sizes = refl; vregs = refl; num_temp_slots = omega arith }
 
--- nor if the machine stays
+-- no temporary slot is added if the machine stays
 pub same_lends : (most : ℕ) (a b : StateValue) → SameMachine a b → AddsTempSlotsAtMost most a b
 same_lends most a b h = record {
   allocatable = h.allocatable;

@@ -26,9 +26,9 @@ use Rattle.regalloc2_fastalloc_proofs.specs.StoreSteps.{branch_operands, IsConce
 use Rattle.regalloc2_fastalloc_proofs.specs.InstSteps.{StateValue}
 use Rattle.regalloc2_fastalloc_proofs.specs.BlockSteps.{AllocsBlocks}
 use Rattle.regalloc2_fastalloc_proofs.specs.Safety.{HasMachine}
-use Rattle.regalloc2_fastalloc_proofs.proofs.Operands.AllocsSoFar.{IsTame}
-use Rattle.regalloc2_fastalloc_proofs.proofs.Slots.BranchKeepsSlotsApart.{AreAlike}
-use Rattle.regalloc2_fastalloc_proofs.proofs.Safety.WellFormedKeepsSafe.{tame_at}
+use Rattle.regalloc2_fastalloc_proofs.proofs.Operands.AllocsSoFar.{AreSoundOperands}
+use Rattle.regalloc2_fastalloc_proofs.proofs.Slots.BranchKeepsSlotsApart.{AreKnownOfOneClass}
+use Rattle.regalloc2_fastalloc_proofs.proofs.Safety.WellFormedKeepsSafe.{sound_ops_at}
 use Rattle.regalloc2_fastalloc_proofs.proofs.Safety.WalkKeepsMachine.{IsAllocatedFrom, allocs_blocks_allocated, fixed_of_machine}
 use Rattle.regalloc2_fastalloc_proofs.proofs.Safety.StoresKeepSafe.{IsAlike, stored_defines}
 
@@ -60,7 +60,7 @@ same_at g xs ys d k e lx ly = sym (get_or-map g xs k d (g d) lx) ∙ ap (λ l. s
 
 pub made_alike : (env : MachineValue) (f : FunctionValue) → IsWellFormed env f → (b k j : ℕ) → b < length f.blocks → HasEdge f b k →
     j < length (block_at f (target_at f b k)).params
-    → AreAlike (Made f) (slice_index_or (block_at f (target_at f b k)).params j no_vreg) (slice_index_or (arguments_at f b k) j no_vreg)
+    → AreKnownOfOneClass (Made f) (slice_index_or (block_at f (target_at f b k)).params j no_vreg) (slice_index_or (arguments_at f b k) j no_vreg)
 made_alike env f ok b k j lt edge within =
     let target : target_at f b k < length f.blocks = (well_formed_are_sound env f ok).targets b k edge in
     let counted : length (arguments_at f b k) ≡ length (block_at f (target_at f b k)).params = ok.counted b lt k edge in
@@ -81,7 +81,7 @@ fixed_class (FixedReg g) class r of is = (let same : g ≡ r = cc in subst (λ (
 fixed_class c class r of is = cc
 
 -- what the operand j of the branch at the end of the block e defines is of v's class, and so is the register that it is fixed to
-pub record IsOfClass (f : FunctionValue) (e j : ℕ) (v : VirtualRegister) : Type 0 where
+pub record IsStoredOfClass (f : FunctionValue) (e j : ℕ) (v : VirtualRegister) : Type 0 where
   pub class : (op_at (branch_operands f e) j).vreg.class ≡ v.class
   pub fixed : (r : Register) → fixed_definition (op_at (branch_operands f e) j) ≡ Some r → r.class ≡ v.class
 
@@ -90,10 +90,10 @@ in_definition o def r h = subst (λ x. (if x then fixed_register o.constraint el
 
 -- what a block's start stores keeps to its class
 pub stored_of_class : (env : MachineValue) (f : FunctionValue) → IsLimited f → IsWellFormed env f → AreTaken f → (b e k j : ℕ) (v : VirtualRegister)
-    (slots : SpillSlotsValue) → IsEdgeInto f b e k → IsStoredFor f e k slots j v → IsOfClass f e j v
+    (slots : SpillSlotsValue) → IsEdgeInto f b e k → IsStoredFor f e k slots j v → IsStoredOfClass f e j v
 stored_of_class env f limited ok taken b e k j v slots edge is = record {
   class = same_class is;
-  fixed = λ r fixed. fixed_class o.constraint o.vreg.class r (tame.constraint j d.operand) (in_definition o d.definition r fixed) ∙ same_class is;
+  fixed = λ r fixed. fixed_class o.constraint o.vreg.class r (sound_ops.constraint j d.operand) (in_definition o d.definition r fixed) ∙ same_class is;
 }
   where
     last : ℕ
@@ -102,8 +102,8 @@ stored_of_class env f limited ok taken b e k j v slots edge is = record {
     o : OperandValue
     o = op_at (branch_operands f e) j
 
-    tame : IsTame (Made f) (branch_operands f e)
-    tame = tame_at env f limited ok taken last (last_within f ok.follow e edge.block)
+    sound_ops : AreSoundOperands (Made f) (branch_operands f e)
+    sound_ops = sound_ops_at env f limited ok taken last (last_within f ok.follow e edge.block)
 
     d : DefinesNumber (branch_operands f e) o.vreg.number j
     d = stored_defines f e k slots j v is
@@ -118,15 +118,15 @@ stored_of_class env f limited ok taken b e k j v slots edge is = record {
         alike.1 defines.number in
         ap (λ (w : VirtualRegister). w.class) same ∙ sym alike.2 ∙ ap (λ (w : VirtualRegister). w.class) at
 
--- and, once all blocks are walked, its register is the machine's
+-- once all blocks are walked, the register of a stored definition is the machine's
 pub stored_alike : {env : MachineValue} {f : FunctionValue} → IsLimited f → IsWellFormed env f → AreTaken f → {blank places : List Place}
     {old t : StateValue} → HasMachine env old → AllocsBlocks f blank old 0 places t → (b e k j : ℕ)
     (v : VirtualRegister) (slots : SpillSlotsValue) → IsEdgeInto f b e k → IsStoredFor f e k slots j v → IsAlike env f e j v
 stored_alike {env} {f} limited ok taken {blank} {places} {old} {t} machine walks b e k j v slots edge is = record {
   class = c.class;
   fixed = λ r fixed. (
-    fixed_of_machine env f (Made f) last tame old machine allocated j r d.operand d.definition
-        (small (op_at (branch_operands f e) j).constraint r (tame.constraint j d.operand)
+    fixed_of_machine env f (Made f) last sound_ops old machine allocated j r d.operand d.definition
+        (small (op_at (branch_operands f e) j).constraint r (sound_ops.constraint j d.operand)
         (in_definition (op_at (branch_operands f e) j) d.definition r fixed)) fixed,
     c.fixed r fixed,
   );
@@ -135,10 +135,10 @@ stored_alike {env} {f} limited ok taken {blank} {places} {old} {t} machine walks
     last : ℕ
     last = last_of (block_at f e)
 
-    tame : IsTame (Made f) (branch_operands f e)
-    tame = tame_at env f limited ok taken last (last_within f ok.follow e edge.block)
+    sound_ops : AreSoundOperands (Made f) (branch_operands f e)
+    sound_ops = sound_ops_at env f limited ok taken last (last_within f ok.follow e edge.block)
 
-    c : IsOfClass f e j v
+    c : IsStoredOfClass f e j v
     c = stored_of_class env f limited ok taken b e k j v slots edge is
 
     d : DefinesNumber (branch_operands f e) (op_at (branch_operands f e) j).vreg.number j

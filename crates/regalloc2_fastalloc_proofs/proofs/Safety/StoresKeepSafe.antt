@@ -18,7 +18,7 @@ use Rattle.regalloc2_fastalloc_proofs.specs.InstSteps.{StateValue, MayHold}
 use Rattle.regalloc2_fastalloc_proofs.specs.StoreSteps.{branch_operands, fixed_or_slot, IsStoredFor, its_own, given, IsConcerned, GetsSlots, no_slot, one_slot}
 use Rattle.regalloc2_fastalloc_proofs.specs.StoreSteps.{StoresFor, pushed_moves, StoresBranchDefs, none_stored, all_stored}
 use Rattle.regalloc2_fastalloc_proofs.specs.Safety.{IsOfMachine, IsEndOfMove, IsSafeEdit, HasMachine, IsSafe, MayBeLocatedAtOrNone}
-use Rattle.regalloc2_fastalloc_proofs.proofs.Safety.StepsKeepSafe.{MayBeHeld, machine_kept, slot_end}
+use Rattle.regalloc2_fastalloc_proofs.proofs.Safety.StepsKeepSafe.{MayBeHeld, machine_kept, own_slot_is_end}
 use Rattle.regalloc2_fastalloc_proofs.proofs.Safety.BlockStartKeepsSafe.{given_safe}
 use Rattle.regalloc2_fastalloc_proofs.proofs.BlockBegin.StoresOfDefs.{with_slots}
 
@@ -137,7 +137,7 @@ pub record OneStore (env : MachineValue) (Known : VirtualRegister → Type 0) (W
   pub by_register : (q : Place) → x.by ≡ Some q → is_memory old.fixed_stack q ≡ false
 
 module _ (env : MachineValue) (Known : VirtualRegister → Type 0) (Writes : ℕ → VirtualRegister → ℕ → Type 0) (May : ℕ → Type 0) where
-  -- one store
+  -- what one store writes, and its ends
   module _ (one : OneStore env Known Writes May) where
     open one use {f, e, k, point, can, old, new, machine, below, x, j, v, r, known, known_op, alike, written, to_memory, by_register}
 
@@ -148,7 +148,7 @@ module _ (env : MachineValue) (Known : VirtualRegister → Type 0) (Writes : ℕ
         IsEndOfMove env new.slots o.vreg x.from
     from_end (Some g) is at = subst (IsEndOfMove env new.slots o.vreg) (sym at) (inl ((alike.fixed g is).0, (alike.fixed g is).1 ∙ sym alike.class))
     from_end None is at = subst (IsEndOfMove env new.slots o.vreg) (sym at)
-        (slot_end env new.slots o.vreg (slot_name new.slots o.vreg.number) refl (λ n. r.there (at ∙ n)) (below o.vreg.number))
+        (own_slot_is_end env new.slots o.vreg (slot_name new.slots o.vreg.number) refl (λ n. r.there (at ∙ n)) (below o.vreg.number))
 
     direct_end : is_memory old.fixed_stack x.from ≡ false → (d : Option Register) → fixed_definition o ≡ d →
         x.from ≡ fixed_or_slot d (slot_name new.slots o.vreg.number) → IsEndOfMove env new.slots v x.from
@@ -162,7 +162,7 @@ module _ (env : MachineValue) (Known : VirtualRegister → Type 0) (Writes : ℕ
         in_memory (InSlot n) b there m = cc
 
     to_end : IsEndOfMove env new.slots v x.to
-    to_end = slot_end env new.slots v x.to r.to (λ none. let y : is_memory old.fixed_stack x.to ≡ false = ap (is_memory old.fixed_stack) none in cc)
+    to_end = own_slot_is_end env new.slots v x.to r.to (λ none. let y : is_memory old.fixed_stack x.to ≡ false = ap (is_memory old.fixed_stack) none in cc)
         (subst (IsSlotOrNone new.slots.count) r.to (below v.number))
 
     by_end : (g : Register) → (slice_index_or old.dedicated_scratch (class_code o.vreg.class) None ≡ Some g) ⊎ MayHold old o.vreg.class g →

@@ -136,7 +136,7 @@ module _ (Known : VirtualRegister → Type 0) (f : FunctionValue) (s : SpillSlot
     known_named : (n : ℕ) → IsSlotOfKnown Known s n → IsNameOfSlot made n
     known_named n (v, known, is) = (record { owner = OfVReg v; name = n }, h.known v known n is, refl)
 
-    -- and its owner is that vreg
+    -- the owner of a vreg's slot is the vreg
     own_slot : (v : VirtualRegister) (n : ℕ) → Known v → slot_name s v.number ≡ InSlot n → owner_in made n ≡ OfVReg v
     own_slot v n known is = owner_found _ (h.known v known n is)
 
@@ -154,14 +154,14 @@ module _ (Known : VirtualRegister → Type 0) (f : FunctionValue) (s : SpillSlot
         let point : ℕ = (slice_index_or out.edits k d).0 in
         subst (ServesAt point) of (⊎_elim (λ from. (end_named point m.0 _ n m.1 from).1) (λ to. (end_named point m.0 _ n m.2 to).1) names)
 
-    -- and so does every place in the output
+    -- every slot that the output names is the name of a slot
     named : (n : ℕ) → IsSlotOf out n → IsNameOfSlot made n
     named n (inl (k, x, lt, at, is)) = known_named n (allocs k x lt n (at ∙ is))
     named n (inr (inl (k, x, lt, at, is))) = (let m = subst (IsOfOneClass made) at (moves k x lt) in
         ⊎_elim (λ from. (end_named x.0 m.0 _ n m.1 from).0) (λ to. (end_named x.0 m.0 _ n m.2 to).0) is)
     named n (inr (inr (k, x, lt, at, is))) = known_named n (shown k x lt n (subst (λ (d : DebugLocation). d.place ≡ InSlot n) (sym at) is))
 
-    -- the owner's units, and the first of them, are those that were made
+    -- the owner's slot has as many units as were made, and the same first one
     first_is : (c : OwnedSlot) → first_unit f c.owner c.name ≡ start_of_slot s.sizes s.by_last c
     first_is c = ap (λ z. start_in f.named_by_last_slot z c.name) (sizes (class_of_owner c.owner))
         ∙ ap (λ b. start_in b (units_in s.sizes c.owner) c.name) by_last

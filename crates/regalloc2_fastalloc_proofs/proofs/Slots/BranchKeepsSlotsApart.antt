@@ -38,19 +38,19 @@ use Rattle.regalloc2_fastalloc_proofs.proofs.Changes.Evictions.{regs_evict}
 use Rattle.regalloc2_fastalloc_proofs.proofs.Slots.InstKeepsSlotsApart.{fresh_classed}
 
 -- a place where the value of a known vreg of a class may be
-abbrev IsPassed : (VirtualRegister → Type 0) → SpillSlotsValue → RegClass → Place → Type 0
-IsPassed Known s class p = (v : VirtualRegister) × Known v × (v.class ≡ class) × IsOwnPlace s v p
+abbrev IsOwnPlaceOfClass : (VirtualRegister → Type 0) → SpillSlotsValue → RegClass → Place → Type 0
+IsOwnPlaceOfClass Known s class p = (v : VirtualRegister) × Known v × (v.class ≡ class) × IsOwnPlace s v p
 
 -- a parameter and its argument are known, and of one class
-abbrev pub AreAlike : (VirtualRegister → Type 0) → VirtualRegister → VirtualRegister → Type 0
-AreAlike Known v a = Known v × Known a × (v.class ≡ a.class)
+abbrev pub AreKnownOfOneClass : (VirtualRegister → Type 0) → VirtualRegister → VirtualRegister → Type 0
+AreKnownOfOneClass Known v a = Known v × Known a × (v.class ≡ a.class)
 
 -- moves from and to such places
 abbrev ArePassed : (VirtualRegister → Type 0) → SpillSlotsValue → List ClassMove → Type 0
-ArePassed Known s given = All (λ g. IsPassed Known s g.class g.from × IsPassed Known s g.class g.to) given
+ArePassed Known s given = All (λ g. IsOwnPlaceOfClass Known s g.class g.from × IsOwnPlaceOfClass Known s g.class g.to) given
 
-passed_grows : (Known : VirtualRegister → Type 0) (s t : SpillSlotsValue) (class : RegClass) (p : Place) → SlotsStay s t → IsPassed Known s class p →
-    IsPassed Known t class p
+passed_grows : (Known : VirtualRegister → Type 0) (s t : SpillSlotsValue) (class : RegClass) (p : Place) → SlotsStay s t → IsOwnPlaceOfClass Known s class p →
+    IsOwnPlaceOfClass Known t class p
 passed_grows Known s t class p stay h = (h.0, h.1, h.2, own_grows s t h.0 p stay h.3)
 
 all_passed_grow : (Known : VirtualRegister → Type 0) (s t : SpillSlotsValue) (given : List ClassMove) → SlotsStay s t → ArePassed Known s given →
@@ -59,15 +59,15 @@ all_passed_grow Known s t given stay h k d lt = (passed_grows Known s t _ _ stay
 
 -- the moves of one class
 abbrev ArePassedOf : (VirtualRegister → Type 0) → SpillSlotsValue → RegClass → Moves → Type 0
-ArePassedOf Known s class ms = (m : Place × Place × Unit {0}) → Contains ms m → IsPassed Known s class m.0 × IsPassed Known s class m.1
+ArePassedOf Known s class ms = (m : Place × Place × Unit {0}) → Contains ms m → IsOwnPlaceOfClass Known s class m.0 × IsOwnPlaceOfClass Known s class m.1
 
 passed_of : (Known : VirtualRegister → Type 0) (s : SpillSlotsValue) (class : RegClass) (given : List ClassMove) → ArePassed Known s given →
     ArePassedOf Known s class (of_class class given)
 passed_of Known s class given h m has =
     let g = of_class-from class given m has in
-    let both_ends = All-contains (λ (x : ClassMove). IsPassed Known s x.class x.from × IsPassed Known s x.class x.to) given g.0 h g.1 in (
-      subst (IsPassed Known s class) (sym g.3) (subst (λ c. IsPassed Known s c g.0.from) g.2 both_ends.0),
-      subst (IsPassed Known s class) (sym g.4) (subst (λ c. IsPassed Known s c g.0.to) g.2 both_ends.1),
+    let both_ends = All-contains (λ (x : ClassMove). IsOwnPlaceOfClass Known s x.class x.from × IsOwnPlaceOfClass Known s x.class x.to) given g.0 h g.1 in (
+      subst (IsOwnPlaceOfClass Known s class) (sym g.3) (subst (λ c. IsOwnPlaceOfClass Known s c g.0.from) g.2 both_ends.0),
+      subst (IsOwnPlaceOfClass Known s class) (sym g.4) (subst (λ c. IsOwnPlaceOfClass Known s c g.0.to) g.2 both_ends.1),
     )
 
 -- the moves of one more class of a branch were added
@@ -94,7 +94,7 @@ met_more Known named Met More t more h = record {
 branch_of : (a b : ℕ) (c d : RegClass) (j k : ℕ) → OfBranch a c j ≡ OfBranch b d k → (b ≡ a) × (d ≡ c) × (k ≡ j)
 branch_of a b c d j k e = ((let x : b ≡ a = cc in x), (let x : d ≡ c = cc in x), (let x : k ≡ j = cc in x))
 
--- a temporary slot that ends below the new count is one of those taken
+-- a temporary slot that ends below the new count is a taken one
 lent_below : (s t : SpillSlotsValue) (class : RegClass) (taken j : ℕ) → 0 < units_of s class → AddsTempSlots s t class taken → later_end s class j ≤ t.count
     → j < taken
 lent_below s t class zero j some lends upto = (let same = lends.none refl in absurd (omega (arith, same, upto, some)))
@@ -139,7 +139,7 @@ module _ (Known : VirtualRegister → Type 0) (same : (v w : VirtualRegister) �
       pub passed : ArePassed Known new.slots given
 
     gathers_edge_moves_classed : {Own : VirtualRegister → Type 0} (params arguments : List VirtualRegister) → ((j : ℕ) → j < length params →
-        AreAlike Known (slice_index_or params j no_vreg) (slice_index_or arguments j no_vreg)) → (t : InstRegs) (old : StateValue) (before_it : List ClassMove)
+        AreKnownOfOneClass Known (slice_index_or params j no_vreg) (slice_index_or arguments j no_vreg)) → (t : InstRegs) (old : StateValue) (before_it : List ClassMove)
         → IsClassed Known named Met old → IsClassedTurn t → ArePassed Known old.slots before_it →
         (k : ℕ) (u : InstRegs) (new : StateValue) (given : List ClassMove) → GathersEdgeMoves Own point params arguments t old before_it k u new given →
         GatherClassed u new given
@@ -156,7 +156,7 @@ module _ (Known : VirtualRegister → Type 0) (same : (v w : VirtualRegister) �
         let later : SlotsStay n.slots new.slots = changes_stay (spills_argument_changes (λ q r. tt) tt tt settles) in
         record {
           step = second.step;
-          passed = All-push (λ (g : ClassMove). IsPassed Known new.slots g.class g.from × IsPassed Known new.slots g.class g.to) some
+          passed = All-push (λ (g : ClassMove). IsOwnPlaceOfClass Known new.slots g.class g.from × IsOwnPlaceOfClass Known new.slots g.class g.to) some
               (record { class = a.class; from = from; to = to })
               (all_passed_grow Known m.slots new.slots some (λ x d is. later x d (gives_stay m.slots n.slots v to gives x d is)) p.passed) (
                 (a, known.1, refl, second.own),
@@ -168,7 +168,7 @@ module _ (Known : VirtualRegister → Type 0) (same : (v w : VirtualRegister) �
 
     gathers_moves_classed : (f : FunctionValue) (b : ℕ)
         → ((k j : ℕ) → k < length (block_at f b).succs → j < length (block_at f (target_at f b k)).params →
-        AreAlike Known (slice_index_or (block_at f (target_at f b k)).params j no_vreg) (slice_index_or (arguments_at f b k) j no_vreg))
+        AreKnownOfOneClass Known (slice_index_or (block_at f (target_at f b k)).params j no_vreg) (slice_index_or (arguments_at f b k) j no_vreg))
         → (t : InstRegs) (old : StateValue) → IsClassed Known named Met old → IsClassedTurn t →
         (k : ℕ) (u : InstRegs) (new : StateValue) (given : List ClassMove) → GathersMoves f b point t old k u new given → GatherClassed u new given
     gathers_moves_classed f b alike t old h ht k u new given no_edge = record {
@@ -240,7 +240,7 @@ module _ (Known : VirtualRegister → Type 0) (same : (v w : VirtualRegister) �
       refl,
     )
 
-    passed_end : (p : Place) → IsPassed Known old.slots class p → IsEndHere p
+    passed_end : (p : Place) → IsOwnPlaceOfClass Known old.slots class p → IsEndHere p
     passed_end p x = subst (λ c. IsEndOrNone temp.lays.made (before branch) c p) x.2
         (own_end Known same named Met middle.slots temp.lays.made temp.lays.laid (before branch) x.0 p x.1
         (own_grows old.slots middle.slots x.0 p names_stay x.3))
@@ -288,7 +288,7 @@ module _ (Known : VirtualRegister → Type 0) (same : (v w : VirtualRegister) �
   pub processes_branch_classed : {Met More : ℕ → RegClass → Type 0} {f : FunctionValue} {b i : ℕ} → ((c : RegClass) → Met i c → ⊥) →
       ((j : ℕ) (c : RegClass) → Met j c → More j c) → ((c : RegClass) → More i c)
       → ((k j : ℕ) → k < length (block_at f b).succs → j < length (block_at f (target_at f b k)).params →
-      AreAlike Known (slice_index_or (block_at f (target_at f b k)).params j no_vreg) (slice_index_or (arguments_at f b k) j no_vreg))
+      AreKnownOfOneClass Known (slice_index_or (block_at f (target_at f b k)).params j no_vreg) (slice_index_or (arguments_at f b k) j no_vreg))
       → {t u : InstRegs} {old new : StateValue} → ProcessesBranch f b i t u old new → IsClassed Known named Met old → IsClassedTurn t
       → IsClassed Known named More new
   processes_branch_classed {Met} {More} {f} {b} {i} first_time more mine alike {t} {u} {old} {new} p h ht =

@@ -57,7 +57,7 @@ module _ (env : MachineValue) (Known : VirtualRegister → Type 0) (same : (v w 
         ]
       ]
 
--- the same for the slots of the tables
+-- only a vreg's own slot is written, of the slots of the tables
 pub own_written : (env : MachineValue) (Known : VirtualRegister → Type 0) → ((v w : VirtualRegister) → Known v → Known w → v.number ≡ w.number → v ≡ w) →
     (Writes : ℕ → VirtualRegister → ℕ → Type 0) (May : ℕ → Type 0) (t : StateValue)
     → ((x y n : ℕ) → slot_name t.slots x ≡ InSlot n → slot_name t.slots y ≡ InSlot n → x ≡ y) → All (IsSafeEdit env Known Writes t.slots May) t.edits

@@ -27,7 +27,7 @@ use Rattle.regalloc2_fastalloc_proofs.proofs.Safety.FunctionKeepsSafe.{no_branch
 use Rattle.regalloc2_fastalloc_proofs.proofs.Walk.LastInstAndRest.{KeepsSlots}
 use Rattle.regalloc2_fastalloc_proofs.proofs.Walk.FunctionLaws.{PlacedCode}
 
--- The slots that may be written around an instruction: before it those in which it reads a vreg, and after it those of the vregs that it defines.
+-- The slots that may be written around an instruction: before it the slots in which it reads a vreg, after it the slots of the vregs that it defines.
 pub record WritesSound (f : FunctionValue) (placesf : ℕ → List Place) (Writes : ℕ → VirtualRegister → ℕ → Type 0) (i : ℕ) : Type 0 where
   pub sooner : (v : VirtualRegister) (n : ℕ) → Writes (before i) v n → IsReadAt (inst_at f i).operands (placesf i) v (InSlot n)
   pub later : (v : VirtualRegister) (n : ℕ) → Writes (after i) v n → (k : ℕ) × (k < length (inst_at f i).operands)
@@ -61,7 +61,7 @@ writes_sound f placesf places are_listed i plain = record {
   ];
 }
 
--- the same with stores: a store is before another block's first instruction
+-- stores write no other slots around an instruction within a block: a store is before a block's first instruction
 pub writes_sound_in : (f : FunctionValue) → BlocksFollow f → (placesf : ℕ → List Place) (places : List Place) → AreListed f placesf 0 places → (b i : ℕ) →
     b < length f.blocks → (block_at f b).range.first ≤ i → i < last_of (block_at f b) → (inst_at f i).is_branch ≡ false →
     WritesSound f placesf (WritesFrom f places (b + 1)) i

@@ -17,8 +17,8 @@ use Rattle.regalloc2_fastalloc_state.specs.StateParts.{SlotsHaveOneOwner, units_
 use Rattle.regalloc2_fastalloc_proofs.specs.InstSteps.{StateValue}
 use Rattle.regalloc2_fastalloc_proofs.specs.Safety.{MayBeLocatedAt}
 use Rattle.regalloc2_fastalloc_proofs.specs.SlotLayout.{OwnedSlot, IsEndOf, IsOfOneClass}
-use Rattle.regalloc2_fastalloc_proofs.proofs.Operands.AllocsSoFar.{IsTame}
-use Rattle.regalloc2_fastalloc_proofs.proofs.Safety.OutputOfWalk.{IsMade, made_in_order, place_is}
+use Rattle.regalloc2_fastalloc_proofs.proofs.Operands.AllocsSoFar.{AreSoundOperands}
+use Rattle.regalloc2_fastalloc_proofs.proofs.Safety.OutputOfWalk.{IsOutputOfWalk, made_in_order, place_is}
 use Rattle.regalloc2_fastalloc_proofs.proofs.Slots.StepsKeepSlotsApart.{IsEndOrNone, KeepsToClass, IsOfMet, IsClassed}
 use Rattle.regalloc2_fastalloc_proofs.proofs.Slots.SlotsOwned.{owner_known}
 use Rattle.regalloc2_fastalloc_proofs.proofs.Slots.ApartSlotsAreOwned.{IsSlotOfKnown, OwnsSlots, slots_owned}
@@ -49,8 +49,8 @@ operand_of (x ∷ xs) d j lt = ⊎_elim
     (cases_lt j (length x.operands))
 
 module _ (f : FunctionValue) (env : MachineValue) (Known : VirtualRegister → Type 0) (May : ℕ → Type 0) (t : StateValue) (o : OutputValue)
-    (m : IsMade f env Known May t o) (owned : SlotsHaveOneOwner t.slots)
-    (tame : (i : ℕ) → i < length f.insts → IsTame Known (inst_at f i).operands) (named : Bool) (Met : ℕ → RegClass → Type 0)
+    (m : IsOutputOfWalk f env Known May t o) (owned : SlotsHaveOneOwner t.slots)
+    (sound_ops : (i : ℕ) → i < length f.insts → AreSoundOperands Known (inst_at f i).operands) (named : Bool) (Met : ℕ → RegClass → Type 0)
     (h : IsClassed Known named Met t) where
   -- an operand that is in a slot is in its own vreg's
   places_own : All (λ p. (n : ℕ) → p ≡ InSlot n → IsSlotOfKnown Known t.slots n) o.allocs
@@ -59,7 +59,7 @@ module _ (f : FunctionValue) (env : MachineValue) (Known : VirtualRegister → T
       let place : place_at (allocs_of o r.0) r.1 ≡ InSlot n = place_is f env Known May t o m r.0 r.2 r.1 r.3 ∙ ap (λ x. slice_index_or o.allocs x NoPlace) r.4
       ∙ get_or_default o.allocs j NoPlace d lt ∙ at in
       let v : VirtualRegister = (op_at (inst_at f r.0).operands r.1).vreg in
-      let k = owner_known f env Known May t o m owned tame v n (
+      let k = owner_known f env Known May t o m owned sound_ops v n (
         r.0,
         r.1,
         op_at (inst_at f r.0).operands r.1,
@@ -88,7 +88,7 @@ module _ (f : FunctionValue) (env : MachineValue) (Known : VirtualRegister → T
       ((i : ℕ) (c : RegClass) → Met i c → (i < length f.insts) × ((inst_at f i).is_branch ≡ true)) → OwnsSlots Known f t.slots o
   made_slots_owned sizes by_last branches =
       slots_owned Known f t.slots h.made h.laid o m.count sizes (by_last ∙ sym h.by_last)
-      (λ i lt k d less n at. owner_known f env Known May t o m owned tame _ n (i, k, d, lt, less, refl, at)) places_own moves_keep
+      (λ i lt k d less n at. owner_known f env Known May t o m owned sound_ops _ n (i, k, d, lt, less, refl, at)) places_own moves_keep
       locations_own (λ c there i class time e. let met = All-contains (IsOfMet Met) h.made c h.met there i class time e in (branches i class met.0, met.1))
 
 -- on a machine that fits, the registers reserved for moves are of their classes

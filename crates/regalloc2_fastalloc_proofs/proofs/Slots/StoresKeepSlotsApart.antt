@@ -19,7 +19,7 @@ use Rattle.regalloc2_fastalloc_proofs.specs.StoreSteps.{branch_operands, fixed_o
 use Rattle.regalloc2_fastalloc_proofs.specs.StoreSteps.{StoresFor, pushed_moves, StoresBranchDefs, none_stored, all_stored}
 use Rattle.regalloc2_fastalloc_proofs.proofs.BlockBegin.StoresOfDefs.{with_slots}
 use Rattle.regalloc2_fastalloc_proofs.proofs.Safety.StoresKeepSafe.{stored_defines, stored_concerned}
-use Rattle.regalloc2_fastalloc_proofs.proofs.Safety.StoredDefs.{IsOfClass}
+use Rattle.regalloc2_fastalloc_proofs.proofs.Safety.StoredDefs.{IsStoredOfClass}
 use Rattle.regalloc2_fastalloc_proofs.proofs.Slots.StepsKeepSlotsApart.{IsOwnPlace, IsEndOrNone, KeepsToClass, IsClassed}
 use Rattle.regalloc2_fastalloc_proofs.proofs.Slots.StepsKeepSlotsApart.{slot_own, own_end, only_slot, dedicated_kept}
 
@@ -55,10 +55,10 @@ module _ (Known : VirtualRegister → Type 0) (same : (v w : VirtualRegister) �
         num_temp_slots = temps;
       }) refl (gets_slots_classed P known old m prev h)
 
-  -- one store
+  -- one store keeps slots apart
   module _ (f : FunctionValue) (e k point : ℕ) (old new : StateValue) (h : IsClassed Known named Met (with_slots old new.slots)) (x : Store) (j : ℕ)
       (v : VirtualRegister) (r : StoresFor f e k old new x j v) (known : Known v) (known_op : Known (op_at (branch_operands f e) j).vreg)
-      (of_class : IsOfClass f e j v) where
+      (of_class : IsStoredOfClass f e j v) where
     abbrev o : OperandValue
     o = op_at (branch_operands f e) j
 
@@ -92,7 +92,7 @@ module _ (Known : VirtualRegister → Type 0) (same : (v w : VirtualRegister) �
 
   -- all that a block's start stores
   pub stores_branch_defs_classed : (f : FunctionValue) (b : ℕ) → ((e k : ℕ) (v : VirtualRegister) → IsEdgeInto f b e k → IsConcerned f e k v → Known v) →
-      ((e k j : ℕ) (v : VirtualRegister) (slots : SpillSlotsValue) → IsEdgeInto f b e k → IsStoredFor f e k slots j v → IsOfClass f e j v) →
+      ((e k j : ℕ) (v : VirtualRegister) (slots : SpillSlotsValue) → IsEdgeInto f b e k → IsStoredFor f e k slots j v → IsStoredOfClass f e j v) →
       (old new : StateValue) → StoresBranchDefs f b old new → IsClassed Known named Met old → IsClassed Known named Met new
   stores_branch_defs_classed f b concerned of_class old new (none_stored none is) h = subst (IsClassed Known named Met) (sym is) h
   stores_branch_defs_classed f b concerned of_class old new (all_stored e k edge s) h =

@@ -21,14 +21,14 @@ use Rattle.regalloc2_fastalloc_proofs.specs.Safety.{HasMachine}
 use Rattle.regalloc2_fastalloc_proofs.specs.StoreSteps.{IsConcerned, IsStoredFor}
 use Rattle.regalloc2_fastalloc_proofs.specs.BlockSteps.{AllocsInstInBlock, AllocsBlockInsts, at_end, one_in, AllocsBlocks, all_left, one_block}
 use Rattle.regalloc2_fastalloc_proofs.proofs.Safety.InitialState.{begun_empty}
-use Rattle.regalloc2_fastalloc_proofs.proofs.Operands.AllocsSoFar.{IsTame}
-use Rattle.regalloc2_fastalloc_proofs.proofs.Safety.WellFormedKeepsSafe.{tame_at}
+use Rattle.regalloc2_fastalloc_proofs.proofs.Operands.AllocsSoFar.{AreSoundOperands}
+use Rattle.regalloc2_fastalloc_proofs.proofs.Safety.WellFormedKeepsSafe.{sound_ops_at}
 use Rattle.regalloc2_fastalloc_proofs.proofs.Slots.NewSlotsApart.{none_laid}
 use Rattle.regalloc2_fastalloc_proofs.proofs.Slots.StepsKeepSlotsApart.{IsOwnPlace, IsClassed}
 use Rattle.regalloc2_fastalloc_proofs.proofs.Slots.InstKeepsSlotsApart.{allocs_inst_classed}
-use Rattle.regalloc2_fastalloc_proofs.proofs.Safety.StoredDefs.{IsOfClass, concerned_made, made_alike, stored_of_class}
+use Rattle.regalloc2_fastalloc_proofs.proofs.Safety.StoredDefs.{IsStoredOfClass, concerned_made, made_alike, stored_of_class}
 use Rattle.regalloc2_fastalloc_proofs.proofs.Slots.StoresKeepSlotsApart.{stores_branch_defs_classed}
-use Rattle.regalloc2_fastalloc_proofs.proofs.Slots.BranchKeepsSlotsApart.{AreAlike, met_more, processes_branch_classed, reloads_at_begin_classed}
+use Rattle.regalloc2_fastalloc_proofs.proofs.Slots.BranchKeepsSlotsApart.{AreKnownOfOneClass, met_more, processes_branch_classed, reloads_at_begin_classed}
 use Rattle.regalloc2_fastalloc_proofs.proofs.Safety.BlocksKeepSafe.{StartsAt, start_next}
 use Rattle.regalloc2_fastalloc_proofs.proofs.Slots.OutputOwnsSlots.{KeepsOfClass}
 use Rattle.regalloc2_semantics.proofs.Plain.{always, no_some}
@@ -39,12 +39,12 @@ BranchesFrom f i j class = (i ≤ j) × (j < length f.insts) × ((inst_at f j).i
 
 module _ (f : FunctionValue) (Known : VirtualRegister → Type 0) (same : (v w : VirtualRegister) → Known v → Known w → v.number ≡ w.number → v ≡ w)
     (named : Bool)
-    (tame : (i : ℕ) → i < length f.insts → IsTame Known (inst_at f i).operands) (follow : BlocksFollow f)
+    (sound_ops : (i : ℕ) → i < length f.insts → AreSoundOperands Known (inst_at f i).operands) (follow : BlocksFollow f)
     (params : (b k : ℕ) → b < length f.blocks → k < length (block_at f b).params → Known (slice_index_or (block_at f b).params k no_vreg))
     (alike : (b k j : ℕ) → b < length f.blocks → HasEdge f b k → j < length (block_at f (target_at f b k)).params →
-    AreAlike Known (slice_index_or (block_at f (target_at f b k)).params j no_vreg) (slice_index_or (arguments_at f b k) j no_vreg))
+    AreKnownOfOneClass Known (slice_index_or (block_at f (target_at f b k)).params j no_vreg) (slice_index_or (arguments_at f b k) j no_vreg))
     (concerned : (b e k : ℕ) (v : VirtualRegister) → IsEdgeInto f b e k → IsConcerned f e k v → Known v)
-    (of_class : (b e k j : ℕ) (v : VirtualRegister) (slots : SpillSlotsValue) → IsEdgeInto f b e k → IsStoredFor f e k slots j v → IsOfClass f e j v) where
+    (of_class : (b e k j : ℕ) (v : VirtualRegister) (slots : SpillSlotsValue) → IsEdgeInto f b e k → IsStoredFor f e k slots j v → IsStoredOfClass f e j v) where
   -- the tables before an instruction is walked
   abbrev ClassedAt : ℕ → StateValue → Type 0
   ClassedAt i t = IsClassed Known named (BranchesFrom f i) t
@@ -53,7 +53,7 @@ module _ (f : FunctionValue) (Known : VirtualRegister → Type 0) (same : (v w :
       AllocsInstInBlock f b i before_it places old new → ClassedAt (i + 1) old → ClassedAt i new
   allocs_inst_in_block_classed b i lt before_it places old new within a h =
       let x = a.allocates.allocates in
-      let k = allocs_inst_classed Known named (BranchesFrom f (i + 1)) i (inst_at f i) a.allocates.blank a.allocates.here old a.middle (tame i within) x h in
+      let k = allocs_inst_classed Known named (BranchesFrom f (i + 1)) i (inst_at f i) a.allocates.blank a.allocates.here old a.middle (sound_ops i within) x h in
       let more : (j : ℕ) (c : RegClass) → BranchesFrom f (i + 1) j c → BranchesFrom f i j c = λ j c m. (let from = m.0 in (omega (arith, from), m.1, m.2)) in
       elim (cases_Bool (inst_at f i).is_branch) [
         | inl branch ↦ processes_branch_classed Known same named (λ c m. (let from = m.0 in omega (arith, from))) more
@@ -111,7 +111,7 @@ pub walk_classed : {env : MachineValue} {f : FunctionValue} → KeepsOfClass env
     → IsClassed (Made f) named (BranchesFrom f 0) last
 walk_classed {env} {f} kept limited ok taken {blank} {places} {begin} {last} n m sizes {named} nobody slots none units machine walks =
     let some : 0 < length f.blocks = (let entry = ok.successors.0 in omega (arith, entry)) in
-    allocs_blocks_classed f (Made f) (one_made f ok.defined_once) named (tame_at env f limited ok taken) ok.follow
+    allocs_blocks_classed f (Made f) (one_made f ok.defined_once) named (sound_ops_at env f limited ok taken) ok.follow
     (λ b k lt less. Made.by_param b k (record { block = lt; param = less; number = refl }) refl) (made_alike env f ok)
     (concerned_made f ok.successors ok.follow) (stored_of_class env f limited ok taken) (begun_classed f env (Made f) named kept begin n m sizes nobody slots
     none units machine (BranchesFrom f (length f.insts))) walks

@@ -86,7 +86,7 @@ reserved_none names gone operands t u w reg reserves h = with_turn names gone t 
   | inr e ↦ (let fixed = reserves.only r free e in absurd (let wrong : FixedReg r ≡ Reg = sym fixed.2 ∙ reg fixed.0 fixed.1 in cc))
 ])
 
--- and nothing is held if there are no clobbers
+-- no register is held for clobbers if there are none
 pub held_none : (names : List VirtualRegister) (gone : ℕ → Bool) (clobbers : PRegSet) (t : StateValue) (u w : InstRegs) →
     ((r : Register) → has_register clobbers r ≡ false) → RemovesClobbers clobbers u w → IsSpillFree names gone t u → IsSpillFree names gone t w
 held_none names gone clobbers t u w none holds h = with_turn names gone t u w h (λ r has free.
@@ -237,7 +237,7 @@ defined_earlier f env names well asks i k lt less e =
         let none : length (block_at f b).params ≡ 0 = ap (λ (x : ℕ). length (block_at f x).params) zero_block ∙ ap length well.entry.1 in
         absurd (omega (arith, at.param, none))
 
--- no later instruction defines a vreg that an instruction of such a function names
+-- no later instruction defines a vreg that an instruction names, in a function whose operands are all under `Reg`
 pub plain_at : (f : FunctionValue) (env : MachineValue) (names : List VirtualRegister) (i : ℕ) (t : StateValue) →
     IsWellFormed env f → HasRegOperandsOnly names f → i < length f.insts → (h : IsSpillFreeFrom names f (i + 1) t) → (late : Bool) →
     ArePlain names h.gone (inst_at f i).operands late
@@ -285,7 +285,7 @@ plain_at f env names i t well asks lt h late = record {
               e.3 there in absurd (omega (arith, one.0, e.2)))
         ]
 
--- one more instruction was allocated
+-- the walk is free of spills from i on if it is from i + 1 on and the instruction i leaves it so
 pub from_next : (f : FunctionValue) (names : List VirtualRegister) (i : ℕ) (t u : StateValue) → i < length f.insts → (h : IsSpillFreeFrom names f (i + 1) t) →
     LeavesSpillFree names h.gone (inst_at f i).operands u → IsSpillFreeFrom names f i u
 from_next f names i t u lt h l = record {
@@ -357,7 +357,7 @@ pub no_params : (f : FunctionValue) (env : MachineValue) (names : List VirtualRe
 no_params f env names b well asks lt = (let zero_block : b ≡ 0 = omega (arith, lt, asks.one_block) in ap (λ (x : ℕ). (block_at f x).params) zero_block
     ∙ well.entry.1)
 
--- and no branch's definition is fixed
+-- an operand under `Reg` defines in no fixed register
 none_fixed : (o : OperandValue) → o.constraint ≡ Reg → IsSome (fixed_definition o) → ⊥
 none_fixed o reg some = by (is_def o.kind) (subst (λ (x : OperandConstraint). IsSome (if is_def o.kind then fixed_register x else None)) reg some)
   where
@@ -365,7 +365,7 @@ none_fixed o reg some = by (is_def o.kind) (subst (λ (x : OperandConstraint). I
     by true h = cc
     by false h = cc
 
--- so a block's start stores nothing
+-- a block's start stores nothing, because no definition of a branch is fixed
 pub none_is_stored : (f : FunctionValue) (env : MachineValue) (names : List VirtualRegister) → IsWellFormed env f → HasRegOperandsOnly names f → (b e k j : ℕ)
     (v : VirtualRegister) (slots : SpillSlotsValue) → IsEdgeInto f b e k → IsStoredFor f e k slots j v → ⊥
 none_is_stored f env names well asks b e k j v slots edge (its_own own is) =

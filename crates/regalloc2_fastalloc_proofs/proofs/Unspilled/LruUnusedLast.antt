@@ -12,28 +12,28 @@ use Rattle.regalloc2_function.specs.Fitting.{count_below, register_number}
 use Rattle.regalloc2_fastalloc_state.specs.Choice.{chosen}
 
 -- a list without a given register
-abbrev pub but : Register → List Register → List Register
-but r xs = filter (λ q. not (is_register r q)) xs
+abbrev pub without_register : Register → List Register → List Register
+without_register r xs = filter (λ q. not (is_register r q)) xs
 
 -- the list without a register is no longer than before
-pub but_most : (r : Register) (xs : List Register) → length (but r xs) ≤ length xs
+pub but_most : (r : Register) (xs : List Register) → length (without_register r xs) ≤ length xs
 but_most r [] = omega arith
 but_most r (x ∷ xs) = by (is_register r x) (but_most r xs)
   where
-    by : (b : Bool) → length (but r xs) ≤ length xs → length (cond (not b) (x ∷ but r xs) (but r xs)) ≤ length (x ∷ xs)
+    by : (b : Bool) → length (without_register r xs) ≤ length xs → length (cond (not b) (x ∷ without_register r xs) (without_register r xs)) ≤ length (x ∷ xs)
     by true h = omega (arith, h)
     by false h = omega (arith, h)
 
--- and is shorter, if it had the register
-pub but_less : (r : Register) (xs : List Register) → Contains xs r → length (but r xs) + 1 ≤ length xs
+-- a list without a register is shorter if it had the register
+pub but_less : (r : Register) (xs : List Register) → Contains xs r → length (without_register r xs) + 1 ≤ length xs
 but_less r [] (k, less, at) = absurd (omega arith)
 but_less r (x ∷ xs) (zero, less, at) =
     let same : is_register r x ≡ true = subst (λ (y : Register). is_register r y ≡ true) (sym at) (is_register-same r) in
-    let most : length (but r xs) ≤ length xs = but_most r xs in
+    let most : length (without_register r xs) ≤ length xs = but_most r xs in
     rw same (omega (arith, most))
 but_less r (x ∷ xs) (suc k, less, at) = by (is_register r x) (but_less r xs (k, omega arith, at))
   where
-    by : (b : Bool) → length (but r xs) + 1 ≤ length xs → length (cond (not b) (x ∷ but r xs) (but r xs)) + 1 ≤ length (x ∷ xs)
+    by : (b : Bool) → length (without_register r xs) + 1 ≤ length xs → length (cond (not b) (x ∷ without_register r xs) (without_register r xs)) + 1 ≤ length (x ∷ xs)
     by true h = omega (arith, h)
     by false h = omega (arith, h)
 
@@ -42,41 +42,41 @@ still_in true x q xs (k, less, at) = (suc k, omega arith, at)
 still_in false x q xs h = h
 
 -- without one register a list still has each other one that it had
-pub but_others : (r q : Register) (xs : List Register) → Contains xs q → is_register r q ≡ false → Contains (but r xs) q
+pub but_others : (r q : Register) (xs : List Register) → Contains xs q → is_register r q ≡ false → Contains (without_register r xs) q
 but_others r q [] (k, less, at) e = absurd (omega arith)
 but_others r q (x ∷ xs) (zero, less, at) e =
     let here : is_register r x ≡ false = subst (λ (y : Register). is_register r y ≡ false) (sym at) e in
     rw here (0, omega arith, at)
-but_others r q (x ∷ xs) (suc k, less, at) e = still_in (not (is_register r x)) x q (but r xs) (but_others r q xs (k, omega arith, at) e)
+but_others r q (x ∷ xs) (suc k, less, at) e = still_in (not (is_register r x)) x q (without_register r xs) (but_others r q xs (k, omega arith, at) e)
 
 -- what is in a list without one register is in the list
-pub but_from : (r q : Register) (xs : List Register) → Contains (but r xs) q → Contains xs q
+pub but_from : (r q : Register) (xs : List Register) → Contains (without_register r xs) q → Contains xs q
 but_from r q xs h =
-    All-contains (Contains xs) (but r xs) q (All-filter (λ x. not (is_register r x)) (Contains xs) xs (All-contains_itself xs)) h
+    All-contains (Contains xs) (without_register r xs) q (All-filter (λ x. not (is_register r x)) (Contains xs) xs (All-contains_itself xs)) h
 
 -- a list with one of its members moved to the front has the same members
-pub same_members : (r : Register) (xs : List Register) → Contains xs r → (q : Register) → Contains (r ∷ but r xs) q ↔ Contains xs q
+pub same_members : (r : Register) (xs : List Register) → Contains xs r → (q : Register) → Contains (r ∷ without_register r xs) q ↔ Contains xs q
 same_members r xs there q = (onward, back (is_register r q) refl)
   where
-    onward : Contains (r ∷ but r xs) q → Contains xs q
+    onward : Contains (r ∷ without_register r xs) q → Contains xs q
     onward (zero, less, at) = subst (λ (y : Register). Contains xs y) at there
     onward (suc k, less, at) = but_from r q xs (k, omega arith, at)
 
-    back : (b : Bool) → is_register r q ≡ b → Contains xs q → Contains (r ∷ but r xs) q
+    back : (b : Bool) → is_register r q ≡ b → Contains xs q → Contains (r ∷ without_register r xs) q
     back true e h = (0, omega arith, is_register-true r q e)
-    back false e h = still_in true r q (but r xs) (but_others r q xs h e)
+    back false e h = still_in true r q (without_register r xs) (but_others r q xs h e)
 
 -- a list without a register doesn't have that register
-pub but_not : (r : Register) (xs : List Register) → Contains (but r xs) r → ⊥
+pub but_not : (r : Register) (xs : List Register) → Contains (without_register r xs) r → ⊥
 but_not r [] (k, less, at) = omega arith
 but_not r (x ∷ xs) h = by (but_not r xs) (is_register r x) refl h
   where
-    past : (Contains (but r xs) r → ⊥) → (k : ℕ) → is_register r x ≡ false → (k < length (x ∷ but r xs)) → slice_index_or (x ∷ but r xs) k r ≡ r → ⊥
+    past : (Contains (without_register r xs) r → ⊥) → (k : ℕ) → is_register r x ≡ false → (k < length (x ∷ without_register r xs)) → slice_index_or (x ∷ without_register r xs) k r ≡ r → ⊥
     past rest zero e less at = (let same : is_register r x ≡ true = subst (λ (y : Register). is_register r y ≡ true) (sym at) (is_register-same r) in
         let wrong : true ≡ false = sym same ∙ e in cc)
     past rest (suc k) e less at = rest (k, omega arith, at)
 
-    by : (Contains (but r xs) r → ⊥) → (b : Bool) → is_register r x ≡ b → Contains (cond (not b) (x ∷ but r xs) (but r xs)) r → ⊥
+    by : (Contains (without_register r xs) r → ⊥) → (b : Bool) → is_register r x ≡ b → Contains (cond (not b) (x ∷ without_register r xs) (without_register r xs)) r → ⊥
     by rest true e c = rest c
     by rest false e (k, less, at) = past rest k e less at
 
@@ -116,8 +116,8 @@ unfolding count_below
 counted p class zero rs h = omega arith
 counted p class (suc n) rs h = elim (cases_Bool (p n)) [
   | inl e ↦ (
-      let less : length (but (register_number class n) rs) + 1 ≤ length rs = but_less (register_number class n) rs (h n (omega arith) e) in
-      let rest : count_below p n ≤ length (but (register_number class n) rs) = counted p class n (but (register_number class n) rs)
+      let less : length (without_register (register_number class n) rs) + 1 ≤ length rs = but_less (register_number class n) rs (h n (omega arith) e) in
+      let rest : count_below p n ≤ length (without_register (register_number class n) rs) = counted p class n (without_register (register_number class n) rs)
       (λ k lt f. but_others (register_number class n) (register_number class k) rs (h k (omega arith) f) (other k lt)) in
       rw e (omega (arith, less, rest)))
   | inr e ↦ (let rest : count_below p n ≤ length rs = counted p class n rs (λ k lt f. h k (omega arith) f) in rw e (omega (arith, rest)))
@@ -131,7 +131,7 @@ counted p class (suc n) rs h = elim (cases_Bool (p n)) [
     ]
 
 -- a register becomes the most recently used: it and the used ones are at the front, the others after them
-pub newest_first : (r : Register) (used unused ring : List Register) → ring ≡ used ++ unused → r ∷ filter (λ q. not (is_register r q)) ring ≡ (r ∷ but r used)
-    ++ but r unused
+pub newest_first : (r : Register) (used unused ring : List Register) → ring ≡ used ++ unused → r ∷ filter (λ q. not (is_register r q)) ring ≡ (r ∷ without_register r used)
+    ++ without_register r unused
 newest_first r used unused ring e = ap (λ (l : List Register). r ∷ filter (λ q. not (is_register r q)) l) e
     ∙ ap (λ (l : List Register). r ∷ l) (filter-append (λ q. not (is_register r q)) used unused)

@@ -92,7 +92,7 @@ module _ (f : FunctionValue) (env : MachineValue) (well : IsWellFormed env f) (n
         | inr plain ↦ a.no_branch plain
       ]
 
-  -- its last instructions
+  -- the walk over the last instructions of the block spills nothing
   allocs_block_insts_leave : (b : ℕ) (blank : List Place) (old : StateValue) (i : ℕ) (places : List Place) (new : StateValue) → b < length f.blocks →
       (block_at f b).range.end ≡ length f.insts → FitInRegs names old.allocatable → IsSpillFreeFrom names f (length f.insts) old →
       AllocsBlockInsts f b blank old i places new → IsSpillFreeFrom names f i new
@@ -108,10 +108,10 @@ module _ (f : FunctionValue) (env : MachineValue) (well : IsWellFormed env f) (n
   none_walked n blank places old new e (one_block b before_it p t u w lt prev walks begins) = absurd (omega (arith, e, lt))
 
   -- The walk makes no move and no slot.
-  pub unspilled : (n : ℕ) (blank places : List Place) (begin last : StateValue) → n ≡ 0 → FitInRegs names begin.allocatable →
+  pub walk_spills_nothing : (n : ℕ) (blank places : List Place) (begin last : StateValue) → n ≡ 0 → FitInRegs names begin.allocatable →
       IsSpillFreeFrom names f (length f.insts) begin → AllocsBlocks f blank begin n places last → (last.edits ≡ []) × (last.slots.count ≡ 0)
-  unspilled n blank places begin last zero few h all_left = absurd (omega (arith, zero, asks.one_block))
-  unspilled n blank places begin last zero few h (one_block b before_it p t u w lt prev walks begins) =
+  walk_spills_nothing n blank places begin last zero few h all_left = absurd (omega (arith, zero, asks.one_block))
+  walk_spills_nothing n blank places begin last zero few h (one_block b before_it p t u w lt prev walks begins) =
       let start : t ≡ begin = none_walked (b + 1) blank before_it begin t (omega (arith, zero, asks.one_block)) prev in
       let follows = well.follow b lt in
       let end : (block_at f b).range.end ≡ length f.insts = follows.3 (omega (arith, zero, asks.one_block)) in

@@ -18,7 +18,7 @@ use Rattle.regalloc2_function.specs.Fitting.{count_below, register_number}
 use Rattle.regalloc2_fastalloc_state.specs.declared.request.OperandRequest.{OperandRequest}
 use Rattle.regalloc2_fastalloc_state.specs.declared.request.Requirement.{Requirement}
 use Rattle.regalloc2_fastalloc_state.specs.declared.request.Requirement.TheVariants.{AnyPlace, AnyReg, InMemory, InPReg}
-use Rattle.regalloc2_steps.specs.declared.positions.Positions.{Positions}
+use Rattle.regalloc2_fastalloc_state.specs.declared.positions.Positions.{Positions}
 use Rattle.regalloc2_fastalloc_state.specs.declared.inst_regs.InstRegs.{InstRegs}
 use Rattle.regalloc2_fastalloc_state.specs.StateParts.{IsLruOf, vreg_of_preg, alloc_of}
 use Rattle.regalloc2_fastalloc_state.specs.Choice.{chosen}
@@ -27,7 +27,7 @@ use Rattle.regalloc2_fastalloc_proofs.specs.InstSteps.{StateValue, SameButOrder,
 use Rattle.regalloc2_fastalloc_proofs.specs.InstSteps.{in_register, UsesReg, UsesPlace, used, not_used, TakesPlace, order_of}
 use Rattle.regalloc2_fastalloc_proofs.specs.InstSteps.{own, others, empty, cleared, stays, fixed, slot, free, is_stack_in, EvictsOtherVRegs}
 use Rattle.regalloc2_fastalloc_proofs.proofs.Unspilled.FreeAtAny.{free_at_any}
-use Rattle.regalloc2_fastalloc_proofs.proofs.Unspilled.LruUnusedLast.{but, but_from, but_less, but_most, but_not, counted, found_last, newest_first, same_members}
+use Rattle.regalloc2_fastalloc_proofs.proofs.Unspilled.LruUnusedLast.{without_register, but_from, but_less, but_most, but_not, counted, found_last, newest_first, same_members}
 use Rattle.regalloc2_fastalloc_proofs.proofs.Safety.StepsKeepState.{whole_tidy}
 use Rattle.regalloc2_fastalloc_proofs.proofs.Slots.StepsKeepSlots.{cases_none}
 use Rattle.regalloc2_fastalloc_proofs.specs.Unspilled.SpillFree.{FitInRegs, IsSpillFree, IsSpillFreeIn, is_same_number}
@@ -43,7 +43,7 @@ cases_class a b = inr (λ e. cc)
 pub some_same : (v w : VirtualRegister) → Some v ≡ Some w → v ≡ w
 some_same v w e = cc
 
--- as `IsSpillFreeIn`, while the vreg of the register r has no location yet
+-- `IsSpillFreeIn`, but the vreg of the register r has no location yet
 pub record Taken (names : List VirtualRegister) (gone : ℕ → Bool) (n : ℕ) (r : Register) (class : RegClass) (order : List Register) (t : StateValue)
     (inst_regs : InstRegs) : Type 0 where
   pub used : List Register
@@ -96,13 +96,13 @@ taken_here : (names : List VirtualRegister) (gone : ℕ → Bool) (n : ℕ) (r :
     (inst_regs after : InstRegs) (met : List VirtualRegister)
     → ((q : Register) → is_register r q ≡ false → is_free_throughout inst_regs q ≡ true → is_free_throughout after q ≡ true) →
     (h : IsSpillFreeIn names gone class old t inst_regs)
-    → new ≡ (r ∷ but r h.used) ++ but r h.unused → length (r ∷ but r h.used) ≤ length met → IsDistinct is_same_number met →
+    → new ≡ (r ∷ without_register r h.used) ++ without_register r h.unused → length (r ∷ without_register r h.used) ≤ length met → IsDistinct is_same_number met →
     All (λ (v : VirtualRegister). (v.class ≡ class) × Contains names v) met
     → ((v : VirtualRegister) → Contains met v → (alloc_of t.places v.number ≢ NoPlace) ⊎ ((gone v.number ≡ true) ⊎ (v.number ≡ n))) →
     Taken names gone n r class new t after
 taken_here names gone n r class old new t inst_regs after met kept h ring few distinct of_class known = record {
-  used = r ∷ but r h.used;
-  unused = but r h.unused;
+  used = r ∷ without_register r h.used;
+  unused = without_register r h.unused;
   met = met;
   ring = ring;
   few = few;
@@ -114,9 +114,9 @@ taken_here names gone n r class old new t inst_regs after met kept h ring few di
   apart = but_not r h.unused;
 }
   where
-    apart : (q : Register) → Contains (but r h.unused) q → is_register r q ≡ false
+    apart : (q : Register) → Contains (without_register r h.unused) q → is_register r q ≡ false
     apart q c = elim (cases_Bool (is_register r q)) [
-      | inl e ↦ absurd (but_not r h.unused (subst (λ (x : Register). Contains (but r h.unused) x) (sym (is_register-true r q e)) c))
+      | inl e ↦ absurd (but_not r h.unused (subst (λ (x : Register). Contains (without_register r h.unused) x) (sym (is_register-true r q e)) c))
       | inr e ↦ e
     ]
 
@@ -161,11 +161,11 @@ is_left names gone v ring allocatable t inst_regs h lrus few nowhere there named
     omega (arith, most, long, split, less)
 
 -- a register that holds no other vreg is claimed: only the instruction's registers change
-pub occupied : (point : ℕ) (o : OperandRequest) (r : Register) (t u : InstRegs) (old new : StateValue) →
+pub claim_of_own_register : (point : ℕ) (o : OperandRequest) (r : Register) (t u : InstRegs) (old new : StateValue) →
     ((w : VirtualRegister) → vreg_of_preg old.places r ≡ Some w → w.number ≡ o.vreg.number) → ClaimsPlace point o (InRegister r) t u old new → (new ≡ old)
     × RemovesAvailable t u r o.positions
-occupied point o r t u old new only (in_slot k is sets same) = absurd cc
-occupied point o r t u old new only (in_register q m is clears holds) =
+claim_of_own_register point o r t u old new only (in_slot k is sets same) = absurd cc
+claim_of_own_register point o r t u old new only (in_register q m is clears holds) =
     let e : r ≡ q = same_register r q is in
     let c : (new ≡ old) × (m ≡ t) = by_clears q (λ w h. only w (ap (vreg_of_preg old.places) e ∙ h)) clears in
     (c.0, subst (λ (x : InstRegs). RemovesAvailable x u r o.positions) c.1 (subst (λ (x : Register). RemovesAvailable m u x o.positions) (sym e) holds))
@@ -193,7 +193,7 @@ pub record Got (names : List VirtualRegister) (gone : ℕ → Bool) (o : Operand
   pub allocatable : has_register old.allocatable register ≡ true
   pub same : SameButOrder old new
   pub stood_there : (alloc_of old.places o.vreg.number ≡ p) ⊎ (alloc_of old.places o.vreg.number ≡ NoPlace)
-  pub alone : (m : ℕ) → alloc_of old.places m ≡ InRegister register → m ≡ o.vreg.number
+  pub only_vreg : (m : ℕ) → alloc_of old.places m ≡ InRegister register → m ≡ o.vreg.number
   pub lrus : (class : RegClass) → IsLruOf old.allocatable class (order_of new class)
   pub each : (class : RegClass) → Taken names gone o.vreg.number register class (order_of new class) old u
 
@@ -222,7 +222,7 @@ each_taken : (names : List VirtualRegister) (gone : ℕ → Bool) (n : ℕ) (r :
     → ((class : RegClass) → IsLruOf old.allocatable class (order_of old class)) →
     ((q : Register) → is_register r q ≡ false → is_free_throughout inst_regs q ≡ true → is_free_throughout u q ≡ true)
     → ((class : RegClass) → IsSpillFreeIn names gone class (order_of old class) old inst_regs)
-    → (order_of new r.class ≡ r ∷ but r (order_of old r.class) → Taken names gone n r r.class (order_of new r.class) old u) → (class : RegClass) →
+    → (order_of new r.class ≡ r ∷ without_register r (order_of old r.class) → Taken names gone n r r.class (order_of new r.class) old u) → (class : RegClass) →
     Taken names gone n r class (order_of new class) old u
 each_taken names gone n r old new inst_regs u uses lrus kept each here class = elim (cases_class class r.class) [
   | inl e ↦ subst (λ (c : RegClass). Taken names gone n r c (order_of new c) old u) (sym e) (here uses.newest)
@@ -241,7 +241,7 @@ stays_there names gone o r p t u old new h is at allocatable small uses holds = 
   allocatable = allocatable;
   same = uses.rest;
   stood_there = inl at;
-  alone = λ m e. (whole_tidy old h.whole).apart m o.vreg.number r e (at ∙ is);
+  only_vreg = λ m e. (whole_tidy old h.whole).apart m o.vreg.number r e (at ∙ is);
   lrus = rings_kept r old new allocatable small uses h.lrus;
   each = each_taken names gone o.vreg.number r old new t u uses h.lrus (free_others t u r o.positions holds) h.each here;
 }
@@ -249,11 +249,11 @@ stays_there names gone o r p t u old new h is at allocatable small uses holds = 
     own_class : IsSpillFreeIn names gone r.class (order_of old r.class) old t
     own_class = h.each r.class
 
-    here : order_of new r.class ≡ r ∷ but r (order_of old r.class) → Taken names gone o.vreg.number r r.class (order_of new r.class) old u
+    here : order_of new r.class ≡ r ∷ without_register r (order_of old r.class) → Taken names gone o.vreg.number r r.class (order_of new r.class) old u
     here first =
         let was_used : Contains own_class.used r = in_used names gone o.vreg.number r r.class (order_of old r.class) old t own_class
         ((h.lrus r.class).all r small refl allocatable) (at ∙ is) in
-        let less : length (but r own_class.used) + 1 ≤ length own_class.used = but_less r own_class.used was_used in
+        let less : length (without_register r own_class.used) + 1 ≤ length own_class.used = but_less r own_class.used was_used in
         let few : length own_class.used ≤ length own_class.met = own_class.few in
         taken_here names gone o.vreg.number r r.class (order_of old r.class) (order_of new r.class) old t u own_class.met
         (free_others t u r o.positions holds) own_class
@@ -273,7 +273,7 @@ comes_there names gone o r p t u old new h is nowhere are_few named there unused
   allocatable = mine;
   same = uses.rest;
   stood_there = inr nowhere;
-  alone = λ m e. absurd (own_class.empty m r e unused);
+  only_vreg = λ m e. absurd (own_class.empty m r e unused);
   lrus = rings_kept r old new mine in_ring.1 uses h.lrus;
   each = each_taken names gone o.vreg.number r old new t u uses h.lrus (free_others t u r o.positions holds) h.each here;
 }
@@ -290,11 +290,11 @@ comes_there names gone o r p t u old new h is nowhere are_few named there unused
     mine : has_register old.allocatable r ≡ true
     mine = (h.lrus o.vreg.class).has r member
 
-    by_class : order_of new o.vreg.class ≡ r ∷ but r (order_of old o.vreg.class) →
+    by_class : order_of new o.vreg.class ≡ r ∷ without_register r (order_of old o.vreg.class) →
         Taken names gone o.vreg.number r o.vreg.class (order_of new o.vreg.class) old u
     by_class first =
         let more = one_more names gone o.vreg (order_of old o.vreg.class) old t own_class nowhere there named in
-        let most : length (but r own_class.used) ≤ length own_class.used = but_most r own_class.used in
+        let most : length (without_register r own_class.used) ≤ length own_class.used = but_most r own_class.used in
         let few : length own_class.used ≤ length own_class.met = own_class.few in
         taken_here names gone o.vreg.number r o.vreg.class (order_of old o.vreg.class) (order_of new o.vreg.class) old t u (o.vreg ∷ own_class.met)
         (free_others t u r o.positions holds) own_class
@@ -305,9 +305,9 @@ comes_there names gone o r p t u old new h is nowhere are_few named there unused
         known v (zero, less, at) = inr (inr (ap (λ (w : VirtualRegister). w.number) (sym at)))
         known v (suc k, less, at) = elim (own_class.known v (k, omega arith, at)) [ inl a ↦ inl a | inr b ↦ inr (inl b) ]
 
-    here : order_of new r.class ≡ r ∷ but r (order_of old r.class) → Taken names gone o.vreg.number r r.class (order_of new r.class) old u
+    here : order_of new r.class ≡ r ∷ without_register r (order_of old r.class) → Taken names gone o.vreg.number r r.class (order_of new r.class) old u
     here first = subst (λ (c : RegClass). Taken names gone o.vreg.number r c (order_of new c) old u) (sym in_ring.0)
-        (by_class (subst (λ (c : RegClass). order_of new c ≡ r ∷ but r (order_of old c)) in_ring.0 first))
+        (by_class (subst (λ (c : RegClass). order_of new c ≡ r ∷ without_register r (order_of old c)) in_ring.0 first))
 
 -- a place that meets `AnyReg` is a register that isn't on the stack
 meets_requirement_register : (t : StateValue) (p : Place) → MeetsRequirement t AnyReg p → (r : Register) × (p ≡ InRegister r) × (is_stack_in t p ≡ false)
@@ -340,7 +340,7 @@ operand_got {names} {gone} {point} {o} {p} {t} {u} {old} {new} any h few named t
     -- no other vreg is in the register
     claimed : (r : Register) → p ≡ InRegister r → ((w : VirtualRegister) → vreg_of_preg old.places r ≡ Some w → w.number ≡ o.vreg.number) →
         (taken.claimed ≡ old) × RemovesAvailable t u r o.positions
-    claimed r is only = occupied point o r t u old taken.claimed only (subst (λ (q : Place). ClaimsPlace point o q t u old taken.claimed) is taken.occupies)
+    claimed r is only = claim_of_own_register point o r t u old taken.claimed only (subst (λ (q : Place). ClaimsPlace point o q t u old taken.claimed) is taken.occupies)
 
     onward : (r : Register) → p ≡ InRegister r → has_register old.allocatable r ≡ true → (taken.claimed ≡ old) × RemovesAvailable t u r o.positions →
         (UsesReg r old new → RemovesAvailable t u r o.positions → Got names gone o p u old new) → Got names gone o p u old new

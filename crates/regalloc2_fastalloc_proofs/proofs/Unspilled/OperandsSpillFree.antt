@@ -73,7 +73,7 @@ class_settled names gone gone_now n r class ring t u inst_regs h others own grow
     ]
 
 -- the state once a step has set the vreg's location; left: the state once the register was taken
-settled : (names : List VirtualRegister) (gone gone_now : ℕ → Bool) (o : OperandRequest) (p : Place) (inst_regs after_turn : InstRegs)
+spill_free_after_location : (names : List VirtualRegister) (gone gone_now : ℕ → Bool) (o : OperandRequest) (p : Place) (inst_regs after_turn : InstRegs)
     (old left new : StateValue)
     → IsSpillFree names gone old inst_regs → Contains names o.vreg → (got : Got names gone o p after_turn old left) → IsWhole new →
     ((m : ℕ) → m ≢ o.vreg.number → alloc_of new.places m ≡ alloc_of old.places m)
@@ -81,7 +81,7 @@ settled : (names : List VirtualRegister) (gone gone_now : ℕ → Bool) (o : Ope
     ((m : ℕ) → gone m ≡ true → gone_now m ≡ true)
     → ((m : ℕ) → gone_now m ≡ true → alloc_of new.places m ≡ NoPlace) → new.edits ≡ old.edits → new.slots ≡ old.slots → SameMachine old new →
     new.lrus ≡ left.lrus → IsSpillFree names gone_now new after_turn
-settled names gone gone_now o p inst_regs after_turn old left new h named got whole others own grows nowhere edits slots machine order = record {
+spill_free_after_location names gone gone_now o p inst_regs after_turn old left new h named got whole others own grows nowhere edits slots machine order = record {
   no_moves = edits ∙ h.no_moves;
   no_slots = λ m. ap (λ s. slot_name s m) slots ∙ h.no_slots m;
   no_units = ap (λ s. s.count) slots ∙ h.no_units;
@@ -122,7 +122,7 @@ settled names gone gone_now o p inst_regs after_turn old left new h named got wh
     ]
 
 -- what an operand under `Reg` does
-pub record Placed (names : List VirtualRegister) (gone_now : ℕ → Bool) (n : ℕ) (p : Place) (is_def : Bool) (u : InstRegs) (old new : StateValue) : Type 0 where
+pub record PlacedInReg (names : List VirtualRegister) (gone_now : ℕ → Bool) (n : ℕ) (p : Place) (is_def : Bool) (u : InstRegs) (old new : StateValue) : Type 0 where
   pub spill_free : IsSpillFree names gone_now new u
   pub machine : new.allocatable ≡ old.allocatable
   pub there : p ≢ NoPlace
@@ -137,7 +137,7 @@ no_machine t u e = subst (SameMachine t) (sym e)
 -- a use
 use_placed : (names : List VirtualRegister) (gone : ℕ → Bool) (point : ℕ) (o : OperandRequest) (p : Place) (t u : InstRegs) (old new : StateValue) →
     o.requirement ≡ AnyReg → IsSpillFree names gone old t → FitInRegs names old.allocatable → Contains names o.vreg → gone o.vreg.number ≡ false →
-    AllocsUse point o p t u old new → Placed names gone o.vreg.number p false u old new
+    AllocsUse point o p t u old new → PlacedInReg names gone o.vreg.number p false u old new
 use_placed names gone point o p t u old new any h few named there places = by places.uses
   where
     taken : StateValue
@@ -161,11 +161,11 @@ use_placed names gone point o p t u old new any h few named there places = by pl
     same_at : (m : ℕ) → alloc_of taken.places m ≡ alloc_of old.places m
     same_at m = ap (λ (x : StateValue). alloc_of x.places m) got.same
 
-    by : LocatesUse o.vreg p taken new → Placed names gone o.vreg.number p false u old new
+    by : LocatesUse o.vreg p taken new → PlacedInReg names gone o.vreg.number p false u old new
     by (stays stood_somewhere same) =
         let at : alloc_of old.places o.vreg.number ≡ p = elim got.stood_there [ inl a ↦ a | inr b ↦ absurd (stood_somewhere (same_at o.vreg.number ∙ b)) ] in
         rw same (record {
-          spill_free = settled names gone gone o p t u old taken taken h named got whole_there (λ m ne. same_at m) (inl (same_at o.vreg.number ∙ at)) (λ m g. g)
+          spill_free = spill_free_after_location names gone gone o p t u old taken taken h named got whole_there (λ m ne. same_at m) (inl (same_at o.vreg.number ∙ at)) (λ m g. g)
               (λ m g. same_at m ∙ h.nowhere m g) (ap (λ (x : StateValue). x.edits) got.same) (ap (λ (x : StateValue). x.slots) got.same)
               (no_machine old taken got.same) refl;
           machine = ap (λ (x : StateValue). x.allocatable) got.same;
@@ -178,11 +178,11 @@ use_placed names gone point o p t u old new any h few named there places = by pl
         let there_none : alloc_of old.places o.vreg.number ≡ NoPlace = sym (same_at o.vreg.number) ∙ nowhere in
         let others : (m : ℕ) → m ≢ o.vreg.number → alloc_of new.places m ≡ alloc_of old.places m = λ m ne. settles.others m ne ∙ same_at m in
         let whole : IsWhole new = arrive_register taken new o.vreg nowhere slots whole_there got.register got.small
-        (λ x e. (let own : x ≡ o.vreg.number = got.alone x (sym (same_at x) ∙ e) in
+        (λ x e. (let own : x ≡ o.vreg.number = got.only_vreg x (sym (same_at x) ∙ e) in
         let wrong : NoPlace ≡ InRegister got.register = sym nowhere ∙ ap (alloc_of taken.places) (sym own) ∙ e in cc))
         (subst (SetsAlloc taken.places new.places o.vreg) got.is settles) in
         record {
-          spill_free = settled names gone gone o p t u old taken new h named got whole others (inl settles.here) (λ m g. g)
+          spill_free = spill_free_after_location names gone gone o p t u old taken new h named got whole others (inl settles.here) (λ m g. g)
               (λ m g. still_nowhere m g others) (edits ∙ ap (λ (x : StateValue). x.edits) got.same) (slots ∙ ap (λ (x : StateValue). x.slots) got.same)
               (same_then old taken new (no_machine old taken got.same) machine) order;
           machine = machine.allocatable ∙ ap (λ (x : StateValue). x.allocatable) got.same;
@@ -225,23 +225,23 @@ gone_from n gone m e = by (nat_eq n m) refl e
     by true e h = inr (eqb-true n m e)
     by false e h = inl h
 
-def_placed : (names : List VirtualRegister) (gone : ℕ → Bool) (point : ℕ) (o : OperandRequest) (is_ret : Bool) (p : Place) (t u : InstRegs)
+def_placed : (names : List VirtualRegister) (gone : ℕ → Bool) (point : ℕ) (o : OperandRequest) (ends_block : Bool) (p : Place) (t u : InstRegs)
     (old new : StateValue) → o.requirement ≡ AnyReg → IsSpillFree names gone old t → FitInRegs names old.allocatable → Contains names o.vreg →
-    gone o.vreg.number ≡ false → AllocsDefOp point o is_ret p t u old new → Placed names (and_gone o.vreg.number gone) o.vreg.number p true u old new
-def_placed names gone point o is_ret p t u old new any h few named there places =
-    let first = unsent_same point o.vreg.class (not is_ret && is_another (alloc_of taken.places o.vreg.number) p) p (alloc_of taken.places o.vreg.number)
-    places.inst_regs d.inst_regs d.left d.middle (no_other (not is_ret) (alloc_of taken.places o.vreg.number) p stood_there) d.awaited in
+    gone o.vreg.number ≡ false → AllocsDefOp point o ends_block p t u old new → PlacedInReg names (and_gone o.vreg.number gone) o.vreg.number p true u old new
+def_placed names gone point o ends_block p t u old new any h few named there places =
+    let first = unsent_same point o.vreg.class (not ends_block && is_another (alloc_of taken.places o.vreg.number) p) p (alloc_of taken.places o.vreg.number)
+    places.inst_regs d.inst_regs d.left d.middle (no_other (not ends_block) (alloc_of taken.places o.vreg.number) p stood_there) d.expected in
     let second = unsent_same point o.vreg.class
-    (not is_ret && (is_another (slot_name taken.slots o.vreg.number) p
+    (not ends_block && (is_another (slot_name taken.slots o.vreg.number) p
     && not (is_place (slot_name taken.slots o.vreg.number) (alloc_of taken.places o.vreg.number)))) p (slot_name taken.slots o.vreg.number) d.inst_regs u
     d.middle new
-    (nor_stored (not is_ret) (not (is_place (slot_name taken.slots o.vreg.number) (alloc_of taken.places o.vreg.number)))
+    (nor_stored (not ends_block) (not (is_place (slot_name taken.slots o.vreg.number) (alloc_of taken.places o.vreg.number)))
     (slot_name taken.slots o.vreg.number) p (ap (λ (x : StateValue). slot_name x.slots o.vreg.number) got.same ∙ h.no_slots o.vreg.number)) d.stored in
     let inst_regs : u ≡ places.inst_regs = second.0 ∙ first.0 in
     let same : new ≡ d.left = second.1 ∙ first.1 in
-    subst (λ (x : StateValue). Placed names (and_gone o.vreg.number gone) o.vreg.number p true u old x) (sym same)
-    (subst (λ (x : InstRegs). Placed names (and_gone o.vreg.number gone) o.vreg.number p true x old d.left) (sym inst_regs) (record {
-      spill_free = settled names gone (and_gone o.vreg.number gone) o p t places.inst_regs old taken d.left h named got
+    subst (λ (x : StateValue). PlacedInReg names (and_gone o.vreg.number gone) o.vreg.number p true u old x) (sym same)
+    (subst (λ (x : InstRegs). PlacedInReg names (and_gone o.vreg.number gone) o.vreg.number p true x old d.left) (sym inst_regs) (record {
+      spill_free = spill_free_after_location names gone (and_gone o.vreg.number gone) o p t places.inst_regs old taken d.left h named got
           (leave_whole taken d.left o.vreg d.settles d.slots (subst IsWhole (sym got.same) (whole_used old taken.lrus h.whole))) others
           (inr (d.settles.here, gone_here o.vreg.number gone)) (gone_grows o.vreg.number gone) still_nowhere
           (d.edits ∙ ap (λ (x : StateValue). x.edits) got.same) (d.slots ∙ ap (λ (x : StateValue). x.slots) got.same)
@@ -256,7 +256,7 @@ def_placed names gone point o is_ret p t u old new any h few named there places 
     taken : StateValue
     taken = places.middle
 
-    d : FreesAlloc point o.vreg is_ret p places.inst_regs u taken new
+    d : FreesAlloc point o.vreg ends_block p places.inst_regs u taken new
     d = places.defines
 
     got : Got names gone o p places.inst_regs old taken
@@ -277,14 +277,14 @@ def_placed names gone point o is_ret p t u old new any h few named there places 
       | inr ne ↦ others m ne ∙ elim (gone_from o.vreg.number gone m g) [ inl x ↦ h.nowhere m x | inr x ↦ absurd (ne (sym x)) ]
     ]
 
--- the operand k is placed, after those before it
+-- the operand k is placed, after the operands before it
 more_placed : (names : List VirtualRegister) (gone : ℕ → Bool) (operands : List OperandValue) (k : ℕ) (late d : Bool) (here there next : List Place) (p : Place)
     (old m n : StateValue) (u w : InstRegs) → ArePlain names gone operands late
     → k < length operands → length here ≡ length operands → is_late (op_at operands k).position ≡ late → is_def (op_at operands k).kind ≡ d →
     (h : ArePlaced names gone operands late k here there old m u) → next ≡ slice_set there k p
     → (gone_now : ℕ → Bool) → ((a : ℕ) → gone_now a ≡ true → (h.gone_now a ≡ true) ⊎ ((d ≡ true) × ((op_at operands k).vreg.number ≡ a))) →
     ((a : ℕ) → h.gone_now a ≡ true → gone_now a ≡ true) → (d ≡ true → gone_now (op_at operands k).vreg.number ≡ true)
-    → Placed names gone_now (op_at operands k).vreg.number p d w m n → ArePlaced names gone operands late (k + 1) here next old n w
+    → PlacedInReg names gone_now (op_at operands k).vreg.number p d w m n → ArePlaced names gone operands late (k + 1) here next old n w
 more_placed names gone operands k late d here there next p old m n u w plain lt here_long at kind h set_to gone_now from_gone to_gone def_gone
     placed = record {
       gone_now = gone_now;
@@ -346,14 +346,14 @@ more_placed names gone operands k late d here there next p old m n u w plain lt 
     ]
 
 -- processing an operand, whose place is a register that was taken
-pub processes_operand_placed_more : {names : List VirtualRegister} {gone : ℕ → Bool} {i : ℕ} {is_ret : Bool} {operands : List OperandValue} {k : ℕ}
+pub processes_operand_placed_more : {names : List VirtualRegister} {gone : ℕ → Bool} {i : ℕ} {ends_block : Bool} {operands : List OperandValue} {k : ℕ}
     {late : Bool}
     {here there next : List Place} {old m n : StateValue} {u w : InstRegs} → FitInRegs names old.allocatable → ArePlain names gone operands late →
     k < length operands → length here ≡ length operands →
     ((j : ℕ) → is_late (op_at operands j).position ≡ late → slice_index_or here j NoPlace ≡ NoPlace) → is_late (op_at operands k).position ≡ late →
-    ArePlaced names gone operands late k here there old m u → ProcessesOperand i is_ret operands k there next u w m n →
+    ArePlaced names gone operands late k here there old m u → ProcessesOperand i ends_block operands k there next u w m n →
     ArePlaced names gone operands late (k + 1) here next old n w
-processes_operand_placed_more {names} {gone} {i} {is_ret} {operands} {k} {late} {here} {there} {next} {old} {m} {n} {u} {w} few plain lt here_long blank at h
+processes_operand_placed_more {names} {gone} {i} {ends_block} {operands} {k} {late} {here} {there} {next} {old} {m} {n} {u} {w} few plain lt here_long blank at h
     one = by one
   where
     reg : (op_at operands k).constraint ≡ Reg
@@ -374,7 +374,7 @@ processes_operand_placed_more {names} {gone} {i} {is_ret} {operands} {k} {late} 
       | inr e ↦ e
     ]
 
-    by : ProcessesOperand i is_ret operands k there next u w m n → ArePlaced names gone operands late (k + 1) here next old n w
+    by : ProcessesOperand i ends_block operands k there next u w m n → ArePlaced names gone operands late (k + 1) here next old n w
     by (a_register r fixed is set_to inst_regs same) = absurd (let wrong : FixedReg r ≡ Reg = sym is ∙ reg in cc)
     by (a_use p reading places set_to) =
         let o : OperandRequest = use_request (op_at operands k) NoPlace in
@@ -388,7 +388,7 @@ processes_operand_placed_more {names} {gone} {i} {is_ret} {operands} {k} {late} 
         (and_gone (op_at operands k).vreg.number h.gone_now)
         (λ a g. elim (gone_from (op_at operands k).vreg.number h.gone_now a g) [ inl x ↦ inl x | inr x ↦ inr (refl, x) ])
         (gone_grows (op_at operands k).vreg.number h.gone_now) (λ e. gone_here (op_at operands k).vreg.number h.gone_now)
-        (def_placed names h.gone_now (after_point i) (def_request (op_at operands k)) is_ret p u w m n (ap requirement_of reg) h.spill_free few_now
+        (def_placed names h.gone_now (after_point i) (def_request (op_at operands k)) ends_block p u w m n (ap requirement_of reg) h.spill_free few_now
         (plain.named k lt) there_now places)
     by (a_reuse a p defines is places set_to) = absurd (let wrong : Reuse a ≡ Reg = sym is ∙ reg in cc)
 
@@ -432,11 +432,11 @@ none_placed_yet names gone operands late here old u h = record {
 }
 
 -- the first operands of a position are placed
-pub operands_placed : {names : List VirtualRegister} {gone : ℕ → Bool} {i : ℕ} {is_ret late : Bool} {operands : List OperandValue} {here : List Place}
+pub operands_placed : {names : List VirtualRegister} {gone : ℕ → Bool} {i : ℕ} {ends_block late : Bool} {operands : List OperandValue} {here : List Place}
     {t : InstRegs} {old : StateValue} {k : ℕ} {there : List Place} {u : InstRegs} {m : StateValue} → FitInRegs names old.allocatable →
     ArePlain names gone operands late → length here ≡ length operands →
     ((j : ℕ) → is_late (op_at operands j).position ≡ late → slice_index_or here j NoPlace ≡ NoPlace) → IsSpillFree names gone old t → k ≤ length operands →
-    ProcessesOperandsAt i is_ret late operands here t old k there u m → ArePlaced names gone operands late k here there old m u
+    ProcessesOperandsAt i ends_block late operands here t old k there u m → ArePlaced names gone operands late k here there old m u
 operands_placed {names} {gone} {late} {operands} {here} {t} {old} few plain long blank h le none_placed =
     none_placed_yet names gone operands late here old t h
 operands_placed {names} {gone} {late} {operands} {here} {old} few plain long blank h le (of_other k there u m before other) =

@@ -20,10 +20,10 @@ use Rattle.regalloc2_fastalloc_proofs.specs.BlockSteps.{AllocsBlocks, all_left, 
 use Rattle.regalloc2_fastalloc_proofs.proofs.Moves.ScratchRegTaken.{Fit}
 use Rattle.regalloc2_fastalloc_proofs.proofs.Walk.InstsCarry.{AreListed, Blank, at_start}
 use Rattle.regalloc2_fastalloc_proofs.proofs.Slots.StepsKeepSlots.{Grown, grown_none, grown_then, changes_grow}
-use Rattle.regalloc2_fastalloc_proofs.proofs.Inst.OneInstCarries.{Between}
-use Rattle.regalloc2_fastalloc_proofs.proofs.Walk.InstBoundaries.{IsEdge, IsWithin, grown_weaken, walk_grown, edge_next, kept_of}
+use Rattle.regalloc2_fastalloc_proofs.proofs.Inst.OneInstCarries.{IsBetweenInsts}
+use Rattle.regalloc2_fastalloc_proofs.proofs.Walk.InstBoundaries.{IsEdge, IsWithin, grown_weaken, walk_grown, edge_next, kept_code_of}
 use Rattle.regalloc2_fastalloc_proofs.proofs.Walk.LastInstAndRest.{walk_listed}
-use Rattle.regalloc2_fastalloc_proofs.proofs.Walk.BlockCarries.{CarryingContext, IsBelow, nothing_goes, block_carries}
+use Rattle.regalloc2_fastalloc_proofs.proofs.Walk.BlockCarries.{CarryingContext, ComesBefore, nothing_goes, block_carries}
 use Rattle.regalloc2_fastalloc_proofs.proofs.Walk.FunctionLaws.{code_of}
 use Rattle.regalloc2_fastalloc_proofs.proofs.Changes.WalkChanges.{begins_block_changes, any_begin}
 
@@ -39,7 +39,7 @@ module _ (carrying : CarryingContext) where
 
   -- each block from b on carries what paths require of it, with the edits of the whole walk
   pub all_carry : (b : ℕ) (places : List Place) (t : StateValue) → AllocsBlocks f blank begin b places t → (n : ℕ) → IsEdge f b n →
-      AreListed f placesf n places → Grown (IsBelow n) t final → (c : ℕ) → b ≤ c → c < length f.blocks → CarriesAt c
+      AreListed f placesf n places → Grown (ComesBefore n) t final → (c : ℕ) → b ≤ c → c < length f.blocks → CarriesAt c
   all_carry b places t all_left = λ n e are rest c le lc. absurd (omega (arith, le, lc))
   all_carry b places t (one_block d p q s u w lt prev walk begins) = λ n e are rest c le lc.
       let first : ℕ = (block_at f d).range.first in
@@ -47,18 +47,18 @@ module _ (carrying : CarryingContext) where
       let some : first < end = (follow d lt).0 in
       let here : n ≡ first = e.0 lt in
       let are_here : AreListed f placesf first q = subst (λ m. AreListed f placesf m q) here are in
-      let rest_here : Grown (IsBelow first) w final = subst (λ m. Grown (IsBelow m) w final) here rest in
+      let rest_here : Grown (ComesBefore first) w final = subst (λ m. Grown (ComesBefore m) w final) here rest in
       elim (cases_eq c d) [
         | inl same ↦ subst CarriesAt (sym same)
             (block_carries carrying
             (record { b = d; lb = lt; p = p; q = q; s = s; u = u; w = w; prev = prev; walk = walk; begins = begins }) are_here rest_here)
         | inr ne ↦ all_carry (d + 1) p s prev end (edge_next f follow d lt)
             (walk_listed (code_of (Made f) f proper kept follow ends placesf) final d lt p s first q u walk are_here)
-            (grown_then (IsBelow end) s u final (grown_weaken (IsWithin first end) (IsBelow end) s u (λ m h. h.1)
-            (walk_grown (kept_of (Made f) f proper kept) follow d lt p s first q u walk))
-            (grown_then (IsBelow end) u w final
-            (changes_grow (IsBelow end) (begins_block_changes (any_begin (λ e. IsBelow end e.0) f d (λ m r. omega (arith, some))) begins))
-            (grown_weaken (IsBelow first) (IsBelow end) w final (λ m h. omega (arith, h, some)) rest_here)))
+            (grown_then (ComesBefore end) s u final (grown_weaken (IsWithin first end) (ComesBefore end) s u (λ m h. h.1)
+            (walk_grown (kept_code_of (Made f) f proper kept) follow d lt p s first q u walk))
+            (grown_then (ComesBefore end) u w final
+            (changes_grow (ComesBefore end) (begins_block_changes (any_begin (λ e. ComesBefore end e.0) f d (λ m r. omega (arith, some))) begins))
+            (grown_weaken (ComesBefore first) (ComesBefore end) w final (λ m h. omega (arith, h, some)) rest_here)))
             c (omega (arith, le, ne)) lc
       ]
 
@@ -71,13 +71,13 @@ past_carries f out placesf stand b le = λ silent v used excused.
     let none : block_at f b ≡ no_block = get_or_past f.blocks b no_block le in
     let first : ℕ = (block_at f b).range.first in
     let many : (block_at f b).range.end - first ≡ 0 = ap (λ (x : BlockValue). x.range.end - x.range.first) none in
-    let nothing : walked (inst_at f) (at_point out.edits) placesf first ((block_at f b).range.end - first) ≡ [] =
+    let empty_listing : walked (inst_at f) (at_point out.edits) placesf first ((block_at f b).range.end - first) ≡ [] =
     ap (walked (inst_at f) (at_point out.edits) placesf first) many ∙ walked-none (inst_at f) (at_point out.edits) placesf first in
-    subst (λ l. Carries v l (ComesIn f stand b v) (GoesOut f stand b v)) (sym nothing)
+    subst (λ l. Carries v l (ComesIn f stand b v) (GoesOut f stand b v)) (sym empty_listing)
     (carries_nil v (ComesIn f stand b v) (GoesOut f stand b v) (λ p e. absurd (nothing_goes f stand b v p (ap (λ (x : BlockValue). x.succs) none) e)))
 
 -- The state before the walk, with fresh tables.
-pub begin_between : (f : FunctionValue) (begin : StateValue) → Blank begin → Fit begin → Between (length f.insts) begin
+pub begin_between : (f : FunctionValue) (begin : StateValue) → Blank begin → Fit begin → IsBetweenInsts (length f.insts) begin
 begin_between f begin empty fit = (let c = at_start (λ v. ⊥) (inst_at f) (λ j. []) (length f.insts) begin empty fit in
     record { whole = c.whole; later = c.later; fit = c.fit; apart = c.apart })
 
@@ -85,7 +85,7 @@ begin_between f begin empty fit = (let c = at_start (λ v. ⊥) (inst_at f) (λ 
 pub first_edge : (f : FunctionValue) → BlocksFollow f → 0 < length f.blocks → IsEdge f 0 0
 first_edge f follow some = (λ h. sym ((follow 0 h).1 refl), λ e. absurd (omega (arith, some, e)))
 
--- The walk's moves and places are those of an output. If a branch carries what it must, and every other instruction leaves slots to their vregs,
+-- An output has the walk's moves and places. If a branch carries what it must, and every other instruction leaves slots to their vregs,
 -- each block of the output carries what the lemma on paths requires.
 module _ (carrying : CarryingContext) (out : OutputValue) (some : 0 < length carrying.laws.f.blocks)
     (walks : AllocsBlocks carrying.laws.f carrying.blank carrying.begin 0 out.allocs carrying.final) (edits : out.edits ≡ listed carrying.final.edits)
@@ -102,9 +102,9 @@ module _ (carrying : CarryingContext) (out : OutputValue) (some : 0 < length car
   each_carries b lb =
       subst (λ es. BlockCarriesOn f stand b (walked (inst_at f) (at_point es) placesf (block_at f b).range.first
       ((block_at f b).range.end - (block_at f b).range.first))) (sym edits)
-      (all_carry carrying 0 out.allocs final walks 0 (first_edge f follow some) are_listed (grown_none (IsBelow 0) final final refl) b (omega arith) lb)
+      (all_carry carrying 0 out.allocs final walks 0 (first_edge f follow some) are_listed (grown_none (ComesBefore 0) final final refl) b (omega arith) lb)
 
-  -- and so does each block number past the last block
+  -- each block number carries, also past the last block
   pub all_blocks_carry : (b : ℕ) → BlockCarriesOn f stand b (listing b)
   all_blocks_carry b = elim (cases_lt b (length f.blocks)) [
     | inl lt ↦ each_carries b lt

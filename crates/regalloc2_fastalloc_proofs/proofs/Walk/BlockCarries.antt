@@ -37,18 +37,18 @@ use Rattle.regalloc2_fastalloc_proofs.proofs.Walk.InstsCarry.{AreListed}
 use Rattle.regalloc2_fastalloc_proofs.proofs.Slots.StepsKeepSlots.{Grown, grown_then, changes_grow, AnyPlace}
 use Rattle.regalloc2_fastalloc_proofs.proofs.Moves.StepsAppendEdits.{pushed_walked}
 use Rattle.regalloc2_fastalloc_proofs.proofs.BlockEnd.NoMoveForOperand.{IsEmpty, IsOutside}
-use Rattle.regalloc2_fastalloc_proofs.proofs.Inst.OneInstCarries.{Between, Alone, alone}
-use Rattle.regalloc2_fastalloc_proofs.proofs.Walk.InstForOneVReg.{Leaves}
+use Rattle.regalloc2_fastalloc_proofs.proofs.Inst.OneInstCarries.{IsBetweenInsts, CarriesByItself, carries_by_itself}
+use Rattle.regalloc2_fastalloc_proofs.proofs.Walk.InstForOneVReg.{LeavesOwnSlot}
 use Rattle.regalloc2_fastalloc_proofs.proofs.Walk.InstsBeforeLastCarry.{defined_from}
 use Rattle.regalloc2_fastalloc_proofs.proofs.Walk.BlockObligations.{Walked, block_owes}
 use Rattle.regalloc2_fastalloc_proofs.proofs.BlockEnd.LastInst.{return_owes}
 use Rattle.regalloc2_fastalloc_proofs.proofs.Operands.DefinedNumbers.{defined_by, defined_by-number, number_defined}
 use Rattle.regalloc2_fastalloc_proofs.proofs.BlockBegin.StoresOfDefs.{stores_branch_defs_grown, walked_stores}
 use Rattle.regalloc2_fastalloc_proofs.proofs.BlockBegin.BranchDefsCarried.{stores_branch_defs_carried}
-use Rattle.regalloc2_fastalloc_proofs.proofs.Branches.Arrivals.{IsNeeded, Arrive, DefsPlaced}
+use Rattle.regalloc2_fastalloc_proofs.proofs.Branches.Arrivals.{IsUsedBeyondBranch, Arrive, DefsPlaced}
 use Rattle.regalloc2_fastalloc_proofs.proofs.Branches.EdgeArgsGathered.{params_on, passes_at}
 use Rattle.regalloc2_fastalloc_proofs.proofs.Slots.LiveInHasSlot.{used_at_begin}
-use Rattle.regalloc2_fastalloc_proofs.proofs.Walk.InstBoundaries.{IsEdge, grown_weaken, grown_fresh, grown_pushes, kept_of}
+use Rattle.regalloc2_fastalloc_proofs.proofs.Walk.InstBoundaries.{IsEdge, grown_weaken, grown_fresh, grown_pushes, kept_code_of}
 use Rattle.regalloc2_fastalloc_proofs.proofs.Walk.InstBoundaries.{in_between, edge_next, allocs_blocks_between, allocs_blocks_settled, allocs_blocks_outside}
 use Rattle.regalloc2_fastalloc_proofs.proofs.Walk.DefsBeforeUses.{used_made, used_somewhere, param_before, written_there, stands_behind}
 use Rattle.regalloc2_fastalloc_proofs.proofs.Walk.LastInstAndRest.{Split, split, KeepsSlots, leaves_at}
@@ -60,15 +60,15 @@ use Rattle.regalloc2_fastalloc_proofs.proofs.Changes.WalkChanges.{begins_block_c
 abbrev pub writes_in : FunctionValue → ℕ → ℕ → ℕ → Bool
 writes_in f b last x = defined_from f x (block_at f b).range.first (suc (last - (block_at f b).range.first))
 
--- What holds at a block's end, with the tables after its last instruction and those before it; F: the slots at the walk's end.
+-- What holds at a block's end, with the tables after and before its last instruction; F: the slots at the walk's end.
 pub record BlockEnd (f : FunctionValue) (placesf : ℕ → List Place) (F : ℕ → Option Place) (b last : ℕ) (old new : StateValue) : Type 0 where
   pub end : last + 1 ≡ (block_at f b).range.end
   pub blank : List Place
   pub places : List Place
   pub allocates : AllocsInstInBlock f b last blank places old new
   pub at : (k : ℕ) → k < length (inst_at f last).operands → place_at (placesf last) k ≡ slice_index_or allocates.allocates.here k NoPlace
-  pub between : Between (last + 1) old
-  pub settled : (x : ℕ) → (place_in old x ≡ NoPlace) ⊎ ((k : ℕ) × (place_in old x ≡ InSlot k) × (slot_in old x ≡ InSlot k))
+  pub between : IsBetweenInsts (last + 1) old
+  pub in_slot_or_nowhere : (x : ℕ) → (place_in old x ≡ NoPlace) ⊎ ((k : ℕ) × (place_in old x ≡ InSlot k) × (slot_in old x ≡ InSlot k))
   pub stays : (x : ℕ) (p : Place) → slots_at new x ≡ Some p → F x ≡ Some p
   pub fresh : (x k : ℕ) → slots_at new x ≡ None → F x ≡ Some (InSlot k) → new.slots.count ≤ k
   pub own : (x y n : ℕ) → F x ≡ Some (InSlot n) → F y ≡ Some (InSlot n) → x ≡ y
@@ -97,12 +97,12 @@ nothing_goes f stand b v p none (inl own) = (let edge = own.1 in let n : length 
 nothing_goes f stand b v p none (inr passed) = (let edge = passed.2 in let n : length (block_at f b).succs ≡ 0 = ap length none in omega (arith, edge, n))
 
 -- a vreg that a branch defines and only its own edges pass on
-abbrev pub IsUnused : FunctionValue → VirtualRegister → Type 0
-IsUnused f v = (b e k : ℕ) × IsEdgeInto f b e k × IsOwnDef f e v × (IsUsedElsewhere f v → ⊥)
+abbrev pub IsPassedOnly : FunctionValue → VirtualRegister → Type 0
+IsPassedOnly f v = (b e k : ℕ) × IsEdgeInto f b e k × IsOwnDef f e v × (IsUsedElsewhere f v → ⊥)
 
 -- points before an instruction
-abbrev pub IsBelow : ℕ → ℕ → Type 0
-IsBelow i p = p < before i
+abbrev pub ComesBefore : ℕ → ℕ → Type 0
+ComesBefore i p = p < before i
 
 -- The context for blocks to carry each vreg: the function's properties; the places of operands and the final tables, whose slots all instructions keep if the
 -- tables are safe (SafeIn); where vregs are at block starts, and what edges bring there; branches that carry; and the fresh tables from which
@@ -120,11 +120,11 @@ pub record CarryingContext : Type 1 where
   pub placed : (b e k : ℕ) → IsEdgeInto f b e k → DefsPlaced f placesf (slots_at final) e
   pub one_edge_into : (b e k d l : ℕ) → IsEdgeInto f b e k → IsEdgeInto f b d l → (d ≡ e) × (l ≡ k)
   pub concerned : (b e k : ℕ) (v : VirtualRegister) → IsEdgeInto f b e k → IsConcerned f e k v → Made f v
-  pub decide : (v : VirtualRegister) → IsUsed f v → IsNeeded f v ⊎ IsUnused f v
+  pub decide : (v : VirtualRegister) → IsUsed f v → IsUsedBeyondBranch f v ⊎ IsPassedOnly f v
   pub branches : BranchCarries f placesf (slots_at final) stand
   pub blank : List Place
   pub begin : StateValue
-  pub start : Between (length f.insts) begin
+  pub start : IsBetweenInsts (length f.insts) begin
   pub empty : IsEmpty begin
   pub safe : (b : ℕ) → b < length f.blocks → (p : List Place) (s : StateValue) → AllocsBlocks f blank begin (b + 1) p s → (i : ℕ) (q : List Place)
       (u : StateValue) → AllocsBlockInsts f b p s i q u → AreListed f placesf i q → SafeIn b u
@@ -145,10 +145,10 @@ module _ (carrying : CarryingContext) where
   slot_own x y n a b = whole.own x y n (opt_from (slot_in final x) (InSlot n) a) (opt_from (slot_in final y) (InSlot n) b)
 
   abbrev each_leaves : ℕ → StateValue → StateValue → Type 0
-  each_leaves i s u = (v : VirtualRegister) → Made f v → Leaves f placesf (slots_at final) v i s u
+  each_leaves i s u = (v : VirtualRegister) → Made f v → LeavesOwnSlot f placesf (slots_at final) v i s u
 
   module _ (at : BlockInWalk f blank begin) (are_listed : AreListed f placesf (block_at f at.b).range.first at.q)
-      (rest : Grown (IsBelow (block_at f at.b).range.first) at.w final) where
+      (rest : Grown (ComesBefore (block_at f at.b).range.first) at.w final) where
     open at use {b, lb, p, q, s, u, w, prev, walk, begins}
 
     abbrev last : ℕ
@@ -170,14 +170,14 @@ module _ (carrying : CarryingContext) where
     within = (let h = ends_within f follow b lb in let e = ended in omega (arith, h, e))
 
     -- the tables after its last instruction
-    behind : Between (last + 1) s
-    behind = allocs_blocks_between (kept_of (Made f) f proper kept) follow blank begin start (b + 1) p s prev (last + 1)
+    behind : IsBetweenInsts (last + 1) s
+    behind = allocs_blocks_between (kept_code_of (Made f) f proper kept) follow blank begin start (b + 1) p s prev (last + 1)
         (subst (IsEdge f (b + 1)) (sym ended) (edge_next f follow b lb))
 
     -- from the block's first instruction to the walk's end
     onward : Grown AnyPlace u final
     onward = grown_then AnyPlace u w final (changes_grow AnyPlace (begins_block_changes (any_begin (λ e. AnyPlace e.0) f b (λ n r. tt)) begins))
-        (grown_weaken (IsBelow (block_at f b).range.first) AnyPlace w final (λ n x. tt) rest)
+        (grown_weaken (ComesBefore (block_at f b).range.first) AnyPlace w final (λ n x. tt) rest)
 
     parts : Split f placesf each_leaves final b last s (block_at f b).range.first u
     parts = split code final b lb p s each_leaves
@@ -185,11 +185,11 @@ module _ (carrying : CarryingContext) where
         (safe b lb p s prev i q y walked_to listed_to) g h)
         (block_at f b).range.first q u walk some are_listed onward
 
-    before_last : Between last parts.begin
-    before_last = in_between (kept_of (Made f) f proper kept) b last parts.blank parts.places s parts.begin within parts.ends behind
+    before_last : IsBetweenInsts last parts.begin
+    before_last = in_between (kept_code_of (Made f) f proper kept) b last parts.blank parts.places s parts.begin within parts.ends behind
 
-    settled : (x : ℕ) → (place_in s x ≡ NoPlace) ⊎ ((k : ℕ) × (place_in s x ≡ InSlot k) × (slot_in s x ≡ InSlot k))
-    settled = allocs_blocks_settled (kept_of (Made f) f proper kept) follow blank begin start empty.nowhere (b + 1) p s prev
+    in_slot_or_nowhere : (x : ℕ) → (place_in s x ≡ NoPlace) ⊎ ((k : ℕ) × (place_in s x ≡ InSlot k) × (slot_in s x ≡ InSlot k))
+    in_slot_or_nowhere = allocs_blocks_settled (kept_code_of (Made f) f proper kept) follow blank begin start empty.nowhere (b + 1) p s prev
 
     at_block_end : BlockEnd f placesf (slots_at final) b last s parts.begin
     at_block_end = record {
@@ -199,29 +199,29 @@ module _ (carrying : CarryingContext) where
       allocates = parts.ends;
       at = parts.at;
       between = behind;
-      settled = settled;
+      in_slot_or_nowhere = in_slot_or_nowhere;
       stays = grown_slots AnyPlace parts.begin final parts.rest;
       fresh = λ x k none is. grown_fresh AnyPlace parts.begin final parts.rest before_last.whole x k none is;
       own = slot_own;
       only_slots = slot_only;
-      bare = allocs_blocks_outside (kept_of (Made f) f proper kept) follow blank begin start empty (b + 1) p s prev;
+      bare = allocs_blocks_outside (kept_code_of (Made f) f proper kept) follow blank begin start empty (b + 1) p s prev;
       writes = λ v made is. written_there carrying.laws b lb v (suc (last - (block_at f b).range.first)) count is made;
       lives = λ v is c lc ne used. stands_behind carrying.laws b lb v (suc (last - (block_at f b).range.first)) count is c
           lc ne used start prev;
     }
 
-    -- its last instruction
+    -- the block's last instruction carries what the block needs at its end
     end_carries : EndCarries f placesf (slots_at final) stand b last parts.begin
     end_carries = elim (ends b lb).0 [
       | inl branch ↦ branches b last s parts.begin lb at_block_end branch.0
       | inr ret ↦ λ silent v used excused. (
-          let a : Alone (proper_of (Made f) f placesf proper) last s parts.ends.middle =
-          alone (proper_of (Made f) f placesf proper) last parts.ends.allocates.blank parts.ends.allocates.here s parts.ends.middle within parts.at behind
+          let a : CarriesByItself (proper_of (Made f) f placesf proper) last s parts.ends.middle =
+          carries_by_itself (proper_of (Made f) f placesf proper) last parts.ends.allocates.blank parts.ends.allocates.here s parts.ends.middle within parts.at behind
           parts.ends.allocates.allocates in
           let there = used_somewhere f v used in
           return_owes (proper_of (Made f) f placesf proper) (slots_at final) last s parts.begin v (used_made f once follow uses v there.0 there.1 there.2)
           (writes_in f b last v.number)
-          (GoesOut f stand b v) (subst (Alone (proper_of (Made f) f placesf proper) last s) (sym (parts.ends.no_branch ret.0)) a)
+          (GoesOut f stand b v) (subst (CarriesByItself (proper_of (Made f) f placesf proper) last s) (sym (parts.ends.no_branch ret.0)) a)
           (rw (ret.0, ret.1) refl)
           (λ x e. nothing_goes f stand b v x (nil_from_length (block_at f b).succs ret.2) e))
     ]
@@ -229,7 +229,7 @@ module _ (carrying : CarryingContext) where
     -- from the reloads at its start to the walk's end
     from_middle : Grown AnyPlace begins.middle final
     from_middle = grown_then AnyPlace begins.middle w final (stores_branch_defs_grown AnyPlace f b begins.middle w tt begins.stores)
-        (grown_weaken (IsBelow (block_at f b).range.first) AnyPlace w final (λ n x. tt) rest)
+        (grown_weaken (ComesBefore (block_at f b).range.first) AnyPlace w final (λ n x. tt) rest)
 
     all_walked : Walked (proper_of (Made f) f placesf proper) once reads (slots_at final) slot_only b last parts.begin u begins.middle
     all_walked = record {
@@ -250,7 +250,7 @@ module _ (carrying : CarryingContext) where
     abbrev Listing : StateValue → List Item
     Listing t = walked (inst_at f) (at_point (listed t.edits)) placesf first (suc (last - first))
 
-    -- with its reloads
+    -- the block carries with the reloads at its start
     reloaded : ExcusedAreSilent f b → (v : VirtualRegister) → IsUsed f v → (IsExcused f b v → ⊥) →
         Carries v (Listing begins.middle) (StandsBefore f (λ x. slots_at final x.number) b v) (GoesOut f stand b v)
     reloaded silent v used excused =
@@ -269,7 +269,7 @@ module _ (carrying : CarryingContext) where
         (carries_moves v (store_moves st.stores) (Listing begins.middle) (λ p. ⊥) (λ p. ⊥) E (λ src c2 holds p h. absurd h) c)
 
     -- a vreg that is passed only by the branch that defines it
-    unused_carries : ExcusedAreSilent f b → (v : VirtualRegister) → IsUsed f v → (IsExcused f b v → ⊥) → IsUnused f v →
+    unused_carries : ExcusedAreSilent f b → (v : VirtualRegister) → IsUsed f v → (IsExcused f b v → ⊥) → IsPassedOnly f v →
         Carries v (Listing w) (ComesIn f stand b v) (GoesOut f stand b v)
     unused_carries silent v used excused un =
         carries_weaken v (Listing w) (λ p. ⊥) (ComesIn f stand b v) (GoesOut f stand b v) (GoesOut f stand b v) (λ p h. absurd h) (λ p h. h)
@@ -363,7 +363,7 @@ module _ (carrying : CarryingContext) where
             lb = lb;
             middle = begins.middle;
             new = w;
-            stays = grown_slots (IsBelow first) w final rest;
+            stays = grown_slots (ComesBefore first) w final rest;
             placed = λ e k edge. placed b e k edge;
             v = v;
             made = made;
@@ -375,7 +375,7 @@ module _ (carrying : CarryingContext) where
           | inr un ↦ unused_carries silent v used excused un
         ] in
         let same : walked (inst_at f) (at_point (listed final.edits)) placesf first n ≡ walked (inst_at f) (at_point (listed w.edits)) placesf first n =
-        pushed_walked (λ e. IsBelow first e.0) (inst_at f) placesf first n w.edits final.edits (λ e h. h) (grown_pushes (IsBelow first) w final rest) in
+        pushed_walked (λ e. ComesBefore first e.0) (inst_at f) placesf first n w.edits final.edits (λ e h. h) (grown_pushes (ComesBefore first) w final rest) in
         let many : n ≡ (block_at f b).range.end - first = (let h = count in omega (arith, h)) in
         subst (λ m. Carries v (walked (inst_at f) (at_point (listed final.edits)) placesf first m) (ComesIn f stand b v) (GoesOut f stand b v)) many
         (subst (λ l. Carries v l (ComesIn f stand b v) (GoesOut f stand b v)) (sym same) c)

@@ -1,4 +1,4 @@
--- What the lemma on paths requires of a block, from its last instruction, those before it and its start.
+-- What the lemma on paths requires of a block, from its last instruction, the instructions before it and its start.
 use Rattle.std.proofs.Common.{ℕ, zero, suc, ◌≡◌, ◌+◌, ◌-◌, ◌<◌, ◌≤◌, inl, inr, Bool, true, false, length, ap, subst, arith}
 use Rattle.std.specs.Prelude.{Option, Some}
 use Rattle.std.proofs.lemmas.Bool.{cases_eq, or_cases, or_parts}
@@ -19,8 +19,8 @@ use Rattle.regalloc2_fastalloc_proofs.specs.InstSteps.{StateValue, ends_block}
 use Rattle.regalloc2_fastalloc_proofs.specs.BlockStart.{ReloadsAtBegin}
 use Rattle.regalloc2_fastalloc_proofs.proofs.Operands.RecordOverState.{stands_at, slots_at}
 use Rattle.regalloc2_fastalloc_proofs.proofs.Operands.DefinedNumbers.{defined_by, defined_by-some}
-use Rattle.regalloc2_fastalloc_proofs.proofs.Inst.OneInstCarries.{Between}
-use Rattle.regalloc2_fastalloc_proofs.proofs.Walk.InstForOneVReg.{Leaves, undefined_by}
+use Rattle.regalloc2_fastalloc_proofs.proofs.Inst.OneInstCarries.{IsBetweenInsts}
+use Rattle.regalloc2_fastalloc_proofs.proofs.Walk.InstForOneVReg.{LeavesOwnSlot, undefined_by}
 use Rattle.regalloc2_fastalloc_proofs.proofs.Walk.InstsBeforeLastCarry.{defined_from, Goes, goes_between, goes_carried}
 use Rattle.regalloc2_fastalloc_proofs.proofs.BlockBegin.CarriesFromSlot.{entered_carried}
 use Rattle.regalloc2_fastalloc_proofs.proofs.Inst.ProperInsts.{ProperCode}
@@ -70,14 +70,14 @@ module _ (code : ProperCode) (once : DefinedOnce code.f) (reads : (i : ℕ) → 
 
   -- each instruction leaves slots, made so far or later, to their own vregs
   abbrev pub EachLeaves : ℕ → StateValue → StateValue → Type 0
-  EachLeaves i t u = (v : VirtualRegister) → Known v → Leaves f placesf F v i t u
+  EachLeaves i t u = (v : VirtualRegister) → Known v → LeavesOwnSlot f placesf F v i t u
 
   -- The walk over the block b: after its last instruction the tables are begin, before its first one middle, and at its start new.
   pub record Walked (last : ℕ) (begin middle new : StateValue) : Type 0 where
     pub end : last + 1 ≡ (block_at f b).range.end
     pub some : first_of ≤ last
     pub within : last < length f.insts
-    pub start : Between last begin
+    pub start : IsBetweenInsts last begin
     pub goes : Goes f placesf EachLeaves begin first_of last first_of middle
     pub begins : ReloadsAtBegin (before first_of) (block_at f b).params middle new
     pub returns : (i : ℕ) → first_of ≤ i → i < last → ends_block (inst_at f i) ≡ false
@@ -99,7 +99,7 @@ module _ (code : ProperCode) (once : DefinedOnce code.f) (reads : (i : ℕ) → 
     block_owes c =
         let some : first_of ≤ last = w.some in
         let within : last < length f.insts = w.within in
-        let between : Between first_of middle = goes_between code EachLeaves begin first_of last (omega (arith, within)) w.start
+        let between : IsBetweenInsts first_of middle = goes_between code EachLeaves begin first_of last (omega (arith, within)) w.start
         first_of middle w.goes in
         let carried : Carries v (walked (inst_at f) (at_point (listed middle.edits)) placesf first_of (suc (last - first_of)))
         (Relied written written (stands_at middle v.number) (slots_at middle v.number) (F v.number)) E =

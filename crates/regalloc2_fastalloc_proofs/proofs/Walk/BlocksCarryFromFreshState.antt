@@ -24,14 +24,14 @@ use Rattle.regalloc2_fastalloc_proofs.specs.BlockSteps.{AllocsBlockInsts, Allocs
 use Rattle.regalloc2_fastalloc_proofs.proofs.Operands.RecordOverState.{slots_at}
 use Rattle.regalloc2_fastalloc_proofs.proofs.Operands.AllocsSoFar.{IsGood}
 use Rattle.regalloc2_fastalloc_proofs.proofs.Walk.InstsCarry.{AreListed}
-use Rattle.regalloc2_fastalloc_proofs.proofs.Inst.OneInstCarries.{Between}
+use Rattle.regalloc2_fastalloc_proofs.proofs.Inst.OneInstCarries.{IsBetweenInsts}
 use Rattle.regalloc2_fastalloc_proofs.proofs.Safety.InstsKeepSafe.{HasGood}
-use Rattle.regalloc2_fastalloc_proofs.proofs.Walk.InstBoundaries.{BranchKept, allocs_blocks_between, allocs_blocks_outside, kept_of}
+use Rattle.regalloc2_fastalloc_proofs.proofs.Walk.InstBoundaries.{BranchKept, allocs_blocks_between, allocs_blocks_outside, kept_code_of}
 use Rattle.regalloc2_fastalloc_proofs.proofs.Branches.LocationsAfterBranch.{branch_kept}
 use Rattle.regalloc2_fastalloc_proofs.proofs.Walk.DefsBeforeUses.{used_made}
 use Rattle.regalloc2_fastalloc_proofs.proofs.Walk.BranchesPlaceDefs.{last_allocated, defs_placed}
 use Rattle.regalloc2_fastalloc_proofs.proofs.Branches.Arrivals.{Arrive, DefsPlaced}
-use Rattle.regalloc2_fastalloc_proofs.proofs.Branches.PlacesOnArrival.{stand_on, arrives, needed_or_unused}
+use Rattle.regalloc2_fastalloc_proofs.proofs.Branches.PlacesOnArrival.{stand_on, vregs_arrive, needed_or_unused}
 use Rattle.regalloc2_fastalloc_proofs.proofs.Branches.EdgesInto.{one_edge_into}
 use Rattle.regalloc2_fastalloc_proofs.proofs.Branches.BranchInWalk.{branches_carry}
 use Rattle.regalloc2_fastalloc_proofs.proofs.Safety.StoredDefs.{concerned_made, last_within}
@@ -53,7 +53,7 @@ module _ (env : MachineValue) (f : FunctionValue) (limited : IsLimited f) (ok : 
   some_block = (let e : f.entry < length f.blocks = ok.successors.0 in omega (arith, e))
 
 module _ (walk : WholeWalk)
-    (between : (b i : ℕ) (t u : InstRegs) (old new : StateValue) → ProcessesBranch walk.f b i t u old new → Between i old → Between i new) where
+    (between : (b i : ℕ) (t u : InstRegs) (old new : StateValue) → ProcessesBranch walk.f b i t u old new → IsBetweenInsts i old → IsBetweenInsts i new) where
   open walk use {env, f, limited, ok, blank, begin, last, out, empty, fit, walks}
 
   branch : BranchKept f
@@ -68,8 +68,8 @@ module _ (walk : WholeWalk)
   laws = laws_of f ok.defined_once ok.follow ok.end ok.uses_defined ok.counted (all_proper env f limited ok) branch
 
   -- the invariant between instructions holds at the walk's end
-  pub at_walks_end : Between 0 last
-  at_walks_end = allocs_blocks_between (kept_of (Made f) f (all_proper env f limited ok) branch) ok.follow blank begin (begin_between f begin empty fit) 0
+  pub at_walks_end : IsBetweenInsts 0 last
+  at_walks_end = allocs_blocks_between (kept_code_of (Made f) f (all_proper env f limited ok) branch) ok.follow blank begin (begin_between f begin empty fit) 0
       out.allocs
       last
       walks 0 (first_edge f ok.follow (some_block env f limited ok))
@@ -88,7 +88,7 @@ module _ (walk : WholeWalk)
       (λ i k lt less. subst (IsGood env last.slots (op_at (inst_at f i).operands k)) (sym (are_listed i (omega arith) lt k less)) (good i k lt less).good)
       places b lb is_branch
       (last_allocated code blank begin
-      (allocs_blocks_outside (kept_of (Made f) f (all_proper env f limited ok) branch) ok.follow blank begin (begin_between f begin empty fit)
+      (allocs_blocks_outside (kept_code_of (Made f) f (all_proper env f limited ok) branch) ok.follow blank begin (begin_between f begin empty fit)
       (record { nowhere = empty.nowhere; nobody = empty.nobody })) 0 out.allocs last walks 0 (first_edge f ok.follow (some_block env f limited ok)) are_listed
       b (omega arith)
       lb)
@@ -103,7 +103,7 @@ module _ (walk : WholeWalk)
       → AreTaken f → ((i : ℕ) → i < length f.insts → BranchDefinesInPlace (inst_at f i))
       → (b : ℕ) → BlockCarriesOn f standing b (block_walked f out b)
   blocks_carry edits are_listed Writes May safe good sound taken places =
-      let arrive : Arrive f (allocs_of out) (slots_at last) standing = arrives env f ok (allocs_of out) (slots_at last) in
+      let arrive : Arrive f (allocs_of out) (slots_at last) standing = vregs_arrive env f ok (allocs_of out) (slots_at last) in
       let placed : (b : ℕ) → b < length f.blocks → (inst_at f (last_of (block_at f b))).is_branch ≡ true → DefsPlaced f (allocs_of out) (slots_at last) b
       = walk_places_defs are_listed good taken places in
       let carrying : CarryingContext = record {
@@ -136,7 +136,7 @@ module _ (walk : WholeWalk)
       u.block u.within v u.unwritten u.used
       0 out.allocs last walks (omega arith)
 
-  -- and so has a vreg that is passed as an argument, and not defined by the branch
+  -- a vreg that is passed as an argument, and not defined by the branch, has a slot
   pub handed_slots : (v : VirtualRegister) (b k : ℕ) → b < length f.blocks → k < length (block_at f b).succs → Contains (arguments_at f b k) v →
       (IsOwnDef f b v → ⊥) → slot_in last v.number ≢ NoPlace
   handed_slots v b k lb edge has foreign =

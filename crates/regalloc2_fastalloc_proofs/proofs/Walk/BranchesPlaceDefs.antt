@@ -15,18 +15,18 @@ use Rattle.regalloc2_semantics.proofs.Order.{ends_within}
 use Rattle.regalloc2_semantics.proofs.SingleDef.{Made}
 use Rattle.regalloc2_fastalloc_state.specs.Validate.Constraints.{BranchDefinesInPlace, IsInPlace}
 use Rattle.regalloc2_fastalloc_state.specs.Validate.NoLimits.{AreTaken}
-use Rattle.regalloc2_steps.specs.Positions.{positions_of}
+use Rattle.regalloc2_fastalloc_state.specs.Positions.{positions_of}
 use Rattle.regalloc2_fastalloc_proofs.specs.InstSteps.{StateValue, AllocsInst, NeedsFixedReg, ends_block}
 use Rattle.regalloc2_fastalloc_proofs.specs.StoreSteps.{branch_operands}
 use Rattle.regalloc2_fastalloc_proofs.specs.BlockSteps.{AllocsBlockInsts, at_end, one_in, AllocsBlocks, all_left, one_block}
 use Rattle.regalloc2_fastalloc_proofs.specs.Safety.{MayBeLocatedAt}
-use Rattle.regalloc2_fastalloc_proofs.proofs.Operands.AllocsSoFar.{IsTame, IsGood, MeetsAlone}
+use Rattle.regalloc2_fastalloc_proofs.proofs.Operands.AllocsSoFar.{AreSoundOperands, IsGood, MeetsByItself}
 use Rattle.regalloc2_fastalloc_proofs.proofs.Operands.RecordOverState.{opt, slots_at}
 use Rattle.regalloc2_fastalloc_proofs.proofs.BlockEnd.NoMoveForOperand.{IsOutside}
 use Rattle.regalloc2_fastalloc_proofs.proofs.BlockEnd.DefsInSlots.{IsAnyOrStack, defs_in_slots}
 use Rattle.regalloc2_fastalloc_proofs.proofs.Branches.Arrivals.{DefsPlaced, left_at}
 use Rattle.regalloc2_fastalloc_proofs.proofs.Safety.StoredDefs.{last_within}
-use Rattle.regalloc2_fastalloc_proofs.proofs.Safety.WellFormedKeepsSafe.{tame_at}
+use Rattle.regalloc2_fastalloc_proofs.proofs.Safety.WellFormedKeepsSafe.{sound_ops_at}
 use Rattle.regalloc2_fastalloc_proofs.proofs.Walk.InstsCarry.{AreListed}
 use Rattle.regalloc2_fastalloc_proofs.proofs.Walk.InstBoundaries.{IsEdge, edge_next}
 use Rattle.regalloc2_fastalloc_proofs.proofs.Walk.LastInstAndRest.{listed_behind, walk_listed}
@@ -99,18 +99,18 @@ in_place (FixedReg r) h nay = inl (r, refl)
 in_place (Reuse n) h nay = absurd h
 in_place (Limit n) h nay = absurd (nay n refl)
 
--- The same for each branch allocated this way, if it defines in known places and each operand has a good place at the walk's end.
+-- Each branch leaves its definitions in known places, if it defines in known places and each operand has a good place at the walk's end.
 pub defs_placed : (env : MachineValue) (f : FunctionValue) → IsLimited f → IsWellFormed env f → AreTaken f → (placesf : ℕ → List Place) (final : StateValue) →
     ((i k : ℕ) → i < length f.insts → k < length (inst_at f i).operands → IsGood env final.slots (op_at (inst_at f i).operands k) (place_at (placesf i) k)) →
     ((i : ℕ) → i < length f.insts → BranchDefinesInPlace (inst_at f i)) → (e : ℕ) → e < length f.blocks →
     (inst_at f (last_of (block_at f e))).is_branch ≡ true → LastAllocated f placesf e → DefsPlaced f placesf (slots_at final) e
 defs_placed env f limited ok taken placesf final good places e le branch m = record {
-  kinds = λ j lt def. in_place (op_at (branch_operands f e) j).constraint (places last within branch j lt def) (λ n. tame.unlimited j n lt);
-  fixed = λ j r lt def at. subst (λ c. MeetsAlone env c (left_at f placesf e j)) at (good last j within lt).meets;
-  slotted = λ j lt def kind. in_slot j lt def kind (left_at f placesf e j) refl ((good last j within lt).place (tame.allocated j lt def));
+  kinds = λ j lt def. in_place (op_at (branch_operands f e) j).constraint (places last within branch j lt def) (λ n. sound_ops.unlimited j n lt);
+  fixed = λ j r lt def at. subst (λ c. MeetsByItself env c (left_at f placesf e j)) at (good last j within lt).meets;
+  slotted = λ j lt def kind. in_slot j lt def kind (left_at f placesf e j) refl ((good last j within lt).place (sound_ops.allocated j lt def));
   apart = λ j k r lj lk dj dk at_j at_k. m.allocates.prepares.reserves.apart j k r (positions_of (op_at (branch_operands f e) j))
-      (positions_of (op_at (branch_operands f e) k)) lj lk (NeedsFixedReg.own (tame.allocated j lj dj) at_j refl)
-      (NeedsFixedReg.own (tame.allocated k lk dk) at_k refl) (both_late (op_at (branch_operands f e) j) (op_at (branch_operands f e) k) dj dk);
+      (positions_of (op_at (branch_operands f e) k)) lj lk (NeedsFixedReg.own (sound_ops.allocated j lj dj) at_j refl)
+      (NeedsFixedReg.own (sound_ops.allocated k lk dk) at_k refl) (both_late (op_at (branch_operands f e) j) (op_at (branch_operands f e) k) dj dk);
 }
   where
     last : ℕ
@@ -119,8 +119,8 @@ defs_placed env f limited ok taken placesf final good places e le branch m = rec
     within : last < length f.insts
     within = last_within f ok.follow e le
 
-    tame : IsTame (Made f) (inst_at f last).operands
-    tame = tame_at env f limited ok taken last within
+    sound_ops : AreSoundOperands (Made f) (inst_at f last).operands
+    sound_ops = sound_ops_at env f limited ok taken last within
 
     ends : ends_block (inst_at f last) ≡ true
     ends = rw branch refl
@@ -130,6 +130,6 @@ defs_placed env f limited ok taken placesf final good places e le branch m = rec
         MayBeLocatedAt env final.slots (op_at (branch_operands f e) j).vreg (left_at f placesf e j) →
         (n : ℕ) × (left_at f placesf e j ≡ InSlot n) × (slots_at final (op_at (branch_operands f e) j).vreg.number ≡ Some (InSlot n))
     in_slot j lt def kind NoPlace is may = absurd (subst (MayBeLocatedAt env final.slots (op_at (branch_operands f e) j).vreg) is may)
-    in_slot j lt def kind (InRegister r) is may = absurd (defs_in_slots (inst_at f last) tame ends m.allocates m.bare j
+    in_slot j lt def kind (InRegister r) is may = absurd (defs_in_slots (inst_at f last) sound_ops ends m.allocates m.bare j
         lt def kind r (sym (m.at j lt) ∙ is))
     in_slot j lt def kind (InSlot n) is may = (n, is, ap opt (subst (MayBeLocatedAt env final.slots (op_at (branch_operands f e) j).vreg) is may))

@@ -16,10 +16,10 @@ use Rattle.regalloc2_fastalloc_proofs.specs.InstSteps.{StateValue}
 use Rattle.regalloc2_fastalloc_proofs.specs.BlockSteps.{AllocsBlocks}
 use Rattle.regalloc2_fastalloc_proofs.proofs.Safety.StepsKeepState.{place_in}
 use Rattle.regalloc2_fastalloc_proofs.proofs.Operands.DefinedNumbers.{defined_by}
-use Rattle.regalloc2_fastalloc_proofs.proofs.Inst.OneInstCarries.{Between}
+use Rattle.regalloc2_fastalloc_proofs.proofs.Inst.OneInstCarries.{IsBetweenInsts}
 use Rattle.regalloc2_fastalloc_proofs.proofs.Walk.InstsBeforeLastCarry.{defined_from}
 use Rattle.regalloc2_fastalloc_proofs.proofs.Walk.BlockObligations.{defined_from-some, defines_at}
-use Rattle.regalloc2_fastalloc_proofs.proofs.Walk.InstBoundaries.{IsUsedAt, allocs_blocks_live, kept_of}
+use Rattle.regalloc2_fastalloc_proofs.proofs.Walk.InstBoundaries.{IsUsedAt, allocs_blocks_live, kept_code_of}
 use Rattle.regalloc2_fastalloc_proofs.proofs.Walk.FunctionLaws.{FunctionLaws}
 
 -- where a block uses a number
@@ -80,7 +80,7 @@ module _ (laws : FunctionLaws) (b : ℕ) (lb : b < length laws.f.blocks) (v : Vi
       ((knows w.0 at.inst).definition w.1 at.operand at.definition) made at.number)
 
   -- if another block uses it, it has a location at this block's end
-  pub stands_behind : (c : ℕ) → c < length f.blocks → c ≢ b → IsUsedIn f c v → {blank : List Place} {begin : StateValue} → Between (length f.insts) begin →
+  pub stands_behind : (c : ℕ) → c < length f.blocks → c ≢ b → IsUsedIn f c v → {blank : List Place} {begin : StateValue} → IsBetweenInsts (length f.insts) begin →
       {places : List Place} {t : StateValue} → AllocsBlocks f blank begin (b + 1) places t → place_in t v.number ≢ NoPlace
   stands_behind c lc ne used {blank} {begin} start {places} {t} walk =
       let w = writer in
@@ -91,7 +91,7 @@ module _ (laws : FunctionLaws) (b : ℕ) (lb : b < length laws.f.blocks) (v : Vi
       let u = used_at f follow ends c v lc used in
       let more : b + 1 < length f.blocks = omega (arith, order, ne, lc) in
       let apart : (block_at f b).range.end ≤ (block_at f (b + 1)).range.first = ends_before f follow b (b + 1) (omega arith) more in
-      allocs_blocks_live (kept_of (Made f) f proper kept) follow blank begin start x c u.0
+      allocs_blocks_live (kept_code_of (Made f) f proper kept) follow blank begin start x c u.0
       (λ d k ld few is. not_both f once x w.0 w.1 d k at (record { block = ld; param = few; number = sym is }))
       lc u.1 u.2 u.3 walk (omega (arith, order, ne))
       (λ k ge less. elim (cases_Bool (defined_by (inst_at f k).operands x)) [

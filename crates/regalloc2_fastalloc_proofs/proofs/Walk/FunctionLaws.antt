@@ -28,7 +28,7 @@ abbrev pub laws_of : (f : FunctionValue) → DefinedOnce f → BlocksFollow f �
 laws_of f once follow ends uses counted proper kept =
     record { f = f; once = once; follow = follow; ends = ends; uses = uses; counted = counted; proper = proper; kept = kept }
 
--- A function and the places of its operands. Known: the known vregs. Its instructions are proper, branches keep what holds between instructions,
+-- A function and the places of its operands. Known: the vregs, one for each number. Its instructions are proper, branches keep what holds between instructions,
 -- and blocks follow one another and end in a branch or a return.
 pub record PlacedCode : Type 1 where
   pub Known : VirtualRegister → Type 0
@@ -45,7 +45,7 @@ abbrev pub code_of : (Known : VirtualRegister → Type 0) (f : FunctionValue) �
 code_of Known f proper kept follow ends placesf =
     record { Known = Known; f = f; proper = proper; kept = kept; follow = follow; ends = ends; placesf = placesf }
 
--- A block in the walk from the tables begin: p and s are the places and the tables after it, q and u those before its first instruction, and w the tables
+-- A block in the walk from the tables begin: p and s are the places and the tables after it, q and u the places and tables before its first instruction, and w the tables
 -- at its start.
 pub record BlockInWalk (f : FunctionValue) (blank : List Place) (begin : StateValue) : Type 0 where
   pub b : ℕ

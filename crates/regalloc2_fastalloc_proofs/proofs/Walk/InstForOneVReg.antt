@@ -37,7 +37,7 @@ module _ (f : FunctionValue) (placesf : ℕ → List Place) (F : ℕ → Option 
   step_at i t = walked (inst_at f) (at_point (listed t.edits)) placesf i 1
 
   -- The instruction leaves a slot, made so far or later, to its own vreg: what the lemma requires of v in addition to the instruction's own lemma.
-  pub record Leaves (v : VirtualRegister) (i : ℕ) (old new : StateValue) : Type 0 where
+  pub record LeavesOwnSlot (v : VirtualRegister) (i : ℕ) (old new : StateValue) : Type 0 where
     pub stays : (p : Place) → slots_at old v.number ≡ Some p → F v.number ≡ Some p
     pub keeps : (s : Place) → defined_by (inst_at f i).operands v.number ≡ false → slots_at old v.number ≡ None → F v.number ≡ Some s →
         Keeps (inst_at f i).operands (placesf i) (inst_at f i).clobbers (at_point (listed new.edits) (before i)) (at_point (listed new.edits) (after i)) v s
@@ -52,7 +52,7 @@ module _ (f : FunctionValue) (placesf : ℕ → List Place) (F : ℕ → Option 
   pub step_of : (v : VirtualRegister) (i : ℕ) (old new : StateValue) (later : Bool) →
       Carries v (step_at i new) (Needed (defined_by (inst_at f i).operands) new v) (Needed (λ x. false) old v) →
       (defined_by (inst_at f i).operands v.number ≡ true → stands_at new v.number ≡ None) →
-      Leaves v i old new → (later ≡ true → Unread (inst_at f i).operands v) →
+      LeavesOwnSlot v i old new → (later ≡ true → Unread (inst_at f i).operands v) →
       StepOf v (step_at i new) (defined_by (inst_at f i).operands v.number) later (stands_at new v.number) (slots_at new v.number) (stands_at old v.number)
       (slots_at old v.number) (F v.number)
   step_of v i old new later law gone leaves unread = record {

@@ -14,8 +14,8 @@ use Rattle.regalloc2_semantics.proofs.BlockBackward.{Relied, step_carried}
 use Rattle.regalloc2_fastalloc_proofs.specs.InstSteps.{StateValue, AllocsInst, ends_block}
 use Rattle.regalloc2_fastalloc_proofs.proofs.Operands.RecordOverState.{stands_at, slots_at}
 use Rattle.regalloc2_fastalloc_proofs.proofs.Operands.DefinedNumbers.{defined_by}
-use Rattle.regalloc2_fastalloc_proofs.proofs.Inst.OneInstCarries.{Between, Alone, alone}
-use Rattle.regalloc2_fastalloc_proofs.proofs.Walk.InstForOneVReg.{step_at, Leaves, step_of}
+use Rattle.regalloc2_fastalloc_proofs.proofs.Inst.OneInstCarries.{IsBetweenInsts, CarriesByItself, carries_by_itself}
+use Rattle.regalloc2_fastalloc_proofs.proofs.Walk.InstForOneVReg.{step_at, LeavesOwnSlot, step_of}
 use Rattle.regalloc2_fastalloc_proofs.proofs.Inst.ProperInsts.{ProperCode}
 
 -- whether one of n instructions, from a given one on, defines the number
@@ -37,7 +37,7 @@ pub data Goes (f : FunctionValue) (placesf : ℕ → List Place) (L : ℕ → St
       L i t u → Goes f placesf L begin first stop i u
 
 -- What is required of such instructions for one vreg v, with m more after stop; v is needed in E then. F: the slots at the walk's end; block: whether the block
--- writes v. None of them is a return; they don't define v if the block doesn't write it, leave its slot alone, and don't read it before its definition.
+-- writes v. None of them ends its block; they don't define v if the block doesn't write it, leave its slot alone, and don't read it before its definition.
 pub record VRegGoes (code : ProperCode) (L : ℕ → StateValue → StateValue → Type 0) (first stop : ℕ) : Type 1 where
   pub F : ℕ → Option Place
   pub v : VirtualRegister
@@ -47,24 +47,24 @@ pub record VRegGoes (code : ProperCode) (L : ℕ → StateValue → StateValue �
   pub E : Place → Type 0
   pub returns : (i : ℕ) → first ≤ i → i < stop → ends_block (inst_at code.f i) ≡ false
   pub writes : (i : ℕ) → first ≤ i → i < stop → block ≡ false → defined_by (inst_at code.f i).operands v.number ≡ false
-  pub leaves : (i : ℕ) (t u : StateValue) → first ≤ i → i < stop → L i t u → Leaves code.f code.placesf F v i t u
+  pub leaves : (i : ℕ) (t u : StateValue) → first ≤ i → i < stop → L i t u → LeavesOwnSlot code.f code.placesf F v i t u
   pub unread : (i n : ℕ) → first ≤ i → i < stop → i + 1 + n ≡ stop + m → defined_from code.f v.number (i + 1) n ≡ true → Unread (inst_at code.f i).operands v
 
 module _ (code : ProperCode) (L : ℕ → StateValue → StateValue → Type 0) (begin : StateValue) (first stop : ℕ) (within : stop ≤ length code.f.insts)
-    (start : Between stop begin) where
+    (start : IsBetweenInsts stop begin) where
   open code use {Known, f, placesf, proper}
 
   -- the state before each of these instructions is one between instructions
-  pub goes_between : (i : ℕ) (t : StateValue) → Goes f placesf L begin first stop i t → Between i t
+  pub goes_between : (i : ℕ) (t : StateValue) → Goes f placesf L begin first stop i t → IsBetweenInsts i t
   goes_between i t stopped = start
   goes_between i t (one_more j s u blank here ge lt prev at a l) =
-      (alone code j blank here s t (omega (arith, within)) at (goes_between (j + 1) s prev) a).between
+      (carries_by_itself code j blank here s t (omega (arith, within)) at (goes_between (j + 1) s prev) a).between
 
   -- the lemma for one of these instructions
-  pub goes_alone : (i : ℕ) (t u : StateValue) (blank here : List Place) → i < stop → Goes f placesf L begin first stop (i + 1) t
+  pub goes_by_itself : (i : ℕ) (t u : StateValue) (blank here : List Place) → i < stop → Goes f placesf L begin first stop (i + 1) t
       → ((k : ℕ) → k < length (inst_at f i).operands → place_at (placesf i) k ≡ slice_index_or here k NoPlace) → AllocsInst i (inst_at f i) blank here t u →
-      Alone code i t u
-  goes_alone i t u blank here lt prev at a = alone code i blank here t u
+      CarriesByItself code i t u
+  goes_by_itself i t u blank here lt prev at a = carries_by_itself code i blank here t u
       (omega (arith, within)) at (goes_between (i + 1) t prev) a
 
   module _ (goes : VRegGoes code L first stop) where
@@ -80,7 +80,7 @@ module _ (code : ProperCode) (L : ℕ → StateValue → StateValue → Type 0) 
         → (at : (k : ℕ) → k < length (inst_at f i).operands → place_at (placesf i) k ≡ slice_index_or here k NoPlace) →
         (a : AllocsInst i (inst_at f i) blank here t u) → L i t u → CarriedFrom (i + 1) n t → CarriedFrom i (suc n) u
     one_carried i n t u blank here ge lt count prev at a l c =
-        let x = goes_alone i t u blank here lt prev at a in
+        let x = goes_by_itself i t u blank here lt prev at a in
         let rest : List Item = walked (inst_at f) (at_point (listed t.edits)) placesf (i + 1) n in
         let whole : walked (inst_at f) (at_point (listed u.edits)) placesf i (suc n) ≡ step_at f placesf F i u ++ rest =
         walked_split (inst_at f) (at_point (listed u.edits)) placesf i n ∙ ap (λ r. step_at f placesf F i u ++ r) (x.same n) in

@@ -1,4 +1,4 @@
--- The instructions of a block in the walk: its last one, and those before it, which are no branches and no returns.
+-- The instructions of a block in the walk: its last one, and the instructions before it, which are no branches and no returns.
 -- The fold in `Changes` doesn't apply: what holds depends on how far the walk is.
 use Rattle.std.proofs.Common.{ℕ, ◌≡◌, ◌+◌, ◌<◌, ◌≤◌, inl, inr, false, List, length, sym, ◌∙◌, subst, arith}
 use Rattle.std.specs.Prelude.{Some, slice_index_or}
@@ -19,7 +19,7 @@ use Rattle.regalloc2_fastalloc_proofs.proofs.Operands.DefinedNumbers.{defined_by
 use Rattle.regalloc2_fastalloc_proofs.proofs.Walk.InstsCarry.{AreListed}
 use Rattle.regalloc2_fastalloc_proofs.proofs.Safety.InstsKeepSafe.{later_same}
 use Rattle.regalloc2_fastalloc_proofs.proofs.Slots.StepsKeepSlots.{Grown, grown_then, changes_grow, AnyPlace}
-use Rattle.regalloc2_fastalloc_proofs.proofs.Walk.InstForOneVReg.{Leaves}
+use Rattle.regalloc2_fastalloc_proofs.proofs.Walk.InstForOneVReg.{LeavesOwnSlot}
 use Rattle.regalloc2_fastalloc_proofs.proofs.Walk.InstsBeforeLastCarry.{Goes, stopped, one_more}
 use Rattle.regalloc2_fastalloc_proofs.proofs.Walk.FunctionLaws.{PlacedCode}
 use Rattle.regalloc2_fastalloc_proofs.proofs.Safety.BlocksKeepSafe.{block_start}
@@ -48,7 +48,7 @@ module _ (code : PlacedCode) (final : StateValue) where
     within : (i : ℕ) → i < (block_at f b).range.end → i < length f.insts
     within i less = (let h = ends_within f follow b lb in omega (arith, less, h))
 
-    -- if the places of all instructions from i on are listed, those of the instructions after the block were listed before its walk
+    -- if the places of all instructions from i on are listed, the places of the instructions after the block were listed before its walk
     pub walk_listed : (i : ℕ) (places : List Place) (t : StateValue) → AllocsBlockInsts f b blank old i places t → AreListed f placesf i places →
         AreListed f placesf (block_at f b).range.end blank
     walk_listed i places t at_end = λ h. h
@@ -57,7 +57,7 @@ module _ (code : PlacedCode) (final : StateValue) where
     module _ (L : ℕ → StateValue → StateValue → Type 0) (each : (i : ℕ) (q : List Place) (s u : StateValue) → (block_at f b).range.first ≤ i →
         i < last_of (block_at f b) → AllocsBlockInsts f b blank old i q u → AreListed f placesf i q →
         Grown AnyPlace s final → Grown AnyPlace u final → L i s u) where
-      -- the walk over a block from i on is its last instruction and those from i on before it, each of which has the property L
+      -- the walk over a block from i on is its last instruction and the instructions from i on before it, each of which has the property L
       pub split : (i : ℕ) (places : List Place) (t : StateValue) → AllocsBlockInsts f b blank old i places t → i < (block_at f b).range.end →
           AreListed f placesf i places → Grown AnyPlace t final → Split f placesf L final b (last_of (block_at f b)) old i t
       split i places t at_end = λ lt. absurd (omega (arith, lt))
@@ -109,7 +109,7 @@ module _ (code : PlacedCode) (final : StateValue) where
   -- an instruction before its block's last one leaves a vreg's final slot to that vreg, as the lemma for one vreg requires
   pub leaves_at : (SafeIn : ℕ → StateValue → Type 0) → KeepsSlots SafeIn → (b i : ℕ) (s u : StateValue) → b < length f.blocks →
       (block_at f b).range.first ≤ i → i < last_of (block_at f b) → SafeIn b u →
-      Grown AnyPlace s final → Grown AnyPlace u final → (v : VirtualRegister) → Known v → Leaves f placesf (slots_at final) v i s u
+      Grown AnyPlace s final → Grown AnyPlace u final → (v : VirtualRegister) → Known v → LeavesOwnSlot f placesf (slots_at final) v i s u
   leaves_at SafeIn keeps b i s u lb ge sooner safe before_it rest v known = record {
     stays = grown_slots AnyPlace s final before_it v.number;
     keeps = λ p free none is. keeps b i lb ge sooner u safe rest v known free p is;

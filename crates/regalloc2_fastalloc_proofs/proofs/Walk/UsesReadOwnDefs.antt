@@ -43,7 +43,7 @@ some_units n int float vector by_last a b c Int = a
 some_units n int float vector by_last a b c Float = b
 some_units n int float vector by_last a b c Vector = c
 
--- the registers of a fresh state fit, if they are those of a machine that fits the function
+-- the registers of a fresh state fit, if the machine fits the function
 pub fresh_fit : (f : FunctionValue) (env : MachineValue) (t : StateValue) → MachineFits f env → HasMachine env t →
     ((r : Register) → (has_register t.allocatable r ≡ true) ⊎ (has_register t.fixed_stack r ≡ true) → r.number < 64) → Fit t
 fresh_fit f env t fits m small = machine_fit f env t fits small m.allocatable m.fixed_stack m.dedicated_scratch

@@ -54,7 +54,7 @@ pub record IsSpillFree (names : List VirtualRegister) (gone : ℕ → Bool) (t :
   pub nowhere : (n : ℕ) → gone n ≡ true → alloc_of t.places n ≡ NoPlace
   pub each : (class : RegClass) → IsSpillFreeIn names gone class (order_of t class) t inst_regs
 
--- an instruction whose operands of a position are under `Reg` and name listed vregs, none defined so far; those that it defines are named once
+-- an instruction whose operands of a position are under `Reg` and name listed vregs, none defined so far; the vregs that it defines are named once
 pub record ArePlain (names : List VirtualRegister) (gone : ℕ → Bool) (operands : List OperandValue) (late : Bool) : Type 0 where
   pub under_reg : (k : ℕ) → k < length operands → (op_at operands k).constraint ≡ Reg
   pub named : (k : ℕ) → k < length operands → Contains names (op_at operands k).vreg

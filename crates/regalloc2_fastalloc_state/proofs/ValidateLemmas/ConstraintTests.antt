@@ -57,7 +57,7 @@ named_more ops k m named lt is h n = (
   ],
 )
 
--- once all operands are seen, the marked ones are exactly those that are reused
+-- once all operands are seen, exactly the reused ones are marked
 pub all_named : (ops : List OperandValue) (k : ℕ) (named : List Bool) → k ≡ length ops → AreNamed ops k named → (n : ℕ) →
     IsTrue (slice_index_or named n false) ↔ IsReusedOperand ops n
 unfolding AreNamed

@@ -10,7 +10,7 @@ use Rattle.regalloc2_function.specs.FunctionValue.{no_operand}
 pub read_operand : (ops : List OperandValue) (k : ℕ) (o : OperandValue) → k < length ops → o ≡ slice_index_or ops k o → o ≡ op_at ops k
 read_operand ops k o lt e = get_or_read ops k o lt e no_operand
 
--- and so is its vreg
+-- its vreg is that of the operand in the list
 pub read_vreg : (ops : List OperandValue) (k : ℕ) (o : OperandValue) (v : VirtualRegister) → k < length ops → o ≡ slice_index_or ops k o → v ≡ o.vreg →
     v ≡ (op_at ops k).vreg
 read_vreg ops k o v lt e f = f ∙ ap (λ (x : OperandValue). x.vreg) (read_operand ops k o lt e)

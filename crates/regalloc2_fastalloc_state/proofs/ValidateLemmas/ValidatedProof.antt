@@ -30,7 +30,7 @@ tested_well_formed f env shape sound reuses fixed = record {
   fixed = All-from_get_or FixedAvoidClobbers f.insts no_inst fixed;
 }
 
--- the same where the last of the tests returns the result for the instructions
+-- a function passes where the last of the tests returns the result for the instructions
 pub tested_on_ok : {T E : Type 0} (f : FunctionValue) (env : MachineValue) (r : Result T E) → HasShape f → IsSound f →
     OnOk r ((i : ℕ) → i < length f.insts → ReusesAreSound env (inst_at f i))
     → OnOk r ((i : ℕ) → i < length f.insts → FixedAvoidClobbers (inst_at f i)) → OnOk r (IsWellFormed env f)

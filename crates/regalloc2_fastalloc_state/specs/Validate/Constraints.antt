@@ -31,7 +31,7 @@ pub record IsReuseTarget (env : MachineValue) (class : RegClass) (o : OperandVal
   pub same_class : o.vreg.class ≡ class
   pub may_be : MayBeReused env class o.constraint
 
--- an operand that isn't a reuse, or is a late definition that names such an operand
+-- an operand that isn't a reuse, or is a late definition that names an operand that it may reuse
 abbrev pub IsSoundReuse : MachineValue → List OperandValue → OperandValue → Type 0
 IsSoundReuse env operands o = (n : ℕ) → o.constraint ≡ Reuse n → (o.kind ≡ Def) × (o.position ≡ Late) × (n < length operands)
     × IsReuseTarget env o.vreg.class (op_at operands n)
@@ -45,7 +45,7 @@ abbrev pub AvoidsClobbers : PRegSet → OperandValue → Bool → Type 0
 AvoidsClobbers clobbers o is_reused = (r : Register) → o.constraint ≡ FixedReg r → (o.kind ≡ Def) ⊎ (o.position ≡ Late) ⊎ (is_reused ≡ true) →
     has_register clobbers r ≡ false
 
--- and so with the operand k, as the others name it
+-- the operand k avoids the clobbers if it is a definition, a late use or reused
 abbrev pub OperandAvoidsClobbers : PRegSet → List OperandValue → ℕ → Type 0
 OperandAvoidsClobbers clobbers operands k = (r : Register) → (op_at operands k).constraint ≡ FixedReg r → ((op_at operands k).kind ≡ Def)
     ⊎ ((op_at operands k).position ≡ Late) ⊎ IsReusedOperand operands k → has_register clobbers r ≡ false

@@ -17,10 +17,9 @@ use regalloc2_index::Inst;
 use regalloc2_names::{
     Operand, OperandConstraint, OperandKind, OperandPos, PRegSet, RegAllocError, RegClass,
 };
-use regalloc2_steps::refusal::refuse_unless;
 use std::alloc::Allocator;
 
-/// Which operand a reuse names. The index fits five bits.
+/// The index of the operand that a reuse names, which fits five bits.
 fn reused_index(operand: Operand) -> Option<usize>
     ensures some { IfSome result (λ n. operand.constraint ≡ OperandConstraint.Reuse n) }
     ensures small { IfSome result (λ n. n < 32) }
@@ -32,8 +31,7 @@ fn reused_index(operand: Operand) -> Option<usize>
     }
 }
 
-/// Whether an operand under that constraint may be reused by a definition of the class: it is in any register, or in an
-/// allocatable one.
+/// Whether a definition of `class` may reuse an operand under `constraint`: `Reg`, or a fixed register that is allocatable.
 fn may_be_reused<B: Allocator>(
     env: &MachineEnv<B>,
     class: RegClass,
@@ -48,8 +46,8 @@ fn may_be_reused<B: Allocator>(
     }
 }
 
-/// Whether an operand may be reused by a definition of the class: an early use that reads a vreg of the class, under such a
-/// constraint.
+/// Whether a definition of `class` may reuse `operand`: an early use that reads a vreg of the class, under a constraint that
+/// `may_be_reused` allows.
 fn is_target<B: Allocator>(env: &MachineEnv<B>, class: RegClass, operand: Operand) -> bool
     ensures { IsTrue result ↔ IsReuseTarget (machine_of env.now) class operand }
 {
@@ -62,7 +60,7 @@ fn is_target<B: Allocator>(env: &MachineEnv<B>, class: RegClass, operand: Operan
     may_be_reused(env, class, operand.constraint())
 }
 
-/// Whether an operand is a late definition, and that index is one of an operand that it may reuse.
+/// Whether `operand` is a late definition that may reuse the operand at `index`.
 fn names_target<B: Allocator>(
     env: &MachineEnv<B>,
     operands: &[Operand],
@@ -76,7 +74,7 @@ fn names_target<B: Allocator>(
     is_late_def && index < operands.len() && is_target(env, operand.class(), operands[index])
 }
 
-/// Whether an operand is no reuse, or a late definition that names such an operand.
+/// Whether `operand` is no reuse, or a late definition that may reuse the operand that it names.
 fn is_valid_reuse<B: Allocator>(env: &MachineEnv<B>, operands: &[Operand], operand: Operand) -> bool
     ensures { IsTrue result ↔ IsSoundReuse (machine_of env.now) operands.now operand }
 {
@@ -117,7 +115,7 @@ fn are_no_reuses(operands: &[Operand]) -> bool
     true
 }
 
-/// Which operands reuses name, by index.
+/// For each operand, by index, whether a reuse names it.
 fn named_by_reuses(operands: &[Operand]) -> [bool; 32]
     ensures { (k : ℕ) → IsTrue (slice_index_or result k false) ↔ IsReusedOperand operands.now k }
 {
@@ -130,7 +128,7 @@ fn named_by_reuses(operands: &[Operand]) -> [bool; 32]
     named
 }
 
-/// Whether the operand k is among those; past the end none is.
+/// Whether `named` is true at `k`. Past its end it is false.
 fn is_named(named: &[bool], k: usize) -> bool
     ensures { result ≡ slice_index_or named.now k false }
 {
@@ -213,7 +211,7 @@ fn is_empty(set: PRegSet) -> bool
     set.max_preg().is_none()
 }
 
-/// Whether an instruction has no clobbers, or none that an operand is fixed to.
+/// Whether an instruction has no clobbers, or its operands pass `avoid_clobbers`.
 fn passes_clobber_test<F: Function>(f: &F, inst: Inst) -> bool
     requires { inst < length (F.function f.now).insts }
     ensures { IsTrue result ↔ FixedAvoidClobbers (inst_at (F.function f.now) inst) }
@@ -251,7 +249,7 @@ fn has_no_limit<F: Function>(f: &F, inst: Inst) -> bool
     are_unlimited(f.inst_operands(inst))
 }
 
-/// Tests reuses. Else the error is `Unsupported` with the first instruction that fails.
+/// Tests reuses. The error is `Unsupported` with the first instruction that fails.
 fn validate_reuses<F: Function, B: Allocator>(
     f: &F,
     env: &MachineEnv<B>,
@@ -261,20 +259,24 @@ fn validate_reuses<F: Function, B: Allocator>(
 {
     for i in 0..f.num_insts() {
         let inst = Inst::new(i);
-        refuse_unless(passes_reuse_test(f, env, inst), inst)?;
+        if !passes_reuse_test(f, env, inst) {
+            return Err(RegAllocError::Unsupported(inst));
+        }
     }
     Ok(())
 }
 
-/// Tests fixed registers beside clobbers. Else the error is `Unsupported` with the first
-/// instruction that fails.
+/// Tests fixed registers beside clobbers. The error is `Unsupported` with the first instruction that
+/// fails.
 fn validate_clobbers<F: Function>(f: &F) -> Result<(), RegAllocError>
     ensures ok { IsOk result ↔ ((i : ℕ) → i < length (F.function f.now).insts → FixedAvoidClobbers (inst_at (F.function f.now) i)) }
     ensures first { IfErr result (λ e. (i : ℕ) × (e ≡ RegAllocError.Unsupported i) × IsFirstFailing (F.function f.now) (FixedAvoidClobbers) i) }
 {
     for i in 0..f.num_insts() {
         let inst = Inst::new(i);
-        refuse_unless(passes_clobber_test(f, inst), inst)?;
+        if !passes_clobber_test(f, inst) {
+            return Err(RegAllocError::Unsupported(inst));
+        }
     }
     Ok(())
 }
@@ -283,7 +285,7 @@ fn validate_clobbers<F: Function>(f: &F) -> Result<(), RegAllocError>
 ///
 /// A reuse is a late definition; it names an early use that reads a vreg of its class, in any register or fixed to an
 /// allocatable one; and no two reuses name one operand. No definition, late use or reused operand is fixed to a clobber of its
-/// instruction. Else the error is `Unsupported` with the first instruction that breaks the first rule, or where there is none
+/// instruction. The error is `Unsupported` with the first instruction that breaks the first rule, or if there is none,
 /// the second. Upstream takes both for granted.
 pub fn validate_fixed<F: Function, B: Allocator>(
     f: &F,
@@ -297,7 +299,7 @@ pub fn validate_fixed<F: Function, B: Allocator>(
     validate_clobbers(f)
 }
 
-/// Tests that no operand has `Limit`. Else the error is `Unsupported` with the first instruction that has one.
+/// Tests that no operand has `Limit`. The error is `Unsupported` with the first instruction that has one.
 ///
 /// Upstream's fast allocator stops the program there.
 pub fn validate_limits<F: Function>(f: &F) -> Result<(), RegAllocError>
@@ -328,7 +330,7 @@ fn defines_in_place(operand: Operand) -> bool
     }
 }
 
-/// Whether all operands do.
+/// Whether all operands pass `defines_in_place`.
 fn define_in_place(operands: &[Operand]) -> bool
     ensures { IsTrue result ↔ ((k : ℕ) → k < length operands.now → DefinesInPlace (op_at operands.now k)) }
 {
@@ -349,8 +351,8 @@ pub fn is_sound_branch<F: Function>(f: &F, inst: Inst) -> bool
     !f.is_branch(inst) || define_in_place(f.inst_operands(inst))
 }
 
-/// Tests that no branch has a definition in any register or in the place of another operand. Else
-/// the error is `Unsupported` with the first branch that has one.
+/// Tests that no branch has a definition in any register or in the place of another operand. The
+/// error is `Unsupported` with the first branch that has one.
 ///
 /// Successors store a branch's definitions at their beginning, and the walk visits a block before
 /// the blocks that lead to it: so the place must be known before the branch is allocated.

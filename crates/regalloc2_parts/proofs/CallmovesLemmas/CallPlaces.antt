@@ -9,11 +9,11 @@ use Rattle.regalloc2_index.proofs.Numbers.{below_or_last}
 use Rattle.regalloc2_names.specs.declared.sets.PRegSet.{PRegSet}
 use Rattle.regalloc2_names.specs.Place.{Place, NoPlace, InRegister, InSlot, is_place, slot_of_place}
 use Rattle.regalloc2_names.specs.PlaceBits.{index_of_place}
-use Rattle.regalloc2_names.specs.Register.{Register, is_register}
+use Rattle.regalloc2_names.specs.Register.{Register, invalid_register, is_register}
 use Rattle.regalloc2_names.specs.RegisterSet.{has_register}
 use Rattle.regalloc2_names.proofs.EqualNames.{is_place-true, is_place-along}
-use Rattle.regalloc2_steps.specs.declared.frame.CallFrame.{CallFrame}
-use Rattle.regalloc2_steps.specs.Frame.{free_at}
+use Rattle.regalloc2_parts.specs.declared.callmoves.CallFrame.{CallFrame}
+use Rattle.regalloc2_parts.specs.Callmoves.Frame.{free_at}
 use Rattle.regalloc2_parts.specs.Callmoves.CallMoves.{CallMoves, call_move, source, target, HasNone, NamesNoPlace, MovesName, with_units, IsNotFree, IsLower}
 
 -- a slot's place and its number
@@ -29,6 +29,10 @@ slot_not p e n is = let no : None ≡ Some n = e ∙ ap slot_of_place is in cc
 -- a number that isn't above another is below it or it
 pub split_le : (a b : ℕ) → a ≤ b → (a < b) ⊎ (a ≡ b)
 split_le a b le = ⊎_elim (λ l. inl l) (λ h. inr (omega arith)) (cases_lt a b)
+
+-- the register that is read at an index is the frame's free register there
+pub read_free : {A : Type 0} (f : CallFrame A) (k : ℕ) (r : Register) → k < length f.free_regs.items → r ≡ get_or f.free_regs.items k r → r ≡ free_at f k
+read_free f k r lt is = is ∙ get_or_default f.free_regs.items k r invalid_register lt
 
 -- a move of a list without errors is from a place and to one
 pub move_real : (ms : CallMoves) (k : ℕ) (m : Place × Place) → HasNone (length ms) (NamesNoPlace ms) → k < length ms → m ≡ get_or ms k m →
@@ -64,7 +68,7 @@ pub record AreNamed (ms : CallMoves) (n : ℕ) (s : PRegSet) : Type 0 where
   pub yes : (r : Register) → has_register s r ≡ true → IsNamedBelow ms n (InRegister r)
   pub no : (r : Register) → IsNamedBelow ms n (InRegister r) → has_register s r ≡ true
 
--- with the registers of move n put in, the set has those that one move more names
+-- with the registers of move n put in, the set has the registers that the first n + 1 moves name
 pub named_more : (ms : CallMoves) (n : ℕ) (s t u : PRegSet) → AreNamed ms n s →
     ((r : Register) → has_register t r ≡ (is_place (source ms n) (InRegister r) || has_register s r)) →
     ((r : Register) → has_register u r ≡ (is_place (target ms n) (InRegister r) || has_register t r)) → AreNamed ms (n + 1) u
@@ -97,7 +101,7 @@ pub record AreTaken {A : Type 0} (ms : CallMoves) (f : CallFrame A) (n : ℕ) (s
 register_along : (a b : Register) → is_register a b ≡ true → a ≡ b
 register_along a b e = let same : InRegister a ≡ InRegister b = is_place-true (InRegister a) (InRegister b) e in cc
 
--- with the free register n put in, the set has those that are in use before the next one is
+-- with the free register n put in, the set has the registers that are in use before the free register n + 1 is
 pub taken_more : {A : Type 0} (ms : CallMoves) (f : CallFrame A) (n : ℕ) (s t : PRegSet) → AreTaken ms f n s →
     ((r : Register) → has_register t r ≡ (is_register (free_at f n) r || has_register s r)) → AreTaken ms f (n + 1) t
 taken_more ms f n s t h put = record {
@@ -123,7 +127,7 @@ pub taken_not : {A : Type 0} (ms : CallMoves) (f : CallFrame A) (n : ℕ) (s : P
     IsNotFree ms f n → ⊥
 taken_not ms f n s h e x = let no : true ≡ false = sym (h.no (free_at f n) x) ∙ sym e in cc
 
--- the lowest slot of those that the first n moves name, from a start on and below an end
+-- the lowest slot that the first n moves name, from a start on and below an end
 pub record IsLowest (ms : CallMoves) (n start end_ lowest : ℕ) : Type 0 where
   pub within : lowest ≤ end_
   pub named : lowest < end_ → (start ≤ lowest) × IsNamedBelow ms n (InSlot lowest)

@@ -14,11 +14,11 @@ use Rattle.regalloc2_parts.specs.Resolved.{IsResolution, IsUnnamed}
 use Rattle.regalloc2_parts.specs.declared.scratch_pool.ScratchPool.{ScratchPool}
 use Rattle.regalloc2_parts.specs.ScratchPool.{Moves, IsOfScratchPair, IsScratchTaken as IsHandedOut, IsUsableFor, IsOrderedWith, HasTooFewSlots}
 use Rattle.regalloc2_names.proofs.EqualNames.{cases_place}
-use Rattle.regalloc2_steps.specs.declared.frame.CallFrame.{CallFrame}
-use Rattle.regalloc2_steps.specs.Frame.{free_at, IsRegisterAt}
+use Rattle.regalloc2_parts.specs.declared.callmoves.CallFrame.{CallFrame}
+use Rattle.regalloc2_parts.specs.Callmoves.Frame.{free_at, IsRegisterAt, IsSlotAt}
 use Rattle.regalloc2_parts.specs.Callmoves.CallMoves.{CallMoves, with_units, source, target, fault_of, HasNone, HasOtherSource, MovesName}
 use Rattle.regalloc2_parts.proofs.CallmovesLemmas.CallPlaces.{split_le}
-use Rattle.regalloc2_parts.specs.Callmoves.CallMoves.{IsProper, IsCallFault, IsLent, IsSlotAt, IsMove, IsPoolOf, IsScheduled}
+use Rattle.regalloc2_parts.specs.Callmoves.CallMoves.{IsProper, IsCallFault, IsLent, IsMove, IsPoolOf, IsScheduled}
 
 abbrev pub end_at : CallMoves → ℕ → Ends
 end_at ms k = record { from = source ms k; to = target ms k }
@@ -35,13 +35,13 @@ many_ends (m ∷ ms) = let h = many_ends ms in omega arith
 has_end : (ms : CallMoves) (k : ℕ) → k < length ms → Contains (ends_of (with_units ms)) (end_at ms k)
 has_end ms k lt = (k, (omega (arith, many_ends ms)), nth_end ms k (end_at ms k) lt)
 
--- which of the moves an end is of
+-- each of the moves' ends is the end of one of the moves
 end_of : (ms : CallMoves) (m : Ends) → Contains (ends_of (with_units ms)) m → (k : ℕ) × (k < length ms) × (end_at ms k ≡ m)
 end_of ms m (k, lt, e) =
     let low : k < length ms = omega (arith, many_ends ms) in
     (k, low, sym (nth_end ms k m low) ∙ e)
 
--- and which of them a move with a value is
+-- each move with an empty value is one of the moves
 nth_unit : (ms : CallMoves) (k : ℕ) (d : Place × Place × Unit {0}) → k < length ms → (source ms k ≡ (get_or (with_units ms) k d).0)
     × (target ms k ≡ (get_or (with_units ms) k d).1)
 nth_unit [] k d lt = absurd (omega arith)
@@ -85,7 +85,14 @@ one_source ms h a b ca cb e =
     ∙ same_source ms h j.0 k.0 j.1 k.1 (to_is (end_at ms j.0) a j.2 ∙ e ∙ sym (to_is (end_at ms k.0) b k.2))
     ∙ from_is (end_at ms k.0) b k.2
 
-module _ {A : Type 0} (ms : CallMoves) (f : CallFrame A) (l : ScratchPool) (proper : IsProper ms f) (lends : IsPoolOf f l) where
+in_register : (a b : Register) → InRegister a ≡ InRegister b → a ≡ b
+in_register a b e = cc
+
+in_slot : (a b : ℕ) → InSlot a ≡ InSlot b → a ≡ b
+in_slot a b e = cc
+
+module _ {A : Type 0} (f : CallFrame A) (l : ScratchPool) (first : IsRegisterAt f 0 l.registers.first) (second : IsRegisterAt f 1 l.registers.second)
+    (first_slot : IsSlotAt f 0 l.slots.first) (second_slot : IsSlotAt f 1 l.slots.second) where
   register_at : (k : ℕ) (o : Option Place) (p : Place) → IsRegisterAt f k o → o ≡ Some p → (k < length f.free_regs.items) × (p ≡ InRegister (free_at f k))
   register_at k o p h e = subst (IsRegisterAt f k) e h
 
@@ -93,17 +100,49 @@ module _ {A : Type 0} (ms : CallMoves) (f : CallFrame A) (l : ScratchPool) (prop
       (f.slots.start + k < f.slots.«end») × (p ≡ InSlot (f.slots.start + k))
   slot_at k o p h e = subst (IsSlotAt f k) e h
 
+  slot_missing : (k : ℕ) (o : Option Place) → IsSlotAt f k o → o ≡ None → f.slots.«end» ≤ f.slots.start + k
+  slot_missing k o h e = subst (IsSlotAt f k) e h
+
   of_registers : (p : Place) → IsOfScratchPair l.registers p → (k : ℕ) × (k < length f.free_regs.items) × (p ≡ InRegister (free_at f k))
-  of_registers p (inl e) = let x = register_at 0 l.registers.first p lends.first_register e in (0, x.0, x.1)
-  of_registers p (inr e) = let x = register_at 1 l.registers.second p lends.second_register e in (1, x.0, x.1)
+  of_registers p (inl e) = let x = register_at 0 l.registers.first p first e in (0, x.0, x.1)
+  of_registers p (inr e) = let x = register_at 1 l.registers.second p second e in (1, x.0, x.1)
 
   of_slots : (p : Place) → IsOfScratchPair l.slots p → (n : ℕ) × (f.slots.start ≤ n) × (n < f.slots.«end») × (p ≡ InSlot n)
-  of_slots p (inl e) = let x = slot_at 0 l.slots.first p lends.first_slot e in (f.slots.start + 0, (omega arith), x.0, x.1)
-  of_slots p (inr e) = let x = slot_at 1 l.slots.second p lends.second_slot e in (f.slots.start + 1, (omega arith), x.0, x.1)
+  of_slots p (inl e) = let x = slot_at 0 l.slots.first p first_slot e in (f.slots.start + 0, (omega arith), x.0, x.1)
+  of_slots p (inr e) = let x = slot_at 1 l.slots.second p second_slot e in (f.slots.start + 1, (omega arith), x.0, x.1)
 
+  -- where the range is empty there is no second slot
+  none_second : (o : Option Place) → IsSlotAt f 1 o → f.slots.«end» ≤ f.slots.start + 0 → o ≡ None
+  none_second None h empty = refl
+  none_second (Some p) h empty = absurd (omega (arith, h.0))
+
+  -- the first two free registers and the first two slots of the range are scratch places that the frame lends
+  pub lends_first : l.fixed_stack ≡ f.stack_pregs → l.borrowed ≡ f.borrowed → IsPoolOf f l
+  lends_first stack borrowed = record {
+    registers = of_registers;
+    slots = of_slots;
+    registers_apart = λ p q a b.
+        let x = register_at 0 l.registers.first p first a in
+        let y = register_at 1 l.registers.second q second b in
+        (0, 1, (omega arith), y.0, x.1, y.1);
+    slots_apart = λ p q a b e.
+        let x = slot_at 0 l.slots.first p first_slot a in
+        let y = slot_at 1 l.slots.second q second_slot b in
+        let same : f.slots.start + 0 ≡ f.slots.start + 1 = in_slot (f.slots.start + 0) (f.slots.start + 1) (sym x.1 ∙ e ∙ y.1) in
+        omega arith;
+    slots_missing = λ missing. ⊎_elim
+        (λ e. let low = slot_missing 0 l.slots.first first_slot e in omega arith)
+        (λ e. slot_missing 1 l.slots.second second_slot e)
+        missing;
+    slots_in_order = λ none. none_second l.slots.second second_slot (slot_missing 0 l.slots.first first_slot none);
+    fixed_stack = stack;
+    borrowed = borrowed;
+  }
+
+module _ {A : Type 0} (ms : CallMoves) (f : CallFrame A) (l : ScratchPool) (proper : IsProper ms f) (lends : IsPoolOf f l) where
   lent_of : (p : Place) → (IsOfScratchPair l.registers p) ⊎ (IsOfScratchPair l.slots p) → IsLent f p
-  lent_of p (inl a) = inl (of_registers p a)
-  lent_of p (inr a) = inr (of_slots p a)
+  lent_of p (inl a) = inl (lends.registers p a)
+  lent_of p (inr a) = inr (lends.slots p a)
 
   -- no move names a scratch resource
   unnamed : (p : Place) → IsLent f p → MovesName ms p → ⊥
@@ -120,24 +159,10 @@ module _ {A : Type 0} (ms : CallMoves) (f : CallFrame A) (l : ScratchPool) (prop
 
   no_memory : (p : Place) → IsOfScratchPair l.registers p → is_memory l.fixed_stack p ≡ false
   no_memory p a =
-      let x = of_registers p a in
+      let x = lends.registers p a in
       ap (is_memory l.fixed_stack) x.2
       ∙ ap (λ (s : PRegSet). has_register s (free_at f x.0)) lends.fixed_stack
       ∙ not_true (has_register f.stack_pregs (free_at f x.0)) (λ e. proper.free.registers x.0 x.1 (inr (inr e)))
-
-  in_register : (a b : Register) → InRegister a ≡ InRegister b → a ≡ b
-  in_register a b e = cc
-
-  in_slot : (a b : ℕ) → InSlot a ≡ InSlot b → a ≡ b
-  in_slot a b e = cc
-
-  slot_missing : (k : ℕ) (o : Option Place) → IsSlotAt f k o → o ≡ None → f.slots.«end» ≤ f.slots.start + k
-  slot_missing k o h e = subst (IsSlotAt f k) e h
-
-  -- where the range is empty there is no second slot
-  elim_none : (o : Option Place) → IsSlotAt f 1 o → f.slots.«end» ≤ f.slots.start + 0 → o ≡ None
-  elim_none None h empty = refl
-  elim_none (Some p) h empty = absurd (omega (arith, h.0))
 
   module _ (scratch : Bool) (given : Moves) (resolved : IsResolution (with_units ms) scratch given) where
     -- a move that was made of the moves names no scratch resource
@@ -158,17 +183,12 @@ module _ {A : Type 0} (ms : CallMoves) (f : CallFrame A) (l : ScratchPool) (prop
     pub usable : IsUsableFor l given
     usable = record {
       free = λ p a. let x = lent_of p (inl a) in ((λ e. lent_real p x (sym e)), all_spared p x, no_memory p a);
-      unused = λ p a. let x = of_slots p a in (all_spared p (inr x), (x.0, x.3));
+      unused = λ p a. let x = lends.slots p a in (all_spared p (inr x), (x.0, x.3));
       registers_differ = λ p q a b e.
-          let x = register_at 0 l.registers.first p lends.first_register a in
-          let y = register_at 1 l.registers.second q lends.second_register b in
-          proper.free.registers 1 y.0 (inr (inl (0, (omega arith), in_register (free_at f 0) (free_at f 1) (sym x.1 ∙ e ∙ y.1))));
-      slots_differ = λ p q a b e.
-          let x = slot_at 0 l.slots.first p lends.first_slot a in
-          let y = slot_at 1 l.slots.second q lends.second_slot b in
-          let same : f.slots.start + 0 ≡ f.slots.start + 1 = in_slot (f.slots.start + 0) (f.slots.start + 1) (sym x.1 ∙ e ∙ y.1) in
-          omega arith;
-      slots_in_order = λ none. elim_none l.slots.second lends.second_slot (slot_missing 0 l.slots.first lends.first_slot none);
+          let x = lends.registers_apart p q a b in
+          proper.free.registers x.1 x.3 (inr (inl (x.0, x.2, in_register (free_at f x.0) (free_at f x.1) (sym x.4 ∙ e ∙ x.5))));
+      slots_differ = lends.slots_apart;
+      slots_in_order = lends.slots_in_order;
       borrowed = ap (λ (s : PRegSet). has_register s l.borrowed) lends.fixed_stack
           ∙ ap (has_register f.stack_pregs) lends.borrowed
           ∙ not_true (has_register f.stack_pregs f.borrowed) (λ e. proper.free.borrowed (inr e));
@@ -198,6 +218,5 @@ module _ {A : Type 0} (ms : CallMoves) (f : CallFrame A) (l : ScratchPool) (prop
 
   -- an error of the resolver is one of the call
   pub fails : (fault : MoveFault) → (fault ≡ NoSlot → HasTooFewSlots l.slots) → IsCallFault ms f (fault_of fault)
-  fails NoSlot h = ⊎_elim (λ e. (proper, omega (arith, slot_missing 0 l.slots.first lends.first_slot e)))
-      (λ e. (proper, omega (arith, slot_missing 1 l.slots.second lends.second_slot e))) (h refl)
+  fails NoSlot h = (proper, lends.slots_missing (h refl))
   fails Memory h = proper

@@ -52,7 +52,7 @@ module _ (ms : CallMoves) (n : ℕ) (t u : Words) (h : IsTable ms n t) (from : I
   all_words j (inl less) = h.words j less
   all_words j (inr same) = subst (λ i. IsPlace (source ms i) × IsPlace (target ms i)) (sym same) (from, to)
 
-  -- with the words of move n put in, the table has those of one move more
+  -- with the words of move n put in, the table has the words of the first n + 1 moves
   pub table_more : IsTable ms (n + 1) u
   table_more = record {
     there = λ j lt. all_there j lt (below_or_last j n lt);

@@ -9,16 +9,17 @@ use Rattle.regalloc2_parts.specs.AtOnce.{ends_of, own_names, in_turn}
 use Rattle.regalloc2_parts.specs.declared.moves.MoveFault.{MoveFault}
 use Rattle.regalloc2_parts.specs.declared.moves.MoveFault.TheVariants.{NoSlot as NoMoveSlot, Memory as NoMemory}
 use Rattle.regalloc2_parts.specs.declared.scratch_pool.ScratchPool.{ScratchPool}
+use Rattle.regalloc2_parts.specs.ScratchPool.{IsOfScratchPair, DoDiffer, HasTooFewSlots}
 use Rattle.regalloc2_parts.specs.declared.callmoves.CallFault.{CallFault}
 use Rattle.regalloc2_parts.specs.declared.callmoves.CallFault.TheVariants.{NoneNamed, TwoSources, InUse, NoSlot, Memory}
-use Rattle.regalloc2_steps.specs.declared.frame.CallFrame.{CallFrame}
-use Rattle.regalloc2_steps.specs.Frame.{free_at, IsRegisterAt}
+use Rattle.regalloc2_parts.specs.declared.callmoves.CallFrame.{CallFrame}
+use Rattle.regalloc2_parts.specs.Callmoves.Frame.{free_at}
 
 -- the moves of a call: each from a place to a place
 abbrev pub CallMoves : Type 0
 CallMoves = List (Place × Place)
 
--- the same moves, each with an empty value
+-- the moves of a call, each with an empty value
 abbrev pub with_units : CallMoves → List (Place × Place × Unit {0})
 with_units ms = map (λ m. (m.0, m.1, tt)) ms
 
@@ -39,7 +40,7 @@ HasNone n P = (k : ℕ) → k < n → P k → ⊥
 abbrev pub IsLowest : ℕ → (ℕ → Type 0) → ℕ → Type 0
 IsLowest n P k = (k < n) × P k × HasNone k P
 
--- that number, or none where there is none
+-- the lowest number at which P holds, or none if it holds at none below n
 abbrev pub IsFirstOrNone : ℕ → (ℕ → Type 0) → Option ℕ → Type 0
 IsFirstOrNone n P None = HasNone n P
 IsFirstOrNone n P (Some k) = IsLowest n P k
@@ -48,7 +49,7 @@ IsFirstOrNone n P (Some k) = IsLowest n P k
 abbrev pub NamesNoPlace : CallMoves → ℕ → Type 0
 NamesNoPlace ms k = (source ms k ≡ NoPlace) ⊎ (target ms k ≡ NoPlace)
 
--- an earlier move has the destination of this one, and another source
+-- a move before k has the destination of the move k, and another source
 abbrev pub HasOtherSource : CallMoves → ℕ → Type 0
 HasOtherSource ms k = (j : ℕ) × (j < k) × (target ms j ≡ target ms k) × (source ms j ≢ source ms k)
 
@@ -129,17 +130,17 @@ IsLent f p =
     ((k : ℕ) × (k < length f.free_regs.items) × (p ≡ InRegister (free_at f k)))
     ⊎ ((n : ℕ) × (f.slots.start ≤ n) × (n < f.slots.«end») × (p ≡ InSlot n))
 
--- the slot so many after the start of the range, if it exists
-abbrev pub IsSlotAt : {A : Type 0} → CallFrame A → ℕ → Option Place → Type 0
-IsSlotAt f k None = f.slots.«end» ≤ f.slots.start + k
-IsSlotAt f k (Some p) = (f.slots.start + k < f.slots.«end») × (p ≡ InSlot (f.slots.start + k))
-
--- the scratch places of a frame
+-- scratch places that a frame lends: free registers, slots of its range, and the borrowed register
 pub record IsPoolOf {A : Type 0} (f : CallFrame A) (l : ScratchPool) : Type 0 where
-  pub first_register : IsRegisterAt f 0 l.registers.first
-  pub second_register : IsRegisterAt f 1 l.registers.second
-  pub first_slot : IsSlotAt f 0 l.slots.first
-  pub second_slot : IsSlotAt f 1 l.slots.second
+  pub registers : (p : Place) → IsOfScratchPair l.registers p → (k : ℕ) × (k < length f.free_regs.items) × (p ≡ InRegister (free_at f k))
+  pub slots : (p : Place) → IsOfScratchPair l.slots p → (n : ℕ) × (f.slots.start ≤ n) × (n < f.slots.«end») × (p ≡ InSlot n)
+  -- two registers have two indexes in the frame, and two slots differ
+  pub registers_apart : (p q : Place) → l.registers.first ≡ Some p → l.registers.second ≡ Some q → (j : ℕ) × (k : ℕ) × (j < k) × (k < length f.free_regs.items)
+      × (p ≡ InRegister (free_at f j)) × (q ≡ InRegister (free_at f k))
+  pub slots_apart : DoDiffer l.slots
+  -- a slot is missing only where the range has fewer than two
+  pub slots_missing : HasTooFewSlots l.slots → f.slots.«end» ≤ f.slots.start + 1
+  pub slots_in_order : l.slots.first ≡ None → l.slots.second ≡ None
   pub fixed_stack : l.fixed_stack ≡ f.stack_pregs
   pub borrowed : l.borrowed ≡ f.borrowed
 

@@ -4,12 +4,12 @@ ghost use Rattle.std.specs.Prelude.{◌≡◌, ◌≢◌, ◌<◌, ◌≤◌, �
 ghost use Rattle.regalloc2_names.specs.Place.{InRegister, InSlot, is_place};
 ghost use Rattle.regalloc2_names.specs.Register.{Register};
 ghost use Rattle.regalloc2_names.specs.RegisterSet.{has_register};
+ghost use Rattle.regalloc2_parts.specs.Callmoves.Frame.{slot_limit};
 ghost use Rattle.regalloc2_parts.specs.Callmoves.CallMoves.{source, target, HasNone, IsFirstOrNone, NamesNoPlace, HasOtherSource, MovesName};
 ghost use Rattle.regalloc2_parts.specs.Callmoves.CallMoves.{IsLower, IsNotFree, IsFreeRegister, IsBorrowedTaken, IsNamedSlot, IsFirstInUseOrNone, IsFoundOrNone};
 
 use super::{CallFault, CallFrame};
 use regalloc2_names::{Allocation, PReg, PRegSet, SpillSlot};
-use regalloc2_steps::frame::free_reg;
 use std::alloc::{AllocError, Allocator};
 use std::collections::HashMap;
 use std::hash::{BuildHasherDefault, FoldHasher};
@@ -17,7 +17,7 @@ use std::hash::{BuildHasherDefault, FoldHasher};
 /// Up to this many moves are compared pairwise, without a table.
 const FEW: usize = 16;
 
-/// The source of a move.
+/// The source of the move at `at`.
 fn source_at(moves: &[(Allocation, Allocation)], at: usize) -> Allocation
     requires { at < length moves.now }
     ensures { result ≡ source moves.now at }
@@ -25,7 +25,7 @@ fn source_at(moves: &[(Allocation, Allocation)], at: usize) -> Allocation
     moves[at].0
 }
 
-/// The destination of a move.
+/// The destination of the move at `at`.
 fn target_at(moves: &[(Allocation, Allocation)], at: usize) -> Allocation
     requires { at < length moves.now }
     ensures { result ≡ target moves.now at }
@@ -33,7 +33,7 @@ fn target_at(moves: &[(Allocation, Allocation)], at: usize) -> Allocation
     moves[at].1
 }
 
-/// Whether a move names no place.
+/// Whether the move at `at` names no place.
 fn names_none(moves: &[(Allocation, Allocation)], at: usize) -> bool
     requires { at < length moves.now }
     ensures yes { result ≡ true → NamesNoPlace moves.now at }
@@ -55,7 +55,7 @@ fn find_none(moves: &[(Allocation, Allocation)]) -> Option<usize>
     None
 }
 
-/// Whether two moves have one destination and two sources.
+/// Whether the moves at `j` and `at` have one destination and two sources.
 fn do_differ(moves: &[(Allocation, Allocation)], j: usize, at: usize) -> bool
     requires first { j < length moves.now }
     requires second { at < length moves.now }
@@ -66,7 +66,7 @@ fn do_differ(moves: &[(Allocation, Allocation)], j: usize, at: usize) -> bool
         && !source_at(moves, j).is_same(source_at(moves, at))
 }
 
-/// Whether an earlier move has the destination of this one, and another source.
+/// Whether a move before `at` has the destination of the move at `at`, and another source.
 fn has_other_source(moves: &[(Allocation, Allocation)], at: usize) -> bool
     requires { at < length moves.now }
     ensures yes { result ≡ true → HasOtherSource moves.now at }
@@ -93,7 +93,8 @@ fn find_by_pairs(moves: &[(Allocation, Allocation)]) -> Option<usize>
     None
 }
 
-/// The same by a table of destinations, in time linear in the number of moves.
+/// Returns what `find_by_pairs` does, by a table of destinations: in time linear in the number of
+/// moves.
 fn find_by_table<A: Allocator + Copy>(
     alloc: A,
     moves: &[(Allocation, Allocation)],
@@ -113,7 +114,8 @@ fn find_by_table<A: Allocator + Copy>(
     Ok(None)
 }
 
-/// The same, by a table if that is faster and its memory can be allocated.
+/// Returns what `find_by_pairs` does, by the table if that is faster and its memory can be
+/// allocated.
 fn find_two_sources<A: Allocator + Copy>(
     alloc: A,
     moves: &[(Allocation, Allocation)],
@@ -129,7 +131,7 @@ fn find_two_sources<A: Allocator + Copy>(
     }
 }
 
-/// Adds the place to a set, if it is a register.
+/// Adds `place` to `set` if it is a register.
 fn add_place(set: &mut PRegSet, place: Allocation)
     ensures { (r : Register) → has_register set.new r ≡ is_place place (InRegister r) || has_register set.old r }
 {
@@ -161,7 +163,7 @@ fn find_taken<A: Allocator>(
     let mut taken = named_registers(moves);
     taken.union_from(frame.stack_pregs);
     for at in 0..frame.free_regs.len() {
-        let preg = free_reg(frame, at);
+        let preg = frame.free_regs[at];
         if taken.contains(preg) {
             return Some(at);
         }
@@ -170,14 +172,14 @@ fn find_taken<A: Allocator>(
     None
 }
 
-/// Whether a register is one of the free ones.
+/// Whether `preg` is one of the frame's free registers.
 fn is_free<A: Allocator>(frame: &CallFrame<A>, preg: PReg) -> bool
     ensures yes { result ≡ true → IsFreeRegister frame.now preg }
     ensures no { result ≡ false → IsFreeRegister frame.now preg → ⊥ }
 {
     let place = Allocation::reg(preg);
     for at in 0..frame.free_regs.len() {
-        if place.is_same(Allocation::reg(free_reg(frame, at))) {
+        if place.is_same(Allocation::reg(frame.free_regs[at])) {
             return true;
         }
     }
@@ -192,7 +194,7 @@ fn is_borrowed_taken<A: Allocator>(frame: &CallFrame<A>) -> bool
     is_free(frame, frame.borrowed) || frame.stack_pregs.contains(frame.borrowed)
 }
 
-/// The number of the place, if it is a slot.
+/// The number of `place`, if it is a slot.
 fn slot_number(place: Allocation) -> Option<usize>
     ensures { MatchOption result ((n : ℕ) → place ≢ InSlot n) (λ n. place ≡ InSlot n) }
 {
@@ -202,7 +204,7 @@ fn slot_number(place: Allocation) -> Option<usize>
     }
 }
 
-/// The number, if it is in `start..lowest`, else `lowest`.
+/// `number` if it is in `start..lowest`, else `lowest`.
 fn lower_number(number: usize, start: usize, lowest: usize) -> usize
     ensures least { result ≤ lowest }
     ensures number { result < lowest → (start ≤ result) × (number ≡ result) }
@@ -215,7 +217,7 @@ fn lower_number(number: usize, start: usize, lowest: usize) -> usize
     }
 }
 
-/// The number of the place if it is a slot in `start..lowest`, else `lowest`.
+/// The number of `place` if it is a slot in `start..lowest`, else `lowest`.
 fn lower(place: Allocation, start: usize, lowest: usize) -> usize
     ensures { IsLower place start lowest result }
 {
@@ -245,11 +247,11 @@ fn find_in_use<A: Allocator>(
     moves: &[(Allocation, Allocation)],
     frame: &CallFrame<A>,
 ) -> Option<Allocation>
-    requires { frame.now.slots.«end» ≤ 16777216 }
+    requires { frame.now.slots.«end» ≤ slot_limit }
     ensures { IsFirstInUseOrNone moves.now frame.now result }
 {
     if let Some(at) = find_taken(moves, frame) {
-        return Some(Allocation::reg(free_reg(frame, at)));
+        return Some(Allocation::reg(frame.free_regs[at]));
     }
     if is_borrowed_taken(frame) {
         return Some(Allocation::reg(frame.borrowed));
@@ -268,7 +270,7 @@ pub(super) fn find_fault<A: Allocator + Copy, B: Allocator>(
     moves: &[(Allocation, Allocation)],
     frame: &CallFrame<B>,
 ) -> Option<CallFault>
-    requires { frame.now.slots.«end» ≤ 16777216 }
+    requires { frame.now.slots.«end» ≤ slot_limit }
     ensures { IsFoundOrNone moves.now frame.now result }
 {
     if let Some(at) = find_none(moves) {

@@ -1,22 +1,33 @@
 //! The registers and slots of a frame that the moves of a call may use.
 
 ghost use Rattle.std.specs.Prelude.{◌≤◌};
-ghost use Rattle.regalloc2_parts.specs.Callmoves.CallMoves.{IsPoolOf, IsSlotAt};
+ghost use Rattle.regalloc2_parts.specs.Callmoves.CallMoves.{IsPoolOf};
+ghost use Rattle.regalloc2_parts.specs.Callmoves.Frame.{IsRegisterAt, IsSlotAt, slot_limit};
 
 use super::CallFrame;
 use crate::scratch_pool::{ScratchPair, ScratchPool};
 use regalloc2_names::{Allocation, SpillSlot};
-use regalloc2_steps::frame::free_pair;
 use std::alloc::Allocator;
 
-/// The slot so many after the start of the range, where there is one.
-fn slot_at<A: Allocator>(frame: &CallFrame<A>, at: usize) -> Option<Allocation>
-    requires range { frame.now.slots.start ≤ frame.now.slots.«end» }
-    requires small { frame.now.slots.«end» ≤ 16777216 }
-    requires near { at ≤ 1 }
-    ensures { IsSlotAt frame.now at result }
+/// The free register of `index`, if it exists.
+fn register_at<A: Allocator>(frame: &CallFrame<A>, index: usize) -> Option<Allocation>
+    ensures { IsRegisterAt frame.now index result }
 {
-    let slot = frame.slots.start + at;
+    if index < frame.free_regs.len() {
+        Some(Allocation::reg(frame.free_regs[index]))
+    } else {
+        None
+    }
+}
+
+/// The slot of the range that is `index` after its start, if it exists.
+fn slot_at<A: Allocator>(frame: &CallFrame<A>, index: usize) -> Option<Allocation>
+    requires range { frame.now.slots.start ≤ frame.now.slots.«end» }
+    requires small { frame.now.slots.«end» ≤ slot_limit }
+    requires near { index ≤ 1 }
+    ensures { IsSlotAt frame.now index result }
+{
+    let slot = frame.slots.start + index;
     if slot < frame.slots.end {
         Some(Allocation::stack(SpillSlot::new(slot)))
     } else {
@@ -24,15 +35,18 @@ fn slot_at<A: Allocator>(frame: &CallFrame<A>, at: usize) -> Option<Allocation>
     }
 }
 
-/// The scratch places for a frame's moves: at most two registers and two slots are needed.
+/// The scratch places for a frame's moves: at most two registers and two slots are needed. The
+/// borrowed register is none of these registers, because its value is needed.
 pub(super) fn scratch_pool<A: Allocator>(frame: &CallFrame<A>) -> ScratchPool
     requires range { frame.now.slots.start ≤ frame.now.slots.«end» }
-    requires small { frame.now.slots.«end» ≤ 16777216 }
+    requires small { frame.now.slots.«end» ≤ slot_limit }
     ensures { IsPoolOf frame.now result }
 {
-    let (first, second) = free_pair(frame);
     ScratchPool {
-        registers: ScratchPair { first, second },
+        registers: ScratchPair {
+            first: register_at(frame, 0),
+            second: register_at(frame, 1),
+        },
         slots: ScratchPair {
             first: slot_at(frame, 0),
             second: slot_at(frame, 1),

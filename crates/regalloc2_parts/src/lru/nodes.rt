@@ -8,14 +8,14 @@ ghost use Rattle.regalloc2_parts.specs.RingNodes.{IsNodeRing, IsRingOfNumbers, l
 use regalloc2_names::{PReg, PRegSetIter, RegClass};
 use std::marker::Model;
 
-/// The number before a register's in its ring, and the number after it.
+/// The links of a register's number: the numbers before and after it in the ring.
 #[derive(Clone, Copy, Debug)]
 pub struct LruNode {
     pub prev: u8,
     pub next: u8,
 }
 
-/// Makes two numbers neighbours: two links change.
+/// Makes `prev` and `next` neighbours: two links change.
 fn link(nodes: &mut [LruNode], prev: u8, next: u8)
     requires prev { prev < length nodes.old }
     requires next { next < length nodes.old }
@@ -28,7 +28,7 @@ fn link(nodes: &mut [LruNode], prev: u8, next: u8)
     nodes[next as usize].prev = prev;
 }
 
-/// Adds a number to a ring, as the least recently used.
+/// Adds `number` to the ring of `head`, as the least recently used.
 pub fn append_node(nodes: &mut [LruNode], head: u8, number: u8)
     requires ring { IsNodeRing nodes.old head }
     requires below { number < length nodes.old }
@@ -42,7 +42,7 @@ pub fn append_node(nodes: &mut [LruNode], head: u8, number: u8)
     link(nodes, number, head);
 }
 
-/// Removes a member other than the most recently used from a ring.
+/// Removes `number`, a member other than the most recently used, from the ring of `head`.
 fn take_out_node(nodes: &mut [LruNode], head: u8, number: u8)
     requires ring { IsNodeRing nodes.old head }
     requires member { Contains (ring_numbers nodes.old head) number }
@@ -55,8 +55,8 @@ fn take_out_node(nodes: &mut [LruNode], head: u8, number: u8)
     link(nodes, node.prev, node.next);
 }
 
-/// Makes a member other than the most recently used the least recently used of a ring; the others
-/// keep their order.
+/// Makes `number`, a member other than the most recently used, the least recently used of the ring of
+/// `head`. The other members keep their order.
 fn make_oldest(nodes: &mut [LruNode], head: u8, number: u8)
     requires ring { IsNodeRing nodes.old head }
     requires member { Contains (ring_numbers nodes.old head) number }
@@ -69,8 +69,8 @@ fn make_oldest(nodes: &mut [LruNode], head: u8, number: u8)
     append_node(nodes, head, number);
 }
 
-/// Makes any member the most recently used of a ring, as `poke_node` does, which calls it for those
-/// that aren't the least recently used.
+/// Makes any member the most recently used of a ring, as `poke_node` does, which calls it for members
+/// other than the least recently used.
 #[inline(never)]
 fn poke_younger(nodes: &mut [LruNode], head: &mut u8, number: u8)
     requires ring { IsNodeRing nodes.old head.old }
@@ -86,8 +86,8 @@ fn poke_younger(nodes: &mut [LruNode], head: &mut u8, number: u8)
     *head = number;
 }
 
-/// Makes a member the most recently used of a ring; the others keep their order. At most six links
-/// and the head change.
+/// Makes `number`, a member, the most recently used of the ring of `head`; the other members keep their
+/// order. At most six links and the head change.
 ///
 /// For the least recently used member only the head changes: it is right before the most recently
 /// used one in the ring, and so is already at its new place. This case is tested first, and inline,
@@ -107,7 +107,7 @@ pub fn poke_node(nodes: &mut [LruNode], head: &mut u8, number: u8)
     poke_younger(nodes, head, number);
 }
 
-/// Makes the ring of a register's number and of those left in a walk over a set.
+/// Makes the ring of `head` and the numbers of the registers that are left in the walk `rest`.
 pub fn make_ring(nodes: &mut [LruNode], head: u8, rest: PRegSetIter)
     requires room { length nodes.old ≡ 64 }
     requires below { head < 64 }
@@ -144,7 +144,7 @@ impl<'a> Model for OldestFirst<'a> {
 }
 
 impl<'a> OldestFirst<'a> {
-    /// The walk over no register.
+    /// A walk over no register.
     pub fn none(nodes: &'a [LruNode], class: RegClass) -> Self
         requires { length nodes.now ≤ 64 }
         ensures { result ≡ [] }
@@ -157,7 +157,7 @@ impl<'a> OldestFirst<'a> {
         }
     }
 
-    /// The walk over a ring.
+    /// A walk over the ring of `head`.
     #[inline(always)]
     pub fn of(nodes: &'a [LruNode], head: u8, class: RegClass) -> Self
         requires few { length nodes.now ≤ 64 }

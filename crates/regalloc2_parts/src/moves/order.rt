@@ -1,6 +1,6 @@
 //! The order in which overlapping moves are made.
 //!
-//! A move must come before the one that overwrites its source: call that one its next. A place has
+//! The *next* of a move is the move that overwrites its source, and must come after it. A place has
 //! one writer, so each move has at most one next, and following nexts from a move gives a single
 //! chain. It ends at a move whose source no move writes, whose next was already emitted, or whose
 //! next is on the chain. In the third case it closes a ring, and a simple one: each of its moves
@@ -27,7 +27,6 @@ ghost use Rattle.regalloc2_parts.specs.declared.moves.order.State.TheVariants.{T
 
 use super::{MoveFault, MoveVec, MoveVecWithScratch};
 use regalloc2_names::Allocation;
-use regalloc2_steps::cycle::{are_free, opened};
 use smallvec::SmallVec;
 use std::alloc::{AllocError, Allocator};
 
@@ -46,8 +45,8 @@ pub(super) enum State {
     Done,
 }
 
-/// Follows a chain of moves, each by the one that writes its source, and returns where it stops: at
-/// a move that isn't `Todo`, or past the end.
+/// Follows the chain of nexts from `start`, and returns where it stops: at a move that isn't `Todo`,
+/// or past the end.
 fn follow<'a, B: Allocator>(
     start: usize,
     nexts: &[usize],
@@ -71,7 +70,7 @@ fn follow<'a, B: Allocator>(
     Ok(at)
 }
 
-/// Whether a move is on the chain that is followed. No move past the end is.
+/// Whether the move at `at` is on the chain that is followed. No move past the end is.
 fn is_pending(state: &[State], at: usize) -> bool
     ensures yes { result ≡ true → (at < length state.now) × (state_at state.now at ≡ Pending) }
     ensures no { result ≡ false → at < length state.now → state_at state.now at ≢ Pending }
@@ -79,9 +78,9 @@ fn is_pending(state: &[State], at: usize) -> bool
     at < state.len() && matches!(state[at], State::Pending)
 }
 
-/// Opens the ring that a chain closes: emits its last move as one from no place. Returns that move,
-/// whose source `give_chain` saves after the ring's first move, and the first move; past the end
-/// for both if there is no ring.
+/// Opens the ring that a chain closes: emits its last move as a move from `Allocation::none()`, which
+/// stands for the scratch place. Returns the indexes of the last move, whose source `give_chain`
+/// saves, and of the ring's first move; past the end for both if there is no ring.
 fn open_ring<'a, T: Copy + Default, A: Allocator + Copy>(
     moves: &[(Allocation, Allocation, T)],
     nexts: &[usize],
@@ -100,13 +99,14 @@ fn open_ring<'a, T: Copy + Default, A: Allocator + Copy>(
     let Some(last) = chain.pop() else {
         return Ok((moves.len(), moves.len()));
     };
-    given.push(opened(moves[last]))?;
+    let end = moves[last];
+    given.push((Allocation::none(), end.1, end.2))?;
     state[last] = State::Done;
     Ok((last, stop))
 }
 
-/// Emits the moves of a chain from its end on. If the chain closes a ring, given as its last move
-/// and its first one, a move that saves the last one's source follows the first; if there is no
+/// Emits the moves of `chain` from its end on. If the chain closes a ring, `ring` is its last move and
+/// its first, and a move that saves the last move's source is emitted after the first; if there is no
 /// ring, both are past the end.
 fn give_chain<'a, T: Copy + Default, A: Allocator + Copy>(
     moves: &[(Allocation, Allocation, T)],
@@ -133,7 +133,7 @@ fn give_chain<'a, T: Copy + Default, A: Allocator + Copy>(
     Ok(())
 }
 
-/// Emits the chain that begins at a move.
+/// Emits the chain that begins at the move `start`.
 fn give_from<'a, T: Copy + Default, A: Allocator + Copy>(
     moves: &[(Allocation, Allocation, T)],
     nexts: &[usize],
@@ -194,8 +194,8 @@ fn give_all<T: Copy + Default, A: Allocator + Copy>(
     give_chains(alloc, moves, nexts, states.as_mut_slice(), &mut chain)
 }
 
-/// Whether a place's encoding is below those of all destinations, or above them. The moves are
-/// sorted by these encodings.
+/// Whether the encoding of `place` is below or above the encodings of all destinations. The moves
+/// are sorted by destination.
 fn is_outside<T: Copy + Default>(moves: &[(Allocation, Allocation, T)], place: Allocation) -> bool
     requires { IsNonDecreasingBy (λ (m : Place × Place × _). bits_of_place m.1) moves.now }
     ensures outside { IsTrue result → (j : ℕ) (d : Place × Place × _) → j < length moves.now →
@@ -212,8 +212,8 @@ fn is_outside<T: Copy + Default>(moves: &[(Allocation, Allocation, T)], place: A
     word < moves[0].1.bits() || moves[end - 1].1.bits() < word
 }
 
-/// The index of the move that writes a place, or past the end if no move does. Slots are numbered
-/// as they are made: the slot of an argument is often above those of all parameters, and then
+/// The index of the move that writes `place`, or past the end if no move does. Slots are numbered as
+/// they are made: the slot of an argument is often above the slots of all parameters, and then
 /// nothing is searched.
 fn find_writer<T: Copy + Default>(moves: &[(Allocation, Allocation, T)], place: Allocation) -> usize
     requires sorted { IsNonDecreasingBy (λ (m : Place × Place × _). bits_of_place m.1) moves.now }
@@ -230,7 +230,7 @@ fn find_writer<T: Copy + Default>(moves: &[(Allocation, Allocation, T)], place: 
     }
 }
 
-/// Whether a move has an index, and writes a place.
+/// Whether there is a move at `at`, and it writes `place`.
 fn is_writer<T: Copy + Default>(
     moves: &[(Allocation, Allocation, T)],
     at: usize,
@@ -243,8 +243,8 @@ fn is_writer<T: Copy + Default>(
     at < moves.len() && moves[at].1.bits() == place.bits()
 }
 
-/// The index of the move that writes a place, or past the end if no move does. It searches only if
-/// the move of index `guess` doesn't write the place.
+/// The index of the move that writes `place`, or past the end if no move does. Searches only if the
+/// move at `guess` doesn't write it.
 fn find_writer_near<T: Copy + Default>(
     moves: &[(Allocation, Allocation, T)],
     place: Allocation,
@@ -261,9 +261,8 @@ fn find_writer_near<T: Copy + Default>(
     find_writer(moves, place)
 }
 
-/// For each move, the index of the one that writes its source, or past the end if none does. Slots
-/// of arguments and of parameters are mostly numbered in one order, so the guess is the index after
-/// the last one found.
+/// The index of each move's next, or past the end if it has none. Slots of arguments and of
+/// parameters are mostly numbered in one order, so the guess is the index after the last found.
 fn find_nexts<'a, T: Copy + Default, B: Allocator>(
     alloc: &'a B,
     moves: &[(Allocation, Allocation, T)],
@@ -327,7 +326,8 @@ fn turn_round<T: Copy + Default, A: Allocator + Copy>(moves: &mut MoveVec<T, A>)
     moves.as_mut_slice().reverse();
 }
 
-/// The moves in the order that the list of nexts asks for, if another one than theirs.
+/// The moves in the order that `nexts` requires; `None` if they can be made as they stand, because
+/// none reads what another writes.
 #[inline(always)]
 fn in_turn_order<T: Copy + Default, A: Allocator + Copy>(
     alloc: A,
@@ -337,7 +337,8 @@ fn in_turn_order<T: Copy + Default, A: Allocator + Copy>(
     requires { CanReorder moves.now nexts.now }
     ensures { IfOk result (IsReordered moves.now nexts.now) }
 {
-    if are_free(nexts) {
+    let end = nexts.len();
+    if nexts.iter().all(|next| *next >= end) {
         return Ok(None);
     }
     let mut given = give_all(alloc, moves, nexts)?;
@@ -351,7 +352,7 @@ fn in_turn_order<T: Copy + Default, A: Allocator + Copy>(
     }))
 }
 
-/// The moves of a tidy list in another order, if theirs won't do.
+/// The moves of a tidy list in another order; `None` if they can be made as they stand.
 #[inline(always)]
 fn reordered<T: Copy + Default, A: Allocator + Copy>(
     alloc: A,

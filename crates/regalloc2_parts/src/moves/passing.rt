@@ -4,11 +4,33 @@ ghost use Rattle.std.specs.Prelude.{◌≡◌, ◌≢◌, ◌⊎◌, Contains, I
 ghost use Rattle.regalloc2_names.specs.Place.{Place};
 ghost use Rattle.regalloc2_parts.specs.AtOnce.{CellsOf, ends_of, in_turn, moved};
 ghost use Rattle.regalloc2_parts.specs.Tracking.{Tracks, CanPass, SavesOrRestores, GoesThrough, IsMadeFor};
-ghost use Rattle.regalloc2_steps.specs.declared.borrowed.Held.TheVariants.{InSave};
+ghost use Rattle.regalloc2_parts.specs.declared.moves.passing.Held.TheVariants.{InSave};
 
 use regalloc2_names::Allocation;
-use regalloc2_steps::borrowed::{Held, ScratchReg, restoring};
 use std::alloc::{AllocError, Allocator};
+
+/// Where the value is that the moves made so far put into the register.
+#[derive(Clone, Copy)]
+pub(super) enum Held {
+    /// The register is free: no move names it, and its value isn't needed.
+    Free,
+    /// In the register only.
+    InRegister,
+    /// In the register and in the save slot.
+    InBoth,
+    /// In the save slot only: the register holds the last value that went through it.
+    InSave,
+}
+
+/// The register that moves go through, and the slot in which its value is saved. For a free
+/// register, both are the register.
+#[derive(Clone, Copy)]
+pub(super) struct ScratchReg {
+    /// The register.
+    pub register: Allocation,
+    /// The slot.
+    pub save: Allocation,
+}
 
 /// Saves the value that the register must hold, unless it is saved.
 fn save_first<T: Copy + Default, A: Allocator + Copy>(
@@ -32,7 +54,8 @@ fn save_first<T: Copy + Default, A: Allocator + Copy>(
     }
 }
 
-/// Makes the register hold the value that the moves put into it.
+/// Makes the register hold the value that the moves put into it: moves it back if it is in the save
+/// slot only.
 pub(super) fn restore_first<T: Copy + Default, A: Allocator + Copy>(
     via: &ScratchReg,
     held: Held,
@@ -43,14 +66,18 @@ pub(super) fn restore_first<T: Copy + Default, A: Allocator + Copy>(
     ensures restored { IfOk result (λ after. after ≢ InSave) }
     ensures added { OnOk result ((x : Place × Place × _) → Contains out.new.items x → Contains out.old.items x ⊎ SavesOrRestores via.now.register via.now.save x) }
 {
-    let Some(ends) = restoring(via, held) else {
-        return Ok(held);
-    };
-    out.push((ends.0, ends.1, T::default()))?;
-    Ok(Held::InBoth)
+    match held {
+        Held::Free => Ok(Held::Free),
+        Held::InRegister => Ok(Held::InRegister),
+        Held::InBoth => Ok(Held::InBoth),
+        Held::InSave => {
+            out.push((via.save, via.register, T::default()))?;
+            Ok(Held::InBoth)
+        }
+    }
 }
 
-/// Makes a move by way of the register.
+/// Makes the move `m` by way of the register.
 fn pass<T: Copy + Default, A: Allocator + Copy>(
     m: &(Allocation, Allocation, T),
     via: &ScratchReg,
@@ -72,7 +99,7 @@ fn pass<T: Copy + Default, A: Allocator + Copy>(
     Ok(after)
 }
 
-/// Makes a move as it is. Its source must be available: not in the save slot only.
+/// Makes the move `m` as it is. Its source must be available: not in the save slot only.
 fn copy<T: Copy + Default, A: Allocator + Copy>(
     m: &(Allocation, Allocation, T),
     via: &ScratchReg,
@@ -92,7 +119,7 @@ fn copy<T: Copy + Default, A: Allocator + Copy>(
     Ok(held)
 }
 
-/// Makes a move, by way of the register if it is stack-to-stack.
+/// Makes the move `m`, by way of the register if it is stack-to-stack: if `is_passing` is true.
 pub(super) fn make<T: Copy + Default, A: Allocator + Copy>(
     m: &(Allocation, Allocation, T),
     is_passing: bool,

@@ -19,14 +19,14 @@ pub enum MoveVecWithScratch<T: Drop, A: Allocator = Global> {
     Scratch(MoveVec<T, A>),
 }
 
-/// The place, or the scratch place in place of none.
+/// `place`, or `scratch` if it is `Allocation::none()`.
 fn or_scratch(place: Allocation, scratch: Allocation) -> Allocation
     ensures { result ≡ place_or scratch place }
 {
     if place.is_none() { scratch } else { place }
 }
 
-/// Puts the scratch place wherever a move names none.
+/// Puts `scratch` wherever a move names `Allocation::none()`.
 fn fill<T: Copy + Default>(moves: &mut [(Allocation, Allocation, T)], scratch: Allocation)
     ensures { moves.new ≡ map (filled scratch) moves.old }
 {

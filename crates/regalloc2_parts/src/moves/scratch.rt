@@ -6,9 +6,9 @@ ghost use Rattle.regalloc2_parts.specs.Tracking.{CanExpandBy, IsExpanded};
 ghost use Rattle.regalloc2_parts.specs.Computed.{CanAsk, CanCompute, IsHanding, IsRefusing, IsVia, IsPlaceChosen};
 ghost use Rattle.regalloc2_parts.specs.Computed.{Computes, AreApartInMemory, AreSeenApart};
 
-use super::{MoveFault, MoveVec, MoveVecWithScratch, passing};
+use super::passing::{self, Held, ScratchReg};
+use super::{MoveFault, MoveVec, MoveVecWithScratch};
 use regalloc2_names::{Allocation, PReg};
-use regalloc2_steps::borrowed::{Held, ScratchReg};
 use smallvec::SmallVec;
 use std::alloc::Allocator;
 
@@ -44,8 +44,8 @@ enum Handed {
 }
 
 impl Handed {
-    /// The register to go through, for a place that the closures returned: a free register is its
-    /// own save place, and in a slot the borrowed register is saved.
+    /// The register to go through: a free register, which is its own save place, or `borrowed`, which
+    /// is saved in the slot.
     fn via(self, borrowed: PReg) -> (ScratchReg, Held)
         ensures { IsVia self (InRegister borrowed) result.0 result.1 }
     {
@@ -93,7 +93,7 @@ where
         }
     }
 
-    /// Whether a move is stack-to-stack.
+    /// Whether a move from `from` to `to` is stack-to-stack.
     fn is_stack_to_stack(&self, from: Allocation, to: Allocation) -> bool
         requires callable { IsStackAlloc.IsAlwaysCallable self.now.is_stack_alloc }
         ensures both { result ≡ true → IsStackAlloc.post self.now.is_stack_alloc from true × IsStackAlloc.post self.now.is_stack_alloc to true }
@@ -116,7 +116,7 @@ where
         false
     }
 
-    /// A scratch place, if one is needed; else `Allocation::none()`.
+    /// A scratch place if `is_needed`, else `Allocation::none()`.
     fn choose_scratch(&mut self, is_needed: bool) -> Result<Allocation, MoveFault>
         requires { CanAsk (GetReg.pre self.old.find_free_reg) (GetStackSlot.pre self.old.get_stackslot) }
         ensures stack { self.new.is_stack_alloc ≡ self.old.is_stack_alloc }
@@ -136,7 +136,7 @@ where
         }
     }
 
-    /// The moves, each stack-to-stack one made by way of a register.
+    /// The moves, of which each stack-to-stack move is made by way of a register.
     fn expand<T: Copy + Default, A: Allocator + Copy>(
         &self,
         alloc: A,

@@ -19,7 +19,7 @@ use Rattle.regalloc2_semantics.specs.Values.Interpreters.{source_step, source_ru
 use Rattle.regalloc2_semantics.specs.Values.Interpreters.{passed_over, numbers_moved, written_to, numbers_clobbered}
 use Rattle.regalloc2_semantics.specs.Values.Alike.{AreAlike, HaveRunAlike, ReadsEarlier, FaithfulRunAlike, WellFormedRunAlike}
 use Rattle.regalloc2_semantics.specs.Laws.{AgreeingReadsFindEarlier}
-use Rattle.regalloc2_semantics.proofs.ValuesLemmas.Standing.{Stands, Holds, moves_stand, early_stand, writes_stand, clobbers_stand, defs_hold, edge_holds, Made}
+use Rattle.regalloc2_semantics.proofs.ValuesLemmas.Standing.{Stands, HoldNumbers, moves_stand, early_stand, writes_stand, clobbers_stand, defs_hold, edge_holds, Made}
 use Rattle.regalloc2_semantics.proofs.ValuesLemmas.Standing.{more, still, newest, before_defs, before_writes, before_clobbers}
 
 -- if two assignments of numbers agree at each operand that is read, the lists of the numbers read are equal
@@ -43,7 +43,7 @@ same_reads is_read a b n (o ∷ os) h =
 -- the number that each write of a path made; vregs and places hold the numbers of their writes
 record Told (f : FunctionValue) (out : OutputValue) (ws : List Way) (e : VirtualRegister → ℕ) (m : Place → ℕ) : Type 0 where
   number : Stamp → ℕ
-  holds : Holds (Made (length ws) number) (source_before f ws) e
+  holds : HoldNumbers (Made (length ws) number) (source_before f ws) e
   stands : Stands (Made (length ws) number) (cells_before f out ws) m
 
 -- the write that a use reads, where it is before the instruction writes, and that it stays there if the use is late
@@ -101,7 +101,7 @@ way_is_there f l taken w e = pick (nat_lt (l.inst + 1) (block_at f l.block).rang
     pick false false less same g = absurd cc
 
 module _ (f : FunctionValue) (out : OutputValue) (meaning : InstMeaning) (noise : History → Place → ℕ) where
-  -- both states at the end of a path
+  -- the states of both runs at the end of a path
   abbrev source_at : List Way → History → (VirtualRegister → ℕ) → State VirtualRegister
   source_at ws h e = record { at = end_of f ws; history = h; numbers = e }
 
@@ -164,7 +164,7 @@ module _ (f : FunctionValue) (out : OutputValue) (meaning : InstMeaning) (noise 
         (newest (length ws) (meaning.writes told) t.number)
         (λ q s x. still (length ws) (meaning.writes told) t.number s (place q) (found_stand q s x)))
 
-    later_hold : Holds (Made (length ws + 1) numbered) (source_after f ws) (vreg_written f meaning (source_at ws h e))
+    later_hold : HoldNumbers (Made (length ws + 1) numbered) (source_after f ws) (vreg_written f meaning (source_at ws h e))
     later_hold = defs_hold (Made (length ws + 1) numbered) (meaning.writes told) (length ws) 0 ops (source_before f ws) e
         (newest (length ws) (meaning.writes told) t.number)
         (λ v s x. still (length ws) (meaning.writes told) t.number s (e v) (t.holds v s x))

@@ -1,4 +1,4 @@
--- A place or vreg that holds a write holds the number of that write.
+-- A place or vreg that holds a write holds the number of the write.
 use Rattle.std.proofs.Common.{ℕ, zero, suc, ◌≡◌, ◌+◌, ◌<◌, Bool, true, false, cond, None, Some, List, [], ◌∷◌, refl, sym, ap, arith, nat_eq, eq-eqb, subst, ◌∙◌}
 use Rattle.std.specs.Prelude.{Option, ◌&&◌, not}
 use Rattle.regalloc2_names.specs.Register.{VirtualRegister, is_vreg}
@@ -23,8 +23,8 @@ abbrev pub Stands : Value → Cells → (Place → ℕ) → Type 0
 Stands R c m = (p : Place) (s : Stamp) → c p ≡ Some s → R s (m p)
 
 -- each vreg that holds a write has a number that it made
-abbrev pub Holds : Value → Source → (VirtualRegister → ℕ) → Type 0
-Holds R c m = (v : VirtualRegister) (s : Stamp) → c v ≡ Some s → R s (m v)
+abbrev pub HoldNumbers : Value → Source → (VirtualRegister → ℕ) → Type 0
+HoldNumbers R c m = (v : VirtualRegister) (s : Stamp) → c v ≡ Some s → R s (m v)
 
 -- one of two, chosen by a test
 chosen : (R : Value) (b : Bool) (x y : Option Stamp) (n k : ℕ) (s : Stamp) → ((t : Stamp) → x ≡ Some t → R t n) → ((t : Stamp) → y ≡ Some t → R t k) →
@@ -33,8 +33,8 @@ chosen R true x y n k s h g e = h s e
 chosen R false x y n k s h g e = g s e
 
 -- None is no write
-nothing : (R : Value) (n : ℕ) (t : Stamp) → ◌≡◌ {A = Option Stamp} None (Some t) → R t n
-nothing R n t e = absurd cc
+none_stands : (R : Value) (n : ℕ) (t : Stamp) → ◌≡◌ {A = Option Stamp} None (Some t) → R t n
+none_stands R n t e = absurd cc
 
 -- a place takes a write and its number
 set_stands : (R : Value) (c : Cells) (m : Place → ℕ) (to : Place) (x : Option Stamp) (n : ℕ) → Stands R c m → ((t : Stamp) → x ≡ Some t → R t n) →
@@ -56,7 +56,7 @@ early_stand R noise places k [] c m h = h
 early_stand R noise places k (o ∷ os) c m h = early_stand R noise places (k + 1) os _ _ (pick (is_def o.kind && not (is_late o.position)))
   where
     pick : (b : Bool) → Stands R (cond b (stored c (place_at places k) None) c) (cond b (place_set m (place_at places k) (noise (place_at places k))) m)
-    pick true = set_stands R c m (place_at places k) None _ h (nothing R _)
+    pick true = set_stands R c m (place_at places k) None _ h (none_stands R _)
     pick false = h
 
 -- the write of an operand, and its number
@@ -81,33 +81,33 @@ pub clobbers_stand : (R : Value) (set : PRegSet) (noise : Place → ℕ) (c : Ce
 unfolding after_clobbers numbers_clobbered
 clobbers_stand R set noise c m h NoPlace s e = h NoPlace s e
 clobbers_stand R set noise c m h (InRegister r) s e = chosen R (has_register set r) None (c (InRegister r)) (noise (InRegister r)) (m (InRegister r)) s
-    (nothing R _) (h (InRegister r)) e
+    (none_stands R _) (h (InRegister r)) e
 clobbers_stand R set noise c m h (InSlot n) s e = h (InSlot n) s e
 
 -- a vreg takes a write and its number
-assigned_hold : (R : Value) (c : Source) (m : VirtualRegister → ℕ) (v : VirtualRegister) (x : Option Stamp) (n : ℕ) → Holds R c m →
-    ((t : Stamp) → x ≡ Some t → R t n) → Holds R (assigned c v x) (number_set m v n)
+assigned_hold : (R : Value) (c : Source) (m : VirtualRegister → ℕ) (v : VirtualRegister) (x : Option Stamp) (n : ℕ) → HoldNumbers R c m →
+    ((t : Stamp) → x ≡ Some t → R t n) → HoldNumbers R (assigned c v x) (number_set m v n)
 assigned_hold R c m v x n h g q s e = chosen R (is_vreg v q) x (c q) n (m q) s g (h q) e
 
 pub defs_hold : (R : Value) (written : ℕ → ℕ) (step k : ℕ) (os : List OperandValue) (c : Source) (m : VirtualRegister → ℕ) →
-    ((j : ℕ) → R (record { step = step; operand = j }) (written j)) → Holds R c m → Holds R (after_defs step k os c) (numbers_defined written k os m)
+    ((j : ℕ) → R (record { step = step; operand = j }) (written j)) → HoldNumbers R c m → HoldNumbers R (after_defs step k os c) (numbers_defined written k os m)
 unfolding after_defs numbers_defined
 defs_hold R written step k [] c m g h = h
 defs_hold R written step k (o ∷ os) c m g h = defs_hold R written step (k + 1) os _ _ g (pick (is_def o.kind))
   where
-    pick : (b : Bool) → Holds R (cond b (assigned c o.vreg (Some (record { step = step; operand = k }))) c) (cond b (number_set m o.vreg (written k)) m)
+    pick : (b : Bool) → HoldNumbers R (cond b (assigned c o.vreg (Some (record { step = step; operand = k }))) c) (cond b (number_set m o.vreg (written k)) m)
     pick true = assigned_hold R c m o.vreg _ (written k) h (one R step k (written k) (g k))
     pick false = h
 
-passed_hold : (R : Value) (ps arguments : List VirtualRegister) (before after : Source) (b a : VirtualRegister → ℕ) → Holds R before b → Holds R after a →
-    Holds R (passed ps arguments before after) (passed_on ps arguments b a)
+passed_hold : (R : Value) (ps arguments : List VirtualRegister) (before after : Source) (b a : VirtualRegister → ℕ) → HoldNumbers R before b → HoldNumbers R after a →
+    HoldNumbers R (passed ps arguments before after) (passed_on ps arguments b a)
 unfolding passed passed_on
 passed_hold R [] arguments before after b a h g = g
 passed_hold R (p ∷ ps) [] before after b a h g = g
 passed_hold R (p ∷ ps) (x ∷ rest) before after b a h g = passed_hold R ps rest before _ b _ h (assigned_hold R after a p (before x) (b x) g (h x))
 
-pub edge_holds : (R : Value) (f : FunctionValue) (l : Location) (w : Way) (c : Source) (m : VirtualRegister → ℕ) → Holds R c m →
-    Holds R (over_edge f l w c) (passed_over f l w m)
+pub edge_holds : (R : Value) (f : FunctionValue) (l : Location) (w : Way) (c : Source) (m : VirtualRegister → ℕ) → HoldNumbers R c m →
+    HoldNumbers R (over_edge f l w c) (passed_over f l w m)
 unfolding over_edge passed_over
 edge_holds R f l Onward c m h = h
 edge_holds R f l (ToSuccessor k) c m h = passed_hold R _ _ c c m m h h
@@ -163,7 +163,7 @@ before_writes places step k (o ∷ os) c p s l e = pick (is_def o.kind) (before_
     pick true g = before_store step k c (place_at places k) p s l g
     pick false g = g
 
--- and before the clobbers
+-- a place that holds a write after the clobbers held it before them
 pub before_clobbers : (set : PRegSet) (c : Cells) (p : Place) (s : Stamp) → after_clobbers set c p ≡ Some s → c p ≡ Some s
 unfolding after_clobbers
 before_clobbers set c NoPlace s e = e

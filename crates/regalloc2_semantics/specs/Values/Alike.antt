@@ -1,4 +1,4 @@
--- Both interpreters run alike.
+-- The two interpreters run alike.
 use Rattle.std.specs.Prelude.{ℕ, ◌≡◌, List, Option, None, Some}
 use Rattle.regalloc2_names.specs.Register.{VirtualRegister}
 use Rattle.regalloc2_names.specs.Place.{Place}
@@ -14,7 +14,7 @@ use Rattle.regalloc2_semantics.specs.Values.Interpreters.{place_reads, place_wri
 
 module _ (f : FunctionValue) (out : OutputValue) (meaning : InstMeaning) (noise : History → Place → ℕ) where
   -- Both runs are at the same instruction, have read the same numbers up to it, and read the same numbers there. A vreg that is read late, and its place, still
-  -- hold that number after the instruction's definitions.
+  -- hold the number read after the instruction's definitions.
   pub record AreAlike (c : State VirtualRegister) (d : State Place) : Type 0 where
     pub at : d.at ≡ c.at
     pub history : d.history ≡ c.history

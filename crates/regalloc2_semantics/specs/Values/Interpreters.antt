@@ -114,7 +114,7 @@ module _ (f : FunctionValue) (meaning : InstMeaning) where
   source_step c = option_map (λ w. record { at = next_of f c.at w; history = source_told c; numbers = passed_over f c.at w (vreg_written c) })
       (way_on f c.at (meaning.takes (source_told c)))
 
-  -- the state after so many steps from the entry, with any initial numbers in the vregs; none once the run has ended
+  -- the state after a number of steps from the entry, with any initial numbers in the vregs; none once the run has ended
   unfoldable pub source_run : (VirtualRegister → ℕ) → ℕ → Option (State VirtualRegister)
   source_run start zero = Some (record { at = first_of f f.entry; history = []; numbers = start })
   source_run start (suc n) = option_and_then source_step (source_run start n)
@@ -142,7 +142,7 @@ module _ (f : FunctionValue) (out : OutputValue) (meaning : InstMeaning) (noise 
   place_step c = option_map (λ w. record { at = next_of f c.at w; history = place_told c; numbers = place_written c })
       (way_on f c.at (meaning.takes (place_told c)))
 
-  -- the state after so many steps from the entry, with any initial numbers in the places; none once the run has ended
+  -- the state after a number of steps from the entry, with any initial numbers in the places; none once the run has ended
   unfoldable pub place_run : (Place → ℕ) → ℕ → Option (State Place)
   place_run start zero = Some (record { at = first_of f f.entry; history = []; numbers = start })
   place_run start (suc n) = option_and_then place_step (place_run start n)

@@ -3,7 +3,7 @@
 use crate::words_of;
 use codegen::program::{self as compiler, Action, ROOM, RunOptions};
 use regalloc2_tool::calls::call::CallError;
-use regalloc2_tool::ra2_text::{Task, answer};
+use regalloc2_tool::ra2_text::{Task, perform_task};
 use std::alloc::{AllocError, Global};
 use std::fmt::Display;
 use std::io::Write;
@@ -50,13 +50,13 @@ fn write_done(
         Some(name) => Some((name, before.as_bytes())),
         None => None,
     };
-    let status = answer(alloc, task, bytes.as_slice(), other, to, &mut err);
+    let status = perform_task(alloc, task, bytes.as_slice(), other, to, &mut err);
     write_end(err.as_slice(), status, to)
 }
 
-/// Writes what the program writes for a command line, in which the first file is `text` and the other one of `diff` is `before`: what it
-/// writes to standard output, behind that what it writes to standard error, and its status. Of words that name no task the error's first
-/// line alone.
+/// Writes what the program writes for the command line `line`, in which the first file is `text` and the second file of `diff` is
+/// `before`: its standard output, then its standard error, and its status. If the words name no task, it writes the error's first line
+/// alone.
 pub fn write_program(
     alloc: Global,
     line: &str,
@@ -134,6 +134,6 @@ pub fn write_compiler(
     };
     let mut err = Vec::new(alloc);
     let task = compiler::Task::Read("text", action);
-    let status = compiler::answer(alloc, &task, bytes.as_slice(), to, &mut err);
+    let status = compiler::run_task(alloc, &task, bytes.as_slice(), to, &mut err);
     write_end(err.as_slice(), status, to)
 }

@@ -4,7 +4,7 @@ use super::case_file::{Case, Expectation, cases_of};
 use super::command::{write_compiler, write_program};
 use regalloc2_text::explain::Source;
 use regalloc2_text::{Text, TextError};
-use regalloc2_tool::calls::call::{Call, CallError, Given, answer};
+use regalloc2_tool::calls::call::{Call, CallError, Given, perform_call};
 use regalloc2_tool::calls::reading::read_text;
 use std::alloc::{AllocError, Global};
 use std::fmt;
@@ -74,7 +74,7 @@ fn write_answer(
         source,
     };
     let mut err = Vec::new(alloc);
-    answer(alloc, call, &given, to, &mut err)?;
+    perform_call(alloc, call, &given, to, &mut err)?;
     Ok(to.extend_from_slice(err.as_slice())?)
 }
 

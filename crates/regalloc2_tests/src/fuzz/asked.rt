@@ -1,12 +1,12 @@
 //! What `ra2` returns for arguments and a text.
 
 use crate::test_alloc::Refusing;
-use regalloc2_tool::ra2::answer;
+use regalloc2_tool::ra2::run_program;
 use std::alloc::Global;
 use std::io::BufWriter;
 use std::{fmt, str};
 
-/// The lines that say that memory ran out: those of status 2, on the standard error, then those of status 1.
+/// The lines that say that memory ran out: first the lines of status 2, on the standard error, then the lines of status 1.
 pub static LACKS: [&str; 5] = [
     "ra2: input unreadable\n",
     "ra2: bad function 5\n",
@@ -37,7 +37,7 @@ pub fn ask(global: Global, alloc: &Refusing<Global>, line: &str, text: &[u8]) ->
     let words = words_of(global, line)?;
     let out = BufWriter::new(global, Vec::new(global)).ok()?;
     let mut err = Vec::new(global);
-    let (status, out) = answer(global, alloc, words.as_slice(), text, out, &mut err);
+    let (status, out) = run_program(global, alloc, words.as_slice(), text, out, &mut err);
     Some(Answer { status, out, err })
 }
 

@@ -1,8 +1,8 @@
 //! Makes each memory allocation of `ra2` fail in turn.
 //!
-//! `serde_json` takes its memory from `Global` alone, so the requests that it makes don't fail. All
-//! others do: those that read the input, those that make the stored numbers and what they name, and
-//! those of the allocator and the checker.
+//! `serde_json` takes its memory from `Global` alone, so its requests don't fail. All others do: requests
+//! to read the input, to make the stored numbers and what they name, and requests of the allocator and
+//! the checker.
 
 use super::asked::{LACKS, ask};
 use super::whole_text;
@@ -52,8 +52,8 @@ fn show_met<W: Write>(met: [bool; 5], out: &mut W) -> io::Result<()> {
     Ok(())
 }
 
-/// Writes for how many whole texts each failed allocation is reported, and for how many it isn't;
-/// and of each line whether it is met.
+/// Writes for how many whole texts each failed allocation is reported, for how many it isn't, and of
+/// each line whether it is met.
 pub fn show_refused<W: Write>(global: Global, lines: &str, out: &mut W) -> io::Result<()> {
     let mut met = [false; 5];
     let (told, untold) = told_and_untold(global, lines, &mut met);

@@ -50,15 +50,15 @@ pub struct Given<'a, F: Function> {
     pub env: &'a MachineEnv,
     /// What `run` gives.
     pub out: &'a Output,
-    /// The same without moves.
+    /// `out` without its moves.
     pub without_moves: &'a Output,
     pub wanted: String,
 }
 
 impl<F: Function> Call for Given<'_, F> {
     fn make(&self, alloc: &Refusing<Global>) -> Result<bool, AllocError> {
-        let answer = self.answer(alloc)?;
-        Ok(answer == self.wanted)
+        let outcome = self.outcome(alloc)?;
+        Ok(outcome == self.wanted)
     }
 }
 
@@ -100,7 +100,7 @@ fn faults<A: Allocator>(global: Global, errors: &[CheckerError<A>]) -> Result<St
 impl<F: Function> Given<'_, F> {
     /// What the call returns. An error says that the call reported that memory ran out, and left
     /// what it should.
-    pub fn answer<A: Allocator + Copy>(&self, alloc: A) -> Result<String, AllocError> {
+    pub fn outcome<A: Allocator + Copy>(&self, alloc: A) -> Result<String, AllocError> {
         match self.name {
             Name::Run => self.run(alloc),
             Name::RunWithCtx => self.run_with_ctx(alloc),

@@ -41,8 +41,8 @@ fn write_places(out: &mut Report) {
     }
 }
 
-/// Writes what numbers of registers name, with the number for no register and the index past all;
-/// and what encodings of vregs name, the first with both bits of the class set.
+/// Writes the registers that numbers name, with the number for no register and the index past all, and
+/// the vregs that encodings name, the first with both bits of the class set.
 fn write_registers(out: &mut Report) {
     for index in [3, 63, 133, 192] {
         if PReg::is_index(index) {

@@ -6,7 +6,7 @@ use std::io::{self, Write};
 
 /// The text that the program prints, written line by line. If memory runs out, `print` returns that as an error.
 ///
-/// So what writes a row needs no test after it.
+/// A caller that writes a row needs no test after it.
 #[derive(Drop)]
 pub struct Report {
     text: String,

@@ -30,7 +30,7 @@ fn write_with_orders<F: Function>(alloc: Global, f: &F, out: &mut Report) {
     write_renumbered(alloc, f, &[first, second, last, last], out);
 }
 
-/// Writes the function with split edges, and that one renumbered.
+/// Writes `f` with its critical edges split, and the result renumbered.
 fn write_split<F: Function>(alloc: Global, f: &F, out: &mut Report) {
     match split_critical_edges(alloc, f) {
         Ok(g) => write_with_orders(alloc, &g, out),

@@ -7,7 +7,7 @@ use super::error::{Expected, Flaw, Found};
 use super::token::{Token, TokenKind, are_digits};
 use std::alloc::Allocator;
 
-/// A place among the tokens of a line. What is read is passed, and no method goes back.
+/// A place among the tokens of a line. Reading consumes tokens, and no method goes back.
 ///
 /// The cursor keeps the first flaw that is found, and no token is left after it: what is read from
 /// then on is zeros and empty lists, and `finish` returns the flaw.
@@ -39,7 +39,7 @@ impl<'a, 't> Cursor<'a, 't> {
         self.num_vregs
     }
 
-    /// Notes that a vreg of that number was read.
+    /// Notes that a vreg with the number `number` was read.
     pub fn show_vreg(&mut self, number: u64)
         ensures { tokens_left self.new ≤ tokens_left self.old }
     {
@@ -61,7 +61,7 @@ impl<'a, 't> Cursor<'a, 't> {
         }
     }
 
-    /// Whether the next token begins so.
+    /// Returns whether the next token begins with `start`.
     pub fn begins(&self, start: &str) -> bool {
         match self.peek() {
             Some(text) => text.starts_with(start),
@@ -74,7 +74,7 @@ impl<'a, 't> Cursor<'a, 't> {
         self.tokens.get(self.at.wrapping_sub(1)).copied()
     }
 
-    /// Notes that flaw, unless there is one already.
+    /// Notes `flaw`, unless there is a flaw already.
     pub fn fail(&mut self, flaw: Flaw<'t>)
         ensures { tokens_left self.new ≤ tokens_left self.old }
     {
@@ -94,7 +94,7 @@ impl<'a, 't> Cursor<'a, 't> {
         self.fail(Flaw::new(column, expected, found));
     }
 
-    /// Notes that the next token doesn't fit; these words say what is expected in its place.
+    /// Notes that the next token doesn't fit; `expected` says what is expected in its place.
     pub fn misfit(&mut self, expected: &'static str)
         ensures { tokens_left self.new ≤ tokens_left self.old }
     {
@@ -113,15 +113,15 @@ impl<'a, 't> Cursor<'a, 't> {
         }
     }
 
-    /// Notes that the token before the next one doesn't fit; these words say what is expected in
-    /// its place.
+    /// Notes that the token before the next one doesn't fit; `expected` says what is expected in its
+    /// place.
     pub fn misfit_before(&mut self, expected: &'static str)
         ensures { tokens_left self.new ≤ tokens_left self.old }
     {
         self.fault_before(Expected::Words(expected));
     }
 
-    /// Adds an item to a list, or notes that memory is out.
+    /// Adds `item` to `list`, or notes that memory is out.
     pub fn push<T: Drop, A: Allocator>(&mut self, list: &mut Vec<T, A>, item: T)
         ensures { tokens_left self.new ≤ tokens_left self.old }
     {
@@ -130,7 +130,7 @@ impl<'a, 't> Cursor<'a, 't> {
         }
     }
 
-    /// Adds copies of items to a list, or notes that memory is out.
+    /// Adds copies of `items` to `list`, or notes that memory is out.
     pub fn extend<A: Allocator>(&mut self, list: &mut Vec<u32, A>, items: &[u32])
         ensures { tokens_left self.new ≤ tokens_left self.old }
     {
@@ -139,7 +139,20 @@ impl<'a, 't> Cursor<'a, 't> {
         }
     }
 
-    /// Passes the next token, where there is one.
+    /// Returns `count` empty lists; fewer if memory is out, which is then noted.
+    pub fn empty_lists<T: Drop, A: Allocator + Copy>(
+        &mut self,
+        alloc: A,
+        count: usize,
+    ) -> Vec<Vec<T, A>, A> {
+        let mut lists = Vec::new(alloc);
+        for _ in 0..count {
+            self.push(&mut lists, Vec::new(alloc));
+        }
+        lists
+    }
+
+    /// Consumes the next token, if there is one.
     pub fn advance(&mut self)
         ensures { tokens_left self.new ≤ tokens_left self.old }
     {
@@ -148,7 +161,7 @@ impl<'a, 't> Cursor<'a, 't> {
         }
     }
 
-    /// Passes the next token, where it is that one, and says whether it is.
+    /// Consumes the next token if it equals `text`; returns whether it did.
     pub fn has(&mut self, text: &str) -> bool
         ensures left { tokens_left self.new ≤ tokens_left self.old }
         ensures passed { IsTrue result → tokens_left self.new < tokens_left self.old }
@@ -162,7 +175,7 @@ impl<'a, 't> Cursor<'a, 't> {
         }
     }
 
-    /// Passes the next token, which is that one.
+    /// Consumes the next token, which has to equal `text`.
     pub fn want(&mut self, text: &'static str)
         ensures { tokens_left self.new ≤ tokens_left self.old }
     {
@@ -171,7 +184,7 @@ impl<'a, 't> Cursor<'a, 't> {
         }
     }
 
-    /// The line ends here, and no flaw was found in it.
+    /// Requires the line to end here. Returns its first flaw, if there is one.
     pub fn finish(mut self) -> Result<(), Flaw<'t>> {
         if self.next().is_some() {
             self.misfit("the end of the line");
@@ -182,7 +195,7 @@ impl<'a, 't> Cursor<'a, 't> {
         }
     }
 
-    /// That value, where the line ends here and no flaw was found in it.
+    /// Returns `value` if the line ends here and has no flaw; else its first flaw.
     pub(crate) fn finish_with<T: Drop>(self, value: T) -> Result<T, Flaw<'t>> {
         match self.finish() {
             Ok(()) => Ok(value),
@@ -221,7 +234,7 @@ impl<'a, 't> Cursor<'a, 't> {
         self.number(u64::from(u32::MAX)) as u32
     }
 
-    /// The number of 32 bits in a word that is made of `name` and a number, as `inst3`; `expected` says what it names.
+    /// The number of 32 bits in a word that is made of `name` and a number, as `inst3`; `expected` says what the word names.
     pub fn named(&mut self, name: &str, expected: &'static str) -> u32
         ensures { tokens_left self.new ≤ tokens_left self.old }
     {

@@ -9,19 +9,19 @@ use std::fmt;
 /// What a text needs where it has something else.
 #[derive(Clone, Copy, Debug)]
 pub enum Expected {
-    /// What these words say.
+    /// What the words say.
     Words(&'static str),
-    /// That word or sign.
+    /// A word or a sign.
     Token(&'static str),
-    /// A number up to this one.
+    /// A number up to the bound.
     NumberUpTo(u64),
-    /// The block of this number.
+    /// The block with the number.
     NextBlock(usize),
-    /// The instruction of this number.
+    /// The instruction with the number.
     NextInst(usize),
-    /// No second line of this kind.
+    /// No second line of a kind.
     NoSecond(&'static str),
-    /// The first word of a line, and the one that was meant, where a caller knows it: `read` leaves that out.
+    /// The first word of a line, and the word that was meant, if a caller knows it; `read` names none.
     LineBeginning(Option<&'static str>),
 }
 
@@ -53,7 +53,7 @@ impl fmt::Display for Expected {
 pub enum Found<'t> {
     /// A word, a number or a sign.
     Token(&'t str),
-    /// A character that begins none of these.
+    /// A character that begins no word, number or sign.
     Character(char),
     /// The line ends.
     LineEnd,
@@ -63,10 +63,24 @@ pub enum Found<'t> {
     Nothing,
 }
 
+/// The most characters of a token that a message shows.
+const SHOWN: usize = 60;
+
+/// The part of a token that a message shows, and what follows it: `..` if the token is longer.
+fn shown(token: &str) -> (&str, &'static str) {
+    match token.get(..SHOWN) {
+        Some(front) if front.len() < token.len() => (front, ".."),
+        _ => (token, ""),
+    }
+}
+
 impl fmt::Display for Found<'_> {
     fn fmt<W: fmt::Write>(&self, f: &mut fmt::Formatter<W>) -> fmt::Result {
         match self {
-            Found::Token(text) => write!(f, "`{text}`"),
+            Found::Token(text) => {
+                let (front, rest) = shown(text);
+                write!(f, "`{front}{rest}`")
+            }
             Found::Character(c) => write!(f, "{c:?}"),
             Found::LineEnd => f.write_str("the end of the line"),
             Found::TextEnd => f.write_str("the end of the text"),
@@ -159,7 +173,7 @@ pub struct Misfit<'t> {
 impl<'t> Flaw<'t> {
     ghost use Rattle.regalloc2_text.specs.Cursor.Lines.{IsOnLineBetween};
 
-    /// What doesn't fit, at a column that is at least 1.
+    /// A token that doesn't fit, at `column`, which is at least 1.
     pub fn new(column: usize, expected: Expected, found: Found<'t>) -> Self
         requires { 1 ≤ column }
     {
@@ -170,7 +184,7 @@ impl<'t> Flaw<'t> {
         })
     }
 
-    /// The error of a text in whose line of that number this is.
+    /// The error of a text that has this flaw in line `line`.
     pub fn on_line(self, line: usize) -> TextError<'t>
         ensures { (first : ℕ) → (last : ℕ) → first ≤ line → line ≤ last → IsOnLineBetween first last result }
     {

@@ -11,23 +11,26 @@ use regalloc2_names::{
     RegClass, SpillSlot, VReg,
 };
 
+/// The numbers of instructions that have points are below this.
+const INST_LIMIT: usize = 1 << 30;
+
 /// A register or a vreg: one word of a letter, a number and the class's letter.
 #[derive(Clone, Copy)]
 pub struct Named {
-    /// Its number.
+    /// The number.
     pub number: usize,
-    /// Its class.
+    /// The class.
     pub class: RegClass,
 }
 
-/// What is said of a word that is no such name.
+/// What the text needs in place of a word that is no name.
 #[derive(Clone, Copy)]
 struct Misnamed {
-    /// It is made otherwise.
+    /// The word has no letter and number.
     other: &'static str,
-    /// It has no class.
+    /// The word has no class letter.
     no_class: &'static str,
-    /// Its number is too great.
+    /// The number is too great.
     too_great: &'static str,
 }
 
@@ -43,7 +46,7 @@ const NO_VREG: Misnamed = Misnamed {
     too_great: "a virtual register with a number up to 1073741823",
 };
 
-/// The class of that letter, where there is one.
+/// The class of a letter, if it has one.
 fn class_of_letter(letter: Option<char>) -> Option<RegClass> {
     match letter? {
         'i' => Some(RegClass::Int),
@@ -53,7 +56,7 @@ fn class_of_letter(letter: Option<char>) -> Option<RegClass> {
     }
 }
 
-/// The class of that name.
+/// The class that `name` names, if any.
 pub fn class_named(name: &str) -> Option<RegClass> {
     match name {
         "int" => Some(RegClass::Int),
@@ -63,7 +66,7 @@ pub fn class_named(name: &str) -> Option<RegClass> {
     }
 }
 
-/// The class of that name in upstream's `Debug`.
+/// The class that `name` names in upstream's `Debug`, if any.
 fn class_in_debug(name: &str) -> Option<RegClass> {
     match name {
         "Int" => Some(RegClass::Int),
@@ -73,7 +76,7 @@ fn class_in_debug(name: &str) -> Option<RegClass> {
     }
 }
 
-/// The kind and the position of that name.
+/// The kind and the position that `name` names, if any.
 fn kind_named(name: &str) -> Option<(OperandKind, OperandPos)> {
     match name {
         "Def" => Some((OperandKind::Def, OperandPos::Late)),
@@ -84,7 +87,7 @@ fn kind_named(name: &str) -> Option<(OperandKind, OperandPos)> {
     }
 }
 
-/// A word without the small letter at its end, and that letter.
+/// A word without the small letter at its end, and the letter, if there is one.
 fn split_letter(word: &str) -> (&str, Option<char>) {
     let Some(last) = word.chars().next_back() else {
         return (word, None);
@@ -106,7 +109,7 @@ fn is_fixed_alone(operand: Operand) -> bool {
     }
 }
 
-/// The name of that letter, with a number up to `max`, that a word is, or what is said of the word.
+/// The name in `word`, of `letter` and a number up to `max`; or what the text needs in its place.
 fn name_in(word: &str, letter: char, max: usize, misnamed: &Misnamed) -> Result<Named, &'static str>
     ensures { IfOk result (λ named. named.number ≤ max) }
 {
@@ -146,7 +149,7 @@ impl Cursor<'_, '_> {
         self.want(")");
     }
 
-    /// A name of that letter whose number is up to `max`.
+    /// A name of `letter` and a number up to `max`.
     fn letter_named(&mut self, letter: char, max: usize, misnamed: &Misnamed) -> Named
         ensures left { tokens_left self.new ≤ tokens_left self.old }
         ensures up_to { result.number ≤ max }
@@ -304,7 +307,7 @@ impl Cursor<'_, '_> {
         self.operand(kind, pos)
     }
 
-    /// The encoding of an operand of that kind and position, from what follows its colon.
+    /// The encoding of an operand of `kind` and `pos`, from what follows the operand's colon.
     fn operand(&mut self, kind: OperandKind, pos: OperandPos) -> u64
         ensures { tokens_left self.new ≤ tokens_left self.old }
     {
@@ -318,7 +321,7 @@ impl Cursor<'_, '_> {
         operand.bits()
     }
 
-    /// The constraint of an operand whose vreg is of that class.
+    /// The constraint of an operand whose vreg is of `class`.
     fn constraint(&mut self, class: RegClass) -> OperandConstraint
         ensures left { tokens_left self.new ≤ tokens_left self.old }
         ensures of_class { IsConstraintOf class result }
@@ -343,7 +346,7 @@ impl Cursor<'_, '_> {
         }
     }
 
-    /// What follows `fixed`: a register of that class.
+    /// What follows `fixed`: a register of `class`.
     fn fixed(&mut self, class: RegClass) -> OperandConstraint
         ensures left { tokens_left self.new ≤ tokens_left self.old }
         ensures of_class { IsConstraintOf class result }
@@ -443,7 +446,7 @@ impl Cursor<'_, '_> {
             "inst"
         };
         let inst = Inst(self.named(name, "a point"));
-        if inst != Inst::invalid() && inst.index() >= 1 << 30 {
+        if inst != Inst::invalid() && inst.index() >= INST_LIMIT {
             self.misfit_before("an instruction below 1073741824");
             return 0;
         }

@@ -25,7 +25,7 @@ pub struct Token<'t> {
     pub kind: TokenKind,
     /// How it is written.
     pub text: &'t str,
-    /// Its column in bytes, counted from 1.
+    /// The column in bytes, counted from 1.
     pub column: usize,
     pub ghost from_one: { 1 ≤ column },
 }
@@ -64,7 +64,7 @@ pub(crate) fn are_digits(bytes: &[u8]) -> bool {
     digits_len(bytes) == bytes.len()
 }
 
-/// Of how many bytes the sign is made that begins with those.
+/// The number of bytes of the sign that begins with `first`, before the bytes `after`.
 fn sign_len(first: u8, after: &[u8]) -> Option<usize>
     ensures { IfSome result (λ len. 1 ≤ len) }
 {
@@ -77,7 +77,7 @@ fn sign_len(first: u8, after: &[u8]) -> Option<usize>
     }
 }
 
-/// What begins the bytes, and of how many it is made.
+/// The kind of token that the bytes begin with, and its number of bytes.
 fn measured(bytes: &[u8]) -> Option<(TokenKind, usize)>
     ensures { IfSome result (λ found. 1 ≤ found.1) }
 {

@@ -23,7 +23,7 @@ pub(crate) fn end_of(function: &StoredFunction, block: usize) -> Site {
 }
 
 /// The cause of `CritEdge`.
-pub(crate) fn of_edge(function: &StoredFunction, from: usize, to: usize) -> (Cause, Site) {
+pub(crate) fn crit_edge_cause(function: &StoredFunction, from: usize, to: usize) -> (Cause, Site) {
     let cause = Cause::CriticalEdge {
         from,
         to,
@@ -33,8 +33,8 @@ pub(crate) fn of_edge(function: &StoredFunction, from: usize, to: usize) -> (Cau
     (cause, end_of(function, from))
 }
 
-/// The cause if a block's instructions don't follow those of the blocks before.
-fn of_range(function: &StoredFunction, block: usize) -> Option<Cause> {
+/// The cause if a block's instructions don't follow the last instruction of the block before.
+fn range_cause(function: &StoredFunction, block: usize) -> Option<Cause> {
     let (first, end) = range_of(function, block);
     if first >= end {
         return Some(Cause::Empty { block });
@@ -58,7 +58,7 @@ fn of_range(function: &StoredFunction, block: usize) -> Option<Cause> {
     None
 }
 
-/// How often a block is in a list.
+/// How often `block` is in `list`.
 fn count_in(list: &[u32], block: usize) -> usize {
     let mut count = 0usize;
     for listed in list {
@@ -69,12 +69,12 @@ fn count_in(list: &[u32], block: usize) -> usize {
     count
 }
 
-/// How many of the edges that leave a block lead to another one.
+/// How many edges lead from block `from` to block `to`.
 fn edges_between(function: &StoredFunction, from: usize, to: usize) -> usize {
     count_in(list_of(function.block_succs.as_slice(), from), to)
 }
 
-/// How many edges lead to a block.
+/// How many edges lead to `block`.
 fn edges_into(function: &StoredFunction, block: usize) -> usize {
     let mut leading = 0usize;
     for from in 0..function.blocks.len() {
@@ -83,7 +83,7 @@ fn edges_into(function: &StoredFunction, block: usize) -> usize {
     leading
 }
 
-/// Returns whether each of a block's predecessors is listed as often as it has an edge to the block.
+/// Returns whether each predecessor of `block` is listed once for each of its edges to `block`.
 fn each_has_edges(function: &StoredFunction, preds: &[u32], block: usize) -> bool {
     for pred in preds {
         let from = *pred as usize;
@@ -95,7 +95,7 @@ fn each_has_edges(function: &StoredFunction, preds: &[u32], block: usize) -> boo
 }
 
 /// The cause if a block's predecessors aren't the blocks with an edge to it.
-fn of_preds(function: &StoredFunction, block: usize) -> Option<Cause> {
+fn preds_cause(function: &StoredFunction, block: usize) -> Option<Cause> {
     let preds = list_of(function.block_preds.as_slice(), block);
     let listed = preds.len();
     let leading = edges_into(function, block);
@@ -122,7 +122,7 @@ fn ends_within(function: &StoredFunction, first: usize, last: usize) -> Option<u
 }
 
 /// The cause if a block doesn't end with a valid last instruction, and the site.
-fn of_end(function: &StoredFunction, block: usize) -> Option<(Cause, Site)> {
+fn end_cause(function: &StoredFunction, block: usize) -> Option<(Cause, Site)> {
     let (first, end) = range_of(function, block);
     let last = end.checked_sub(1)?;
     let succs = list_of(function.block_succs.as_slice(), block).len();
@@ -138,22 +138,22 @@ fn of_end(function: &StoredFunction, block: usize) -> Option<(Cause, Site)> {
 }
 
 /// The cause of `BB`.
-pub(crate) fn of_block(function: &StoredFunction, block: usize) -> (Cause, Site) {
-    if let Some(cause) = of_range(function, block) {
+pub(crate) fn block_cause(function: &StoredFunction, block: usize) -> (Cause, Site) {
+    if let Some(cause) = range_cause(function, block) {
         return (cause, Site::Block(block));
     }
-    if let Some(cause) = of_preds(function, block) {
+    if let Some(cause) = preds_cause(function, block) {
         return (cause, Site::Block(block));
     }
     let entry = function.entry_block as usize;
     if block == entry && entry != 0 {
         return (Cause::EntryIsLater { entry }, Site::Block(block));
     }
-    of_end(function, block).unwrap_or((Cause::Other, Site::Block(block)))
+    end_cause(function, block).unwrap_or((Cause::Other, Site::Block(block)))
 }
 
 /// The cause if arguments don't fit the parameters of a successor.
-fn of_passed(succ: usize, arguments: &[u32], params: &[u32]) -> Option<Cause> {
+fn passed_cause(succ: usize, arguments: &[u32], params: &[u32]) -> Option<Cause> {
     if arguments.len() != params.len() {
         return Some(Cause::ArgumentCount {
             succ,
@@ -175,8 +175,8 @@ fn of_passed(succ: usize, arguments: &[u32], params: &[u32]) -> Option<Cause> {
     None
 }
 
-/// The cause of `Branch`: the arguments of the block that ends with that instruction.
-pub(crate) fn of_arguments(function: &StoredFunction, inst: usize) -> (Cause, Site) {
+/// The cause of `Branch`: the arguments of the block that ends with the instruction `inst`.
+pub(crate) fn branch_cause(function: &StoredFunction, inst: usize) -> (Cause, Site) {
     let site = Site::Inst(inst);
     let Some(block) = block_of(function, inst) else {
         return (Cause::Other, site);
@@ -185,7 +185,7 @@ pub(crate) fn of_arguments(function: &StoredFunction, inst: usize) -> (Cause, Si
     for (position, succ) in succs.iter().enumerate() {
         let succ = *succ as usize;
         let params = list_of(function.block_params_in.as_slice(), succ);
-        if let Some(cause) = of_passed(succ, arguments_of(function, block, position), params) {
+        if let Some(cause) = passed_cause(succ, arguments_of(function, block, position), params) {
             return (cause, site);
         }
     }
@@ -193,7 +193,7 @@ pub(crate) fn of_arguments(function: &StoredFunction, inst: usize) -> (Cause, Si
 }
 
 /// The cause of `DisallowedBranchArg`.
-pub(crate) fn of_branch(function: &StoredFunction, inst: usize) -> (Cause, Site) {
+pub(crate) fn disallowed_branch_arg_cause(function: &StoredFunction, inst: usize) -> (Cause, Site) {
     let site = Site::Inst(inst);
     let Some(block) = block_of(function, inst) else {
         return (Cause::Other, site);
@@ -215,7 +215,7 @@ pub(crate) fn of_branch(function: &StoredFunction, inst: usize) -> (Cause, Site)
 }
 
 /// The cause of `EntryLivein`.
-pub(crate) fn of_entry(function: &StoredFunction) -> (Cause, Site) {
+pub(crate) fn entry_livein_cause(function: &StoredFunction) -> (Cause, Site) {
     let entry = function.entry_block as usize;
     let count = list_of(function.block_params_in.as_slice(), entry).len();
     (Cause::EntryParams { count }, Site::Block(entry))

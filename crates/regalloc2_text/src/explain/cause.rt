@@ -19,7 +19,7 @@ pub enum Site {
     Move(usize),
 }
 
-/// As `block1`, `inst3`, `move 0` or, for an operand, that of its instruction.
+/// As `block1`, `inst3` or `move 0`; for an operand the text of its instruction.
 impl fmt::Display for Site {
     fn fmt<W: fmt::Write>(&self, f: &mut fmt::Formatter<W>) -> fmt::Result {
         match self {
@@ -187,316 +187,237 @@ pub enum Cause {
     Other,
 }
 
-/// What is counted in a cause's text.
-#[derive(Clone, Copy)]
-enum Noun {
-    Argument,
-    Edge,
-    Instruction,
-    Operand,
-    Parameter,
-    Predecessor,
-    Register,
-    Successor,
-}
-
-impl Noun {
-    /// The word for one.
-    fn word(self) -> &'static str {
-        match self {
-            Noun::Argument => "argument",
-            Noun::Edge => "edge",
-            Noun::Instruction => "instruction",
-            Noun::Operand => "operand",
-            Noun::Parameter => "parameter",
-            Noun::Predecessor => "predecessor",
-            Noun::Register => "register",
-            Noun::Successor => "successor",
-        }
-    }
-}
-
-/// What stands in a cause's text in place of a `#`.
-#[derive(Clone, Copy)]
-enum Part {
-    Nothing,
-    Number(usize),
-    Long(u64),
-    Counted(usize, Noun),
-    VReg(VReg),
-    Register(PReg),
-    Class(RegClass),
-}
-
-impl fmt::Display for Part {
-    fn fmt<W: fmt::Write>(&self, f: &mut fmt::Formatter<W>) -> fmt::Result {
+// A function for each subject; each passes the causes of other subjects on to the next function.
+impl Cause {
+    /// Writes a cause in the order of blocks.
+    fn write_order<W: fmt::Write>(&self, f: &mut fmt::Formatter<W>) -> fmt::Result {
         match *self {
-            Part::Nothing => Ok(()),
-            Part::Number(number) => fmt::Display::fmt(&number, f),
-            Part::Long(number) => fmt::Display::fmt(&number, f),
-            Part::Counted(count, noun) => fmt::Display::fmt(&Counted(count, noun.word()), f),
-            Part::VReg(vreg) => fmt::Display::fmt(&VRegText(vreg), f),
-            Part::Register(register) => fmt::Display::fmt(&register, f),
-            Part::Class(class) => fmt::Display::fmt(&ClassName(class), f),
+            Cause::Empty { block } => write!(f, "block{block} has no instructions"),
+            Cause::Begins {
+                block,
+                first,
+                wanted,
+            } => write!(
+                f,
+                "block{block} begins at inst{first}, and inst{wanted} is the first after the blocks before"
+            ),
+            Cause::Ends { block, end, insts } => {
+                let insts = Counted(insts, "instruction");
+                write!(
+                    f,
+                    "block{block}, the last one, ends before inst{end}, and the function has {insts}"
+                )
+            }
+            Cause::EntryIsLater { entry } => {
+                write!(f, "the entry is block{entry}; it must be block0")
+            }
+            _ => self.write_edge(f),
         }
     }
-}
 
-/// A text, with its parts in the order of the `#` that they stand in place of.
-#[derive(Clone, Copy)]
-struct Form(&'static str, [Part; 4]);
-
-impl fmt::Display for Form {
-    fn fmt<W: fmt::Write>(&self, f: &mut fmt::Formatter<W>) -> fmt::Result {
-        let mut pieces = self.0.split('#');
-        f.write_str(pieces.next().unwrap_or(""))?;
-        for part in &self.1 {
-            fmt::Display::fmt(part, f)?;
-            f.write_str(pieces.next().unwrap_or(""))?;
+    /// Writes a cause in the edges between blocks.
+    fn write_edge<W: fmt::Write>(&self, f: &mut fmt::Formatter<W>) -> fmt::Result {
+        match *self {
+            Cause::CriticalEdge {
+                from,
+                to,
+                succs,
+                ways,
+            } => write!(
+                f,
+                "block{from} has {succs} successors, and one of them, block{to}, is entered in {ways} ways"
+            ),
+            Cause::Predecessors {
+                block,
+                listed,
+                leading,
+            } => {
+                let listed = Counted(listed, "predecessor");
+                let leading = Counted(leading, "edge");
+                write!(
+                    f,
+                    "block{block} lists {listed}, not those of the {leading} into it"
+                )
+            }
+            Cause::BranchOperands {
+                inst,
+                operands,
+                succ,
+                ways,
+            } => {
+                let operands = Counted(operands, "operand");
+                write!(
+                    f,
+                    "inst{inst} has {operands} and leads to block{succ}, which is entered in {ways} ways"
+                )
+            }
+            _ => self.write_end(f),
         }
-        Ok(())
     }
-}
 
-/// The form of no part.
-fn plain(text: &'static str) -> Form {
-    Form(text, [Part::Nothing; 4])
-}
-
-/// The form of one part.
-fn with(text: &'static str, a: Part) -> Form {
-    Form(text, [a, Part::Nothing, Part::Nothing, Part::Nothing])
-}
-
-/// The form of two parts.
-fn with_two(text: &'static str, a: Part, b: Part) -> Form {
-    Form(text, [a, b, Part::Nothing, Part::Nothing])
-}
-
-/// The form of three parts.
-fn with_three(text: &'static str, a: Part, b: Part, c: Part) -> Form {
-    Form(text, [a, b, c, Part::Nothing])
-}
-
-/// The text of a cause in blocks and edges, or of another one.
-fn of_blocks(cause: &Cause) -> Form {
-    match *cause {
-        Cause::CriticalEdge {
-            from,
-            to,
-            succs,
-            ways,
-        } => Form(
-            "block# has # successors, and one of them, block#, is entered in # ways",
-            [
-                Part::Number(from),
-                Part::Number(succs),
-                Part::Number(to),
-                Part::Number(ways),
-            ],
-        ),
-        Cause::Empty { block } => with("block# has no instructions", Part::Number(block)),
-        Cause::Begins {
-            block,
-            first,
-            wanted,
-        } => with_three(
-            "block# begins at inst#, and inst# is the first after the blocks before",
-            Part::Number(block),
-            Part::Number(first),
-            Part::Number(wanted),
-        ),
-        Cause::Ends { block, end, insts } => with_three(
-            "block#, the last one, ends before inst#, and the function has #",
-            Part::Number(block),
-            Part::Number(end),
-            Part::Counted(insts, Noun::Instruction),
-        ),
-        Cause::Predecessors {
-            block,
-            listed,
-            leading,
-        } => with_three(
-            "block# lists #, not those of the # into it",
-            Part::Number(block),
-            Part::Counted(listed, Noun::Predecessor),
-            Part::Counted(leading, Noun::Edge),
-        ),
-        _ => of_ends(cause),
+    /// Writes a cause in the last instructions of blocks.
+    fn write_end<W: fmt::Write>(&self, f: &mut fmt::Formatter<W>) -> fmt::Result {
+        match *self {
+            Cause::OpenEnd { block, inst } => write!(
+                f,
+                "inst{inst}, the last of block{block}, neither branches nor returns"
+            ),
+            Cause::ReturnLeads { block, succs } => {
+                let succs = Counted(succs, "successor");
+                write!(f, "block{block} ends in a return and has {succs}")
+            }
+            Cause::EndsWithin { block, inst } => write!(
+                f,
+                "inst{inst} branches or returns, and isn't the last of block{block}"
+            ),
+            _ => self.write_argument(f),
+        }
     }
-}
 
-/// The text of a cause in entries, ends of blocks and arguments, or of one of those after them.
-fn of_ends(cause: &Cause) -> Form {
-    match *cause {
-        Cause::EntryIsLater { entry } => with(
-            "the entry is block#; it must be block0",
-            Part::Number(entry),
-        ),
-        Cause::EntryParams { count } => with(
-            "the entry has #, which nothing passes",
-            Part::Counted(count, Noun::Parameter),
-        ),
-        Cause::OpenEnd { block, inst } => with_two(
-            "inst#, the last of block#, neither branches nor returns",
-            Part::Number(inst),
-            Part::Number(block),
-        ),
-        Cause::ReturnLeads { block, succs } => with_two(
-            "block# ends in a return and has #",
-            Part::Number(block),
-            Part::Counted(succs, Noun::Successor),
-        ),
-        Cause::EndsWithin { block, inst } => with_two(
-            "inst# branches or returns, and isn't the last of block#",
-            Part::Number(inst),
-            Part::Number(block),
-        ),
-        Cause::ArgumentCount {
-            succ,
-            passed,
-            wanted,
-        } => with_three(
-            "# for block#, which has #",
-            Part::Counted(passed, Noun::Argument),
-            Part::Number(succ),
-            Part::Counted(wanted, Noun::Parameter),
-        ),
-        Cause::ArgumentClass {
-            succ,
-            passed,
-            wanted,
-        } => with_three(
-            "the argument # for the parameter # of block# is of another class",
-            Part::VReg(passed),
-            Part::VReg(wanted),
-            Part::Number(succ),
-        ),
-        Cause::BranchOperands {
-            inst,
-            operands,
-            succ,
-            ways,
-        } => Form(
-            "inst# has # and leads to block#, which is entered in # ways",
-            [
-                Part::Number(inst),
-                Part::Counted(operands, Noun::Operand),
-                Part::Number(succ),
-                Part::Number(ways),
-            ],
-        ),
-        _ => of_vregs(cause),
+    /// Writes a cause in the arguments that blocks get.
+    fn write_argument<W: fmt::Write>(&self, f: &mut fmt::Formatter<W>) -> fmt::Result {
+        match *self {
+            Cause::EntryParams { count } => {
+                let params = Counted(count, "parameter");
+                write!(f, "the entry has {params}, which nothing passes")
+            }
+            Cause::ArgumentCount {
+                succ,
+                passed,
+                wanted,
+            } => {
+                let passed = Counted(passed, "argument");
+                let wanted = Counted(wanted, "parameter");
+                write!(f, "{passed} for block{succ}, which has {wanted}")
+            }
+            Cause::ArgumentClass {
+                succ,
+                passed,
+                wanted,
+            } => {
+                let passed = VRegText(passed);
+                let wanted = VRegText(wanted);
+                write!(
+                    f,
+                    "the argument {passed} for the parameter {wanted} of block{succ} is of another class"
+                )
+            }
+            _ => self.write_vreg(f),
+        }
     }
-}
 
-/// The text of a cause in vregs, or of one of those after them.
-fn of_vregs(cause: &Cause) -> Form {
-    match *cause {
-        Cause::DefinedTwice { vreg } => with("# is defined twice", Part::VReg(vreg)),
-        Cause::PastCount { vreg, count } => with_two(
-            "# is defined, and only numbers below # may be",
-            Part::VReg(vreg),
-            Part::Long(count),
-        ),
-        Cause::Undefined { vreg } => { with("# is used, and nothing defines it", Part::VReg(vreg)) }
-        Cause::OtherClass { vreg, defined } => with_two(
-            "# is used, and its number is defined as #",
-            Part::VReg(vreg),
-            Part::VReg(defined),
-        ),
-        Cause::UsedEarly { vreg } => with("# is used before its definition", Part::VReg(vreg)),
-        _ => of_operands(cause),
+    /// Writes a cause in the definitions and uses of a vreg.
+    fn write_vreg<W: fmt::Write>(&self, f: &mut fmt::Formatter<W>) -> fmt::Result {
+        match *self {
+            Cause::DefinedTwice { vreg } => write!(f, "{} is defined twice", VRegText(vreg)),
+            Cause::PastCount { vreg, count } => {
+                let vreg = VRegText(vreg);
+                write!(
+                    f,
+                    "{vreg} is defined, and only numbers below {count} may be"
+                )
+            }
+            Cause::Undefined { vreg } => {
+                write!(f, "{} is used, and nothing defines it", VRegText(vreg))
+            }
+            Cause::OtherClass { vreg, defined } => {
+                let vreg = VRegText(vreg);
+                let defined = VRegText(defined);
+                write!(f, "{vreg} is used, and its number is defined as {defined}")
+            }
+            Cause::UsedEarly { vreg } => {
+                write!(f, "{} is used before its definition", VRegText(vreg))
+            }
+            _ => self.write_reuse(f),
+        }
     }
-}
 
-/// The text of a cause in an instruction's operands, or of one of those after them.
-fn of_operands(cause: &Cause) -> Form {
-    match *cause {
-        Cause::ReuseIsNoDef { inst } => with(
-            "a reuse of inst# is no definition at its end",
-            Part::Number(inst),
-        ),
-        Cause::ReusesNothing {
-            inst,
-            index,
-            operands,
-        } => with_three(
-            if operands == 1 {
-                "a reuse of inst# names operand #, counted from 0, and there is #"
-            } else {
-                "a reuse of inst# names operand #, counted from 0, and there are #"
-            },
-            Part::Number(inst),
-            Part::Number(index),
-            Part::Counted(operands, Noun::Operand),
-        ),
-        Cause::ReusesOther { inst, index } => with_two(
-            "operand # of inst#, counted from 0, is reused and is no early use of the class in a register that may be allocated",
-            Part::Number(index),
-            Part::Number(inst),
-        ),
-        Cause::ReusedTwice { inst, index } => with_two(
-            "two definitions of inst# reuse operand #, counted from 0",
-            Part::Number(inst),
-            Part::Number(index),
-        ),
-        Cause::FixedClobbered { inst, register } => with_two(
-            "an operand of inst# is fixed to #, which the instruction clobbers",
-            Part::Number(inst),
-            Part::Register(register),
-        ),
-        Cause::Limited { inst } => with(
-            "an operand of inst# is under a limit, which the allocator doesn't support",
-            Part::Number(inst),
-        ),
-        Cause::BranchDefines { inst } => with(
-            "inst# branches and defines in any register or by a reuse: only fixed registers and the stack are possible there",
-            Part::Number(inst),
-        ),
-        _ => of_resources(cause),
+    /// Writes a cause in the reuses of an instruction.
+    fn write_reuse<W: fmt::Write>(&self, f: &mut fmt::Formatter<W>) -> fmt::Result {
+        match *self {
+            Cause::ReuseIsNoDef { inst } => {
+                write!(f, "a reuse of inst{inst} is no definition at its end")
+            }
+            Cause::ReusesNothing {
+                inst,
+                index,
+                operands,
+            } => {
+                let are = if operands == 1 { "is" } else { "are" };
+                let operands = Counted(operands, "operand");
+                write!(
+                    f,
+                    "a reuse of inst{inst} names operand {index}, counted from 0, and there {are} {operands}"
+                )
+            }
+            Cause::ReusesOther { inst, index } => write!(
+                f,
+                "operand {index} of inst{inst}, counted from 0, is reused and is no early use of the class in a register that may be allocated"
+            ),
+            Cause::ReusedTwice { inst, index } => write!(
+                f,
+                "two definitions of inst{inst} reuse operand {index}, counted from 0"
+            ),
+            _ => self.write_constraint(f),
+        }
     }
-}
 
-/// The text of a cause in the machine's registers and slots, or that none is found.
-fn of_resources(cause: &Cause) -> Form {
-    match *cause {
-        Cause::Registers {
-            inst,
-            class,
-            needed,
-            available,
-        } => Form(
-            "inst# needs # of the class #, and the machine has #",
-            [
-                Part::Number(inst),
-                Part::Counted(needed, Noun::Register),
-                Part::Class(class),
-                Part::Number(available),
-            ],
-        ),
-        Cause::NoSuchRegister { inst, register } => with_two(
-            "an operand of inst# is fixed to #, which the machine doesn't allocate",
-            Part::Number(inst),
-            Part::Register(register),
-        ),
-        Cause::FixedTwice { inst, register } => with_two(
-            "two operands of inst# are fixed to # at one time",
-            Part::Number(inst),
-            Part::Register(register),
-        ),
-        Cause::ManyOperands => plain("the function has 4294967296 operands or more"),
-        Cause::ManySlots { vregs } => with(
-            "the slots of # virtual registers would take more than 16777216 units",
-            Part::Long(vregs),
-        ),
-        _ => plain("no test finds the cause"),
+    /// Writes a cause in the constraint of an operand.
+    fn write_constraint<W: fmt::Write>(&self, f: &mut fmt::Formatter<W>) -> fmt::Result {
+        match *self {
+            Cause::NoSuchRegister { inst, register } => write!(
+                f,
+                "an operand of inst{inst} is fixed to {register}, which the machine doesn't allocate"
+            ),
+            Cause::FixedTwice { inst, register } => write!(
+                f,
+                "two operands of inst{inst} are fixed to {register} at one time"
+            ),
+            Cause::FixedClobbered { inst, register } => write!(
+                f,
+                "an operand of inst{inst} is fixed to {register}, which the instruction clobbers"
+            ),
+            Cause::Limited { inst } => write!(
+                f,
+                "an operand of inst{inst} is under a limit, which the allocator doesn't support"
+            ),
+            Cause::BranchDefines { inst } => write!(
+                f,
+                "inst{inst} branches and defines in any register or by a reuse: only fixed registers and the stack are possible there"
+            ),
+            _ => self.write_count(f),
+        }
+    }
+
+    /// Writes a cause in the number of registers, operands or slots, or that no test finds one.
+    fn write_count<W: fmt::Write>(&self, f: &mut fmt::Formatter<W>) -> fmt::Result {
+        match *self {
+            Cause::Registers {
+                inst,
+                class,
+                needed,
+                available,
+            } => {
+                let needed = Counted(needed, "register");
+                let class = ClassName(class);
+                write!(
+                    f,
+                    "inst{inst} needs {needed} of the class {class}, and the machine has {available}"
+                )
+            }
+            Cause::ManyOperands => write!(f, "the function has 4294967296 operands or more"),
+            Cause::ManySlots { vregs } => write!(
+                f,
+                "the slots of {vregs} virtual registers would take more than 16777216 units"
+            ),
+            _ => write!(f, "no test finds the cause"),
+        }
     }
 }
 
 /// What is wrong, as `v0i is defined twice`, on one line.
 impl fmt::Display for Cause {
     fn fmt<W: fmt::Write>(&self, f: &mut fmt::Formatter<W>) -> fmt::Result {
-        fmt::Display::fmt(&of_blocks(self), f)
+        self.write_order(f)
     }
 }

@@ -23,7 +23,7 @@ impl Definitions {
         }
     }
 
-    /// Records the parameters of that number.
+    /// Records the parameters of a block that have the vreg number `number`.
     fn note_params(&mut self, function: &StoredFunction, block: usize, number: usize) {
         for bits in list_of(function.block_params_in.as_slice(), block) {
             if let Some(vreg) = vreg_of(*bits) {
@@ -34,7 +34,7 @@ impl Definitions {
         }
     }
 
-    /// Records the definitions of that number by an instruction.
+    /// Records an instruction's definitions of the vreg number `number`.
     fn note_inst(&mut self, function: &StoredFunction, inst: usize, number: usize) {
         for (k, bits) in operands_at(function, inst).iter().enumerate() {
             if let Some(operand) = operand_of(*bits) {
@@ -45,7 +45,7 @@ impl Definitions {
         }
     }
 
-    /// Records the definitions of that number in a block.
+    /// Records the definitions of the vreg number `number` in a block.
     fn note_block(&mut self, function: &StoredFunction, block: usize, number: usize) {
         self.note_params(function, block, number);
         let (first, end) = range_of(function, block);
@@ -86,8 +86,8 @@ fn read_site(function: &StoredFunction, vreg: VReg, inst: Inst) -> Site {
     Site::Inst(number)
 }
 
-/// The cause of `SSA`, the site, and another definition or the only one.
-pub(crate) fn of_vreg(
+/// The cause of `SSA`, the site, and another definition or the only definition, if there is any.
+pub(crate) fn ssa_cause(
     function: &StoredFunction,
     vreg: VReg,
     inst: Inst,

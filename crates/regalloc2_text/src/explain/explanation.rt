@@ -2,11 +2,11 @@
 
 use crate::explain::cause::{Cause, Site};
 use crate::explain::pressure::{
-    count_in_any, count_named, first_allocated_in, is_in_any, names_allocated, of_registers,
-    register_index, spare,
+    count_in_any, count_named, first_allocated_in, is_in_any, live_regs_cause, names_allocated,
+    spare,
 };
 use crate::explain::source::Source;
-use crate::explain::stored::{ClassName, class_number, operand_of, operands_at};
+use crate::explain::stored::{ClassName, operand_of, operands_at};
 use crate::explain::{blocks, definitions, operands};
 use regalloc2_function::MachineMisfit;
 use regalloc2_names::{PReg, RegAllocError, RegClass, VRegText};
@@ -43,21 +43,28 @@ impl Explanation {
 pub fn explain(function: &StoredFunction, error: &RegAllocError) -> Explanation {
     let found = match error {
         RegAllocError::SSA(vreg, inst) => {
-            let (cause, site, against) = definitions::of_vreg(function, *vreg, *inst);
+            let (cause, site, against) = definitions::ssa_cause(function, *vreg, *inst);
             return Explanation {
                 cause,
                 site,
                 against,
             };
         }
-        RegAllocError::CritEdge(from, to) => blocks::of_edge(function, from.index(), to.index()),
-        RegAllocError::BB(block) => blocks::of_block(function, block.index()),
-        RegAllocError::Branch(inst) => blocks::of_arguments(function, inst.index()),
-        RegAllocError::EntryLivein => blocks::of_entry(function),
-        RegAllocError::DisallowedBranchArg(inst) => blocks::of_branch(function, inst.index()),
-        RegAllocError::TooManyLiveRegs => of_registers(function),
+        RegAllocError::CritEdge(from, to) => blocks::crit_edge_cause(
+            function,
+            from.index(),
+            to.index(),
+        ),
+        RegAllocError::BB(block) => blocks::block_cause(function, block.index()),
+        RegAllocError::Branch(inst) => blocks::branch_cause(function, inst.index()),
+        RegAllocError::EntryLivein => blocks::entry_livein_cause(function),
+        RegAllocError::DisallowedBranchArg(inst) => blocks::disallowed_branch_arg_cause(
+            function,
+            inst.index(),
+        ),
+        RegAllocError::TooManyLiveRegs => live_regs_cause(function),
         RegAllocError::TooManyOperands => (Cause::ManyOperands, Site::Function),
-        RegAllocError::Unsupported(inst) => operands::of_operand(function, inst.index()),
+        RegAllocError::Unsupported(inst) => operands::unsupported_cause(function, inst.index()),
         RegAllocError::TooManySpillSlots => {
             let vregs = function.num_vregs;
             (Cause::ManySlots { vregs }, Site::Function)
@@ -73,7 +80,7 @@ pub fn misfit_at(function: &StoredFunction, misfit: MachineMisfit) -> Option<Sit
         return None;
     };
     for (inst, data) in function.insts.iter().enumerate() {
-        if let Some(k) = first_allocated_in(data.operands.as_slice(), class_number(class)) {
+        if let Some(k) = first_allocated_in(data.operands.as_slice(), class) {
             return Some(Site::Operand(inst, k));
         }
     }
@@ -84,7 +91,7 @@ pub fn misfit_at(function: &StoredFunction, misfit: MachineMisfit) -> Option<Sit
 #[derive(Drop)]
 struct InAny<'a> {
     operands: &'a [u64],
-    class: usize,
+    class: RegClass,
 }
 
 impl fmt::Display for InAny<'_> {
@@ -109,17 +116,15 @@ impl fmt::Display for InAny<'_> {
 struct Named<'a> {
     function: &'a StoredFunction,
     inst: usize,
-    class: usize,
+    class: RegClass,
 }
 
 impl fmt::Display for Named<'_> {
     fn fmt<W: fmt::Write>(&self, f: &mut fmt::Formatter<W>) -> fmt::Result {
         let mut before = "";
-        for number in 0..64u8 {
-            let index = register_index(self.class, number);
-            let place = usize::from(index);
-            if names_allocated(self.function, self.inst, index) && PReg::is_index(place) {
-                let register = PReg::from_index(place);
+        for number in 0..=PReg::MAX {
+            let register = PReg::new(number, self.class);
+            if names_allocated(self.function, self.inst, register) {
                 write!(f, "{before}{register}")?;
                 before = ", ";
             }
@@ -141,24 +146,20 @@ fn write_needs<W: Write>(
     class: RegClass,
     to: &mut W,
 ) -> io::Result<()> {
-    let number = class_number(class);
     let operands = operands_at(function, inst);
-    let in_any = InAny {
-        operands,
-        class: number,
-    };
-    if count_in_any(operands, number) > 0 {
+    let in_any = InAny { operands, class };
+    if count_in_any(operands, class) > 0 {
         write_line("in any register: ", &in_any, to)?;
     }
     let named = Named {
         function,
         inst,
-        class: number,
+        class,
     };
-    if count_named(function, inst, number) > 0 {
+    if count_named(function, inst, class) > 0 {
         write_line("fixed or clobbered: ", &named, to)?;
     }
-    if spare(function, number) == 0 {
+    if spare(function, class) == 0 {
         return Ok(());
     }
     write_line(

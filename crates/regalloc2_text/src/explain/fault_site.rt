@@ -9,7 +9,7 @@ use regalloc2_serialize::StoredFunction;
 
 /// The block's own line if its list among these has the number, else the line of the block's last
 /// instruction, which has successors and arguments.
-fn of_number(function: &StoredFunction, lists: &[Vec<u32>], block: usize, number: u32) -> Site {
+fn number_site(function: &StoredFunction, lists: &[Vec<u32>], block: usize, number: u32) -> Site {
     if list_of(lists, block).contains(&number) {
         Site::Block(block)
     } else {
@@ -19,7 +19,7 @@ fn of_number(function: &StoredFunction, lists: &[Vec<u32>], block: usize, number
 
 /// The operand that a place of an output belongs to: that of the last instruction whose places
 /// begin no later.
-fn of_place(output: &StoredOutput, index: usize) -> Site {
+fn place_site(output: &StoredOutput, index: usize) -> Site {
     let mut site = Site::Function;
     for (inst, start) in output.inst_alloc_offsets.iter().enumerate() {
         if let Some(operand) = index.checked_sub(*start as usize) {
@@ -35,10 +35,10 @@ impl StoredCause {
     pub fn site(&self, function: &StoredFunction) -> Site {
         match *self {
             Self::Neighbour { block, named, .. } => {
-                of_number(function, function.block_preds.as_slice(), block, named)
+                number_site(function, function.block_preds.as_slice(), block, named)
             }
             Self::VRegWord { block, word, .. } => {
-                of_number(function, function.block_params_in.as_slice(), block, word)
+                number_site(function, function.block_params_in.as_slice(), block, word)
             }
             Self::ArgumentLists { block, .. } | Self::Range { block, .. } => Site::Block(block),
             Self::OperandWord { inst, operand, .. } => Site::Operand(inst, operand),
@@ -51,7 +51,7 @@ impl StoredCause {
     /// instructions.
     pub fn output_site(&self, output: &StoredOutput) -> Site {
         match *self {
-            Self::Place { index, .. } => of_place(output, index),
+            Self::Place { index, .. } => place_site(output, index),
             Self::Move { index } => Site::Move(index),
             _ => Site::Function,
         }

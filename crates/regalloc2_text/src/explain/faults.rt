@@ -7,9 +7,21 @@ ghost use Rattle.regalloc2_text.specs.Explain.FaultText.{cause_text};
 
 use crate::explain::stored::{ClassName, Counted, class_of_number};
 use regalloc2_function::{StoredFault, StoredOutput};
-use regalloc2_names::{Allocation, Operand, PReg, ProgPoint, VReg};
+use regalloc2_names::{Allocation, Operand, PReg, ProgPoint, SpillSlot, VReg};
 use regalloc2_serialize::{StoredFunction, StoredInst, StoredMachine};
 use std::fmt;
+
+/// The numbers of instructions are below this.
+const INST_LIMIT: u64 = 1 << 30;
+
+/// The numbers of blocks are below one less.
+const BLOCK_LIMIT: u64 = 0xffff_ffff;
+
+/// The numbers of vregs are below this.
+const VREG_LIMIT: u64 = VReg::MAX as u64 + 1;
+
+/// The greatest number of units of a slot.
+const LARGEST_SLOT: u64 = SpillSlot::MAX as u64 + 1;
 
 /// What is wrong with stored numbers: each variant is one of the several causes of an error.
 #[derive(Clone, Copy)]
@@ -299,7 +311,7 @@ impl fmt::Display for StoredCause {
 }
 
 /// The first block that has another number of lists of arguments than successors.
-fn of_arguments(function: &StoredFunction) -> Option<StoredCause> {
+fn argument_lists_cause(function: &StoredFunction) -> Option<StoredCause> {
     let (arguments, succs) = (&function.block_params_out, &function.block_succs);
     for block in 0..arguments.len().min(succs.len()) {
         let (lists, succs) = (arguments[block].len(), succs[block].len());
@@ -315,7 +327,7 @@ fn of_arguments(function: &StoredFunction) -> Option<StoredCause> {
 }
 
 /// The first list that has another length than it should have.
-fn of_lengths(function: &StoredFunction) -> Option<StoredCause> {
+fn lengths_cause(function: &StoredFunction) -> Option<StoredCause> {
     let blocks = function.blocks.len();
     let lists = [
         ("block_preds", function.block_preds.len()),
@@ -332,15 +344,15 @@ fn of_lengths(function: &StoredFunction) -> Option<StoredCause> {
             });
         }
     }
-    let arguments = of_arguments(function);
+    let arguments = argument_lists_cause(function);
     if arguments.is_some() {
         return arguments;
     }
-    of_classes(function)
+    class_lists_cause(function)
 }
 
 /// The first list by class that has another length than 3.
-fn of_classes(function: &StoredFunction) -> Option<StoredCause> {
+fn class_lists_cause(function: &StoredFunction) -> Option<StoredCause> {
     let machine = &function.machine_env;
     let lists = [
         (
@@ -373,7 +385,7 @@ fn first_past(list: &[u32], blocks: usize) -> Option<u32> {
 }
 
 /// The first number in lists by block that isn't a block's.
-fn of_neighbours(lists: &[Vec<u32>], role: &'static str, blocks: usize) -> Option<StoredCause> {
+fn neighbours_cause(lists: &[Vec<u32>], role: &'static str, blocks: usize) -> Option<StoredCause> {
     for (block, list) in lists.iter().enumerate() {
         if let Some(named) = first_past(list.as_slice(), blocks) {
             return Some(StoredCause::Neighbour {
@@ -388,7 +400,7 @@ fn of_neighbours(lists: &[Vec<u32>], role: &'static str, blocks: usize) -> Optio
 }
 
 /// The first range that is descending, or ends past the instructions, of which there are this many.
-fn of_ranges(ranges: &[(u32, u32)], insts: usize) -> Option<StoredCause> {
+fn ranges_cause(ranges: &[(u32, u32)], insts: usize) -> Option<StoredCause> {
     for (block, (first, end)) in ranges.iter().enumerate() {
         if first > end || *end as usize > insts {
             return Some(StoredCause::Range {
@@ -403,7 +415,7 @@ fn of_ranges(ranges: &[(u32, u32)], insts: usize) -> Option<StoredCause> {
 }
 
 /// The first label of a vreg whose number isn't below a count.
-fn of_counted(labels: &[(u32, u32, u32, u32)], count: u64) -> Option<StoredCause> {
+fn label_counts_cause(labels: &[(u32, u32, u32, u32)], count: u64) -> Option<StoredCause> {
     for (label, (word, _, _, _)) in labels.iter().enumerate() {
         let number = *word >> 2;
         if u64::from(number) >= count {
@@ -418,25 +430,25 @@ fn of_counted(labels: &[(u32, u32, u32, u32)], count: u64) -> Option<StoredCause
 }
 
 /// The first number of a block, an instruction or a labelled vreg that is out of range.
-fn of_index(function: &StoredFunction) -> Option<StoredCause> {
+fn index_cause(function: &StoredFunction) -> Option<StoredCause> {
     let (blocks, insts) = (function.blocks.len(), function.insts.len());
     let entry = function.entry_block;
     if entry as usize >= blocks {
         return Some(StoredCause::Entry { entry, blocks });
     }
-    let preds = of_neighbours(function.block_preds.as_slice(), "predecessor", blocks);
+    let preds = neighbours_cause(function.block_preds.as_slice(), "predecessor", blocks);
     if preds.is_some() {
         return preds;
     }
-    let succs = of_neighbours(function.block_succs.as_slice(), "successor", blocks);
+    let succs = neighbours_cause(function.block_succs.as_slice(), "successor", blocks);
     if succs.is_some() {
         return succs;
     }
-    let ranges = of_ranges(function.blocks.as_slice(), insts);
+    let ranges = ranges_cause(function.blocks.as_slice(), insts);
     if ranges.is_some() {
         return ranges;
     }
-    of_counted(function.debug_value_labels.as_slice(), function.num_vregs)
+    label_counts_cause(function.debug_value_labels.as_slice(), function.num_vregs)
 }
 
 /// The first index that isn't a register's.
@@ -450,13 +462,13 @@ fn first_unnamed(indexes: &[u8]) -> Option<u8> {
 }
 
 /// The first index in a list that isn't a register's.
-fn of_list(list: &'static str, indexes: &[u8]) -> Option<StoredCause> {
+fn register_cause(list: &'static str, indexes: &[u8]) -> Option<StoredCause> {
     let index = first_unnamed(indexes)?;
     Some(StoredCause::Register { list, index })
 }
 
 /// The first index in lists that isn't a register's.
-fn of_lists(list: &'static str, lists: &[Vec<u8>]) -> Option<StoredCause> {
+fn register_lists_cause(list: &'static str, lists: &[Vec<u8>]) -> Option<StoredCause> {
     for indexes in lists {
         if let Some(index) = first_unnamed(indexes.as_slice()) {
             return Some(StoredCause::Register { list, index });
@@ -466,7 +478,7 @@ fn of_lists(list: &'static str, lists: &[Vec<u8>]) -> Option<StoredCause> {
 }
 
 /// The first index of a scratch register that isn't a register's.
-fn of_scratch(indexes: &[Option<u8>]) -> Option<StoredCause> {
+fn scratch_cause(indexes: &[Option<u8>]) -> Option<StoredCause> {
     let list = "scratch_by_class";
     for index in indexes {
         let Some(index) = *index else { continue };
@@ -478,23 +490,23 @@ fn of_scratch(indexes: &[Option<u8>]) -> Option<StoredCause> {
 }
 
 /// The first index of a machine that isn't a register's.
-fn of_machine(machine: &StoredMachine) -> Option<StoredCause> {
+fn machine_cause(machine: &StoredMachine) -> Option<StoredCause> {
     let preferred = machine.preferred_regs_by_class.as_slice();
-    if let Some(cause) = of_lists("preferred_regs_by_class", preferred) {
+    if let Some(cause) = register_lists_cause("preferred_regs_by_class", preferred) {
         return Some(cause);
     }
     let others = machine.non_preferred_regs_by_class.as_slice();
-    if let Some(cause) = of_lists("non_preferred_regs_by_class", others) {
+    if let Some(cause) = register_lists_cause("non_preferred_regs_by_class", others) {
         return Some(cause);
     }
-    if let Some(cause) = of_scratch(machine.scratch_by_class.as_slice()) {
+    if let Some(cause) = scratch_cause(machine.scratch_by_class.as_slice()) {
         return Some(cause);
     }
-    of_list("fixed_stack_slots", machine.fixed_stack_slots.as_slice())
+    register_cause("fixed_stack_slots", machine.fixed_stack_slots.as_slice())
 }
 
 /// The first encoding or index of one instruction that names nothing.
-fn of_inst(inst: usize, data: &StoredInst) -> Option<StoredCause> {
+fn inst_cause(inst: usize, data: &StoredInst) -> Option<StoredCause> {
     for (operand, word) in data.operands.iter().enumerate() {
         if !Operand::is_bits(*word) {
             return Some(StoredCause::OperandWord {
@@ -509,7 +521,7 @@ fn of_inst(inst: usize, data: &StoredInst) -> Option<StoredCause> {
 }
 
 /// The first encoding of a block's parameters or arguments that isn't a vreg's.
-fn of_vregs(block: usize, role: &'static str, words: &[u32]) -> Option<StoredCause> {
+fn vregs_cause(block: usize, role: &'static str, words: &[u32]) -> Option<StoredCause> {
     for word in words {
         if !VReg::is_bits(*word) {
             return Some(StoredCause::VRegWord {
@@ -523,9 +535,9 @@ fn of_vregs(block: usize, role: &'static str, words: &[u32]) -> Option<StoredCau
 }
 
 /// The first encoding or index of an instruction that names nothing.
-fn of_insts(insts: &[StoredInst]) -> Option<StoredCause> {
+fn insts_cause(insts: &[StoredInst]) -> Option<StoredCause> {
     for (inst, data) in insts.iter().enumerate() {
-        if let Some(cause) = of_inst(inst, data) {
+        if let Some(cause) = inst_cause(inst, data) {
             return Some(cause);
         }
     }
@@ -533,9 +545,9 @@ fn of_insts(insts: &[StoredInst]) -> Option<StoredCause> {
 }
 
 /// The first encoding of a parameter that isn't a vreg's.
-fn of_params(lists: &[Vec<u32>]) -> Option<StoredCause> {
+fn params_cause(lists: &[Vec<u32>]) -> Option<StoredCause> {
     for (block, words) in lists.iter().enumerate() {
-        if let Some(cause) = of_vregs(block, "a parameter", words.as_slice()) {
+        if let Some(cause) = vregs_cause(block, "a parameter", words.as_slice()) {
             return Some(cause);
         }
     }
@@ -543,9 +555,9 @@ fn of_params(lists: &[Vec<u32>]) -> Option<StoredCause> {
 }
 
 /// The first encoding of a block's arguments that isn't a vreg's.
-fn of_arguments_of(block: usize, passed: &[Vec<u32>]) -> Option<StoredCause> {
+fn block_arguments_cause(block: usize, passed: &[Vec<u32>]) -> Option<StoredCause> {
     for words in passed {
-        if let Some(cause) = of_vregs(block, "an argument", words.as_slice()) {
+        if let Some(cause) = vregs_cause(block, "an argument", words.as_slice()) {
             return Some(cause);
         }
     }
@@ -553,9 +565,9 @@ fn of_arguments_of(block: usize, passed: &[Vec<u32>]) -> Option<StoredCause> {
 }
 
 /// The first encoding of an argument that isn't a vreg's.
-fn of_passed(lists: &[Vec<Vec<u32>>]) -> Option<StoredCause> {
+fn arguments_cause(lists: &[Vec<Vec<u32>>]) -> Option<StoredCause> {
     for (block, passed) in lists.iter().enumerate() {
-        if let Some(cause) = of_arguments_of(block, passed.as_slice()) {
+        if let Some(cause) = block_arguments_cause(block, passed.as_slice()) {
             return Some(cause);
         }
     }
@@ -563,7 +575,7 @@ fn of_passed(lists: &[Vec<Vec<u32>>]) -> Option<StoredCause> {
 }
 
 /// The first label whose encoding isn't a vreg's.
-fn of_labels(labels: &[(u32, u32, u32, u32)]) -> Option<StoredCause> {
+fn label_words_cause(labels: &[(u32, u32, u32, u32)]) -> Option<StoredCause> {
     for (label, (word, _, _, _)) in labels.iter().enumerate() {
         if !VReg::is_bits(*word) {
             return Some(StoredCause::LabelWord { label, word: *word });
@@ -573,30 +585,30 @@ fn of_labels(labels: &[(u32, u32, u32, u32)]) -> Option<StoredCause> {
 }
 
 /// The first encoding that names nothing.
-fn of_words(function: &StoredFunction) -> Option<StoredCause> {
-    let machine = of_machine(&function.machine_env);
+fn bits_cause(function: &StoredFunction) -> Option<StoredCause> {
+    let machine = machine_cause(&function.machine_env);
     if machine.is_some() {
         return machine;
     }
-    let insts = of_insts(function.insts.as_slice());
+    let insts = insts_cause(function.insts.as_slice());
     if insts.is_some() {
         return insts;
     }
-    let params = of_params(function.block_params_in.as_slice());
+    let params = params_cause(function.block_params_in.as_slice());
     if params.is_some() {
         return params;
     }
-    let passed = of_passed(function.block_params_out.as_slice());
+    let passed = arguments_cause(function.block_params_out.as_slice());
     if passed.is_some() {
         return passed;
     }
-    of_labels(function.debug_value_labels.as_slice())
+    label_words_cause(function.debug_value_labels.as_slice())
 }
 
 /// The first size of a class's slots that isn't a power of two up to 2^24.
-fn of_sizes(sizes: &[u64]) -> Option<StoredCause> {
+fn slot_sizes_cause(sizes: &[u64]) -> Option<StoredCause> {
     for (class, size) in sizes.iter().enumerate() {
-        if *size > 1 << 24 || !size.is_power_of_two() {
+        if *size > LARGEST_SLOT || !size.is_power_of_two() {
             return Some(StoredCause::SlotSize { class, size: *size });
         }
     }
@@ -604,44 +616,49 @@ fn of_sizes(sizes: &[u64]) -> Option<StoredCause> {
 }
 
 /// The first limit that is exceeded.
-fn of_limits(function: &StoredFunction) -> Option<StoredCause> {
+fn limits_cause(function: &StoredFunction) -> Option<StoredCause> {
     let limits = [
         (
             function.insts.len() as u64,
-            1 << 30,
+            INST_LIMIT,
             "instructions",
             "2^30 - 1",
         ),
         (
             function.blocks.len() as u64,
-            0xffff_ffff,
+            BLOCK_LIMIT,
             "blocks",
             "2^32 - 2",
         ),
-        (function.num_vregs, 1 << 30, "virtual registers", "2^30 - 1"),
+        (
+            function.num_vregs,
+            VREG_LIMIT,
+            "virtual registers",
+            "2^30 - 1",
+        ),
     ];
     for (count, bound, what, limit) in limits {
         if count >= bound {
             return Some(StoredCause::TooMany { count, what, limit });
         }
     }
-    of_sizes(function.spillslot_size.as_slice())
+    slot_sizes_cause(function.spillslot_size.as_slice())
 }
 
 /// The cause of an error in a stored function. Linear in the function.
 pub fn explain_function(function: &StoredFunction, fault: StoredFault) -> StoredCause {
     let found = match fault {
-        StoredFault::Lengths => of_lengths(function),
-        StoredFault::Index => of_index(function),
-        StoredFault::Bits => of_words(function),
-        StoredFault::Limit => of_limits(function),
+        StoredFault::Lengths => lengths_cause(function),
+        StoredFault::Index => index_cause(function),
+        StoredFault::Bits => bits_cause(function),
+        StoredFault::Limit => limits_cause(function),
         StoredFault::Memory | StoredFault::Shape => None,
     };
     found.unwrap_or(StoredCause::Known(fault))
 }
 
 /// The first move with an encoding that names nothing.
-fn of_moves(moves: &[(u32, u32, u32)]) -> Option<StoredCause> {
+fn moves_cause(moves: &[(u32, u32, u32)]) -> Option<StoredCause> {
     for (index, (point, from, to)) in moves.iter().enumerate() {
         let are_places = Allocation::is_bits(*from) && Allocation::is_bits(*to);
         if !ProgPoint::is_index(*point) || !are_places {
@@ -652,7 +669,7 @@ fn of_moves(moves: &[(u32, u32, u32)]) -> Option<StoredCause> {
 }
 
 /// The first encoding that isn't a place's.
-fn of_places(places: &[u32]) -> Option<StoredCause> {
+fn places_cause(places: &[u32]) -> Option<StoredCause> {
     for (index, word) in places.iter().enumerate() {
         if !Allocation::is_bits(*word) {
             return Some(StoredCause::Place { index, word: *word });
@@ -662,7 +679,7 @@ fn of_places(places: &[u32]) -> Option<StoredCause> {
 }
 
 /// The first debug location with an encoding that names nothing.
-fn of_locations(locations: &[(u32, u32, u32, u32)]) -> Option<StoredCause> {
+fn locations_cause(locations: &[(u32, u32, u32, u32)]) -> Option<StoredCause> {
     for (index, (_, from, until, place)) in locations.iter().enumerate() {
         let are_points = ProgPoint::is_index(*from) && ProgPoint::is_index(*until);
         if !are_points || !Allocation::is_bits(*place) {
@@ -673,20 +690,20 @@ fn of_locations(locations: &[(u32, u32, u32, u32)]) -> Option<StoredCause> {
 }
 
 /// The first encoding of an output that names nothing.
-fn of_output(output: &StoredOutput) -> Option<StoredCause> {
-    if let Some(cause) = of_moves(output.edits.as_slice()) {
+fn output_bits_cause(output: &StoredOutput) -> Option<StoredCause> {
+    if let Some(cause) = moves_cause(output.edits.as_slice()) {
         return Some(cause);
     }
-    if let Some(cause) = of_places(output.allocs.as_slice()) {
+    if let Some(cause) = places_cause(output.allocs.as_slice()) {
         return Some(cause);
     }
-    of_locations(output.debug_locations.as_slice())
+    locations_cause(output.debug_locations.as_slice())
 }
 
 /// The cause of an error in a stored output. Linear in the output.
 pub fn explain_output(output: &StoredOutput, fault: StoredFault) -> StoredCause {
     let found = match fault {
-        StoredFault::Bits => of_output(output),
+        StoredFault::Bits => output_bits_cause(output),
         _ => None,
     };
     found.unwrap_or(StoredCause::Known(fault))

@@ -28,14 +28,12 @@ fn may_be_reused(function: &StoredFunction, by: Operand, operand: Operand) -> bo
     }
     match operand.constraint() {
         OperandConstraint::Reg => true,
-        OperandConstraint::FixedReg(register) => {
-            is_allocatable(&function.machine_env, register.index() as u8)
-        }
+        OperandConstraint::FixedReg(register) => { is_allocatable(&function.machine_env, register) }
         _ => false,
     }
 }
 
-/// Returns whether the operand of an encoding reuses the one at an index.
+/// Returns whether the operand of an encoding reuses the operand at `index`.
 fn reuses(bits: u64, index: usize) -> bool {
     match operand_of(bits) {
         Some(operand) => reused_index(operand) == Some(index),
@@ -43,7 +41,7 @@ fn reuses(bits: u64, index: usize) -> bool {
     }
 }
 
-/// Returns whether another operand before the index `k` reuses the same one.
+/// Returns whether an operand before the index `k` reuses the operand at `index`.
 fn is_reused_before(operands: &[u64], k: usize, index: usize) -> bool {
     for bits in operands.iter().take(k) {
         if reuses(*bits, index) {
@@ -53,13 +51,18 @@ fn is_reused_before(operands: &[u64], k: usize, index: usize) -> bool {
     false
 }
 
-/// Returns whether an operand reuses the one at an index, which is below 32 then.
+/// Returns whether an operand reuses the operand at `index`, which is below 32 then.
 pub(crate) fn is_reused(operands: &[u64], index: usize) -> bool {
     index < 32 && is_reused_before(operands, operands.len(), index)
 }
 
 /// The cause if an operand at the index `k` is an invalid reuse.
-fn of_reuse(function: &StoredFunction, inst: usize, k: usize, operand: Operand) -> Option<Cause> {
+fn reuse_cause(
+    function: &StoredFunction,
+    inst: usize,
+    k: usize,
+    operand: Operand,
+) -> Option<Cause> {
     let index = reused_index(operand)?;
     if operand.kind() != OperandKind::Def || operand.pos() != OperandPos::Late {
         return Some(Cause::ReuseIsNoDef { inst });
@@ -86,7 +89,12 @@ fn of_reuse(function: &StoredFunction, inst: usize, k: usize, operand: Operand) 
 }
 
 /// The cause if an operand is fixed to a clobber.
-fn of_clobber(function: &StoredFunction, inst: usize, k: usize, operand: Operand) -> Option<Cause> {
+fn clobber_cause(
+    function: &StoredFunction,
+    inst: usize,
+    k: usize,
+    operand: Operand,
+) -> Option<Cause> {
     let OperandConstraint::FixedReg(register) = operand.constraint() else {
         return None;
     };
@@ -103,7 +111,12 @@ fn of_clobber(function: &StoredFunction, inst: usize, k: usize, operand: Operand
 }
 
 /// The cause if an operand has a limit constraint.
-fn of_limit(_function: &StoredFunction, inst: usize, _k: usize, operand: Operand) -> Option<Cause> {
+fn limit_cause(
+    _function: &StoredFunction,
+    inst: usize,
+    _k: usize,
+    operand: Operand,
+) -> Option<Cause> {
     match operand.constraint() {
         OperandConstraint::Limit(_) => Some(Cause::Limited { inst }),
         _ => None,
@@ -111,7 +124,12 @@ fn of_limit(_function: &StoredFunction, inst: usize, _k: usize, operand: Operand
 }
 
 /// The cause if a branch defines in any register, or by a reuse.
-fn of_branch(function: &StoredFunction, inst: usize, _k: usize, operand: Operand) -> Option<Cause> {
+fn branch_definition_cause(
+    function: &StoredFunction,
+    inst: usize,
+    _k: usize,
+    operand: Operand,
+) -> Option<Cause> {
     if function.insts.get(inst)?.op != InstOpcode::Branch || !operand.is_def() {
         return None;
     }
@@ -140,10 +158,10 @@ impl Test {
         operand: Operand,
     ) -> Option<Cause> {
         match self {
-            Test::Reuses => of_reuse(function, inst, k, operand),
-            Test::Clobbers => of_clobber(function, inst, k, operand),
-            Test::Limits => of_limit(function, inst, k, operand),
-            Test::Branches => of_branch(function, inst, k, operand),
+            Test::Reuses => reuse_cause(function, inst, k, operand),
+            Test::Clobbers => clobber_cause(function, inst, k, operand),
+            Test::Limits => limit_cause(function, inst, k, operand),
+            Test::Branches => branch_definition_cause(function, inst, k, operand),
         }
     }
 }
@@ -161,7 +179,7 @@ fn first_failing(function: &StoredFunction, inst: usize, test: Test) -> Option<(
 }
 
 /// The cause of `Unsupported`.
-pub(crate) fn of_operand(function: &StoredFunction, inst: usize) -> (Cause, Site) {
+pub(crate) fn unsupported_cause(function: &StoredFunction, inst: usize) -> (Cause, Site) {
     for test in [Test::Reuses, Test::Clobbers, Test::Limits, Test::Branches] {
         if let Some(found) = first_failing(function, inst, test) {
             return found;

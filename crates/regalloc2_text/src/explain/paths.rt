@@ -16,7 +16,7 @@ pub struct UnwrittenRead {
     pub vreg: VReg,
     /// The reader: an operand, or the instruction that passes the vreg as an argument.
     pub site: Site,
-    /// The blocks of a shortest such path, from the entry to the block that reads.
+    /// The blocks of a shortest path on which the vreg isn't written, from the entry to the block that reads.
     pub path: Vec<u32>,
 }
 
@@ -49,12 +49,12 @@ struct Need {
 struct Search {
     needs: Vec<Need>,
     known: BTreeSet<(u32, u32), Global>,
-    /// The vregs that blocks write, parameters included.
+    /// The vregs that blocks write, parameters included, but for those of the entry.
     written: BTreeSet<(u32, u32), Global>,
 }
 
 impl Search {
-    /// Adds a need, if the block has no need of that vreg yet.
+    /// Adds a need, if its block has no need of its vreg yet.
     fn add(&mut self, need: Need) -> Result<(), AllocError> {
         let pair = (need.block, need.vreg);
         if self.known.contains(&pair) {
@@ -158,11 +158,13 @@ impl Search {
         Ok(())
     }
 
-    /// Finds what each block reads before writing it.
+    /// Finds what each block reads before writing it. Nothing writes the parameters of the entry where the function starts.
     fn walk(&mut self, function: &StoredFunction) -> Result<(), AllocError> {
         for block in 0..function.blocks.len() {
             if let Ok(block) = u32::try_from(block) {
-                self.write_params(function, block)?;
+                if block != function.entry_block {
+                    self.write_params(function, block)?;
+                }
                 self.walk_insts(function, block)?;
                 self.walk_passed(function, block)?;
             }
@@ -185,11 +187,6 @@ impl Search {
         Ok(())
     }
 
-    /// Returns whether a need is one of a block's parameter, which each edge into the block writes.
-    fn is_param(function: &StoredFunction, need: Need) -> bool {
-        list_of(function.block_params_in.as_slice(), need.block as usize).contains(&need.vreg)
-    }
-
     /// Passes needs on until one of the entry is found, and returns its index.
     fn run(
         &mut self,
@@ -200,12 +197,10 @@ impl Search {
             let Some(need) = self.needs.get(index).copied() else {
                 break;
             };
-            if !Search::is_param(function, need) {
-                if need.block == function.entry_block {
-                    return Ok(Some(index));
-                }
-                self.pass(index, need, list_of(edges, need.block as usize))?;
+            if need.block == function.entry_block {
+                return Ok(Some(index));
             }
+            self.pass(index, need, list_of(edges, need.block as usize))?;
         }
         Ok(None)
     }

@@ -5,9 +5,11 @@
 use crate::explain::cause::{Cause, Site};
 use crate::explain::operands::is_reused;
 use crate::explain::stored::{
-    class_number, class_of_number, is_allocatable, operand_of, operands_at, vreg_of,
+    class_number, is_allocatable, operand_of, operands_at, register_of, vreg_of,
 };
-use regalloc2_names::{Operand, OperandConstraint, OperandKind, OperandPos, PReg};
+use regalloc2_names::{
+    Operand, OperandConstraint, OperandKind, OperandPos, PReg, PRegSet, RegClass,
+};
 use regalloc2_serialize::{StoredFunction, StoredInst};
 
 /// The register that an operand is fixed to, unless it is one that isn't allocated.
@@ -22,15 +24,15 @@ fn fixed_register(operand: Operand) -> Option<PReg> {
 }
 
 /// Returns whether the operand of an encoding may be in any register of a class.
-pub(crate) fn is_in_any(bits: u64, class: usize) -> bool {
+pub(crate) fn is_in_any(bits: u64, class: RegClass) -> bool {
     let Some(operand) = operand_of(bits) else {
         return false;
     };
-    operand.constraint() == OperandConstraint::Reg && class_number(operand.class()) == class
+    operand.constraint() == OperandConstraint::Reg && operand.class() == class
 }
 
 /// How many operands may be in any register of a class.
-pub(crate) fn count_in_any(operands: &[u64], class: usize) -> usize {
+pub(crate) fn count_in_any(operands: &[u64], class: RegClass) -> usize {
     let mut count = 0usize;
     for bits in operands {
         if is_in_any(*bits, class) {
@@ -40,68 +42,57 @@ pub(crate) fn count_in_any(operands: &[u64], class: usize) -> usize {
     count
 }
 
-/// Returns whether the operand of an encoding is fixed to the register of an index.
-fn is_fixed_to(bits: u64, index: u8) -> bool {
-    let Some(operand) = operand_of(bits) else {
-        return false;
-    };
-    match operand.constraint() {
-        OperandConstraint::FixedReg(register) => register.index() == usize::from(index),
-        _ => false,
+/// Returns whether the operand of an encoding is fixed to `register`.
+fn is_fixed_to(bits: u64, register: PReg) -> bool {
+    match operand_of(bits) {
+        Some(operand) => operand.constraint() == OperandConstraint::FixedReg(register),
+        None => false,
     }
 }
 
-/// Returns whether an operand is fixed to the register of an index.
-fn has_fixed_to(operands: &[u64], index: u8) -> bool {
+/// Returns whether an operand is fixed to `register`.
+fn has_fixed_to(operands: &[u64], register: PReg) -> bool {
     for bits in operands {
-        if is_fixed_to(*bits, index) {
+        if is_fixed_to(*bits, register) {
             return true;
         }
     }
     false
 }
 
-/// Returns whether an instruction names the register of an index, by a fixed operand or a clobber.
-pub(crate) fn names_register(function: &StoredFunction, inst: usize, index: u8) -> bool {
+/// Returns whether an instruction names `register`, by a fixed operand or a clobber.
+fn names_register(function: &StoredFunction, inst: usize, register: PReg) -> bool {
+    let index = register.index() as u8;
     match function.insts.get(inst) {
         Some(data) => {
             data.clobbers.as_slice().contains(&index)
-                || has_fixed_to(data.operands.as_slice(), index)
+                || has_fixed_to(data.operands.as_slice(), register)
         }
         None => false,
     }
 }
 
 /// How many registers of a class are allocated.
-fn available(function: &StoredFunction, class: usize) -> usize {
+fn available(function: &StoredFunction, class: RegClass) -> usize {
     let mut count = 0usize;
-    for number in 0..64u8 {
-        if is_allocatable(&function.machine_env, register_index(class, number)) {
+    for number in 0..=PReg::MAX {
+        if is_allocatable(&function.machine_env, PReg::new(number, class)) {
             count = count.saturating_add(1);
         }
     }
     count
 }
 
-/// The index of the register of a class with a number below 64.
-pub(crate) fn register_index(class: usize, number: u8) -> u8 {
-    match class {
-        0 => number & 63,
-        1 => 64 | (number & 63),
-        _ => 128 | (number & 63),
-    }
-}
-
-/// Returns whether an instruction names an allocated register.
-pub(crate) fn names_allocated(function: &StoredFunction, inst: usize, index: u8) -> bool {
-    is_allocatable(&function.machine_env, index) && names_register(function, inst, index)
+/// Returns whether an instruction names `register`, and the register is allocated.
+pub(crate) fn names_allocated(function: &StoredFunction, inst: usize, register: PReg) -> bool {
+    is_allocatable(&function.machine_env, register) && names_register(function, inst, register)
 }
 
 /// How many allocated registers of a class an instruction names.
-pub(crate) fn count_named(function: &StoredFunction, inst: usize, class: usize) -> usize {
+pub(crate) fn count_named(function: &StoredFunction, inst: usize, class: RegClass) -> usize {
     let mut count = 0usize;
-    for number in 0..64u8 {
-        if names_allocated(function, inst, register_index(class, number)) {
+    for number in 0..=PReg::MAX {
+        if names_allocated(function, inst, PReg::new(number, class)) {
             count = count.saturating_add(1);
         }
     }
@@ -109,10 +100,12 @@ pub(crate) fn count_named(function: &StoredFunction, inst: usize, class: usize) 
 }
 
 /// Returns whether a class has fixed stack slots.
-fn has_slots(slots: &[u8], class: usize) -> bool {
+fn has_slots(slots: &[u8], class: RegClass) -> bool {
     for slot in slots {
-        if usize::from(*slot >> 6) == class {
-            return true;
+        if let Some(register) = register_of(*slot) {
+            if register.class() == class {
+                return true;
+            }
         }
     }
     false
@@ -120,9 +113,9 @@ fn has_slots(slots: &[u8], class: usize) -> bool {
 
 /// How many registers of a class are reserved for moves between stack places: one, if the class has
 /// fixed stack slots and no scratch register.
-pub(crate) fn spare(function: &StoredFunction, class: usize) -> usize {
+pub(crate) fn spare(function: &StoredFunction, class: RegClass) -> usize {
     let machine = &function.machine_env;
-    let has_scratch = match machine.scratch_by_class.get(class) {
+    let has_scratch = match machine.scratch_by_class.get(class_number(class)) {
         Some(scratch) => scratch.is_some(),
         None => false,
     };
@@ -130,15 +123,15 @@ pub(crate) fn spare(function: &StoredFunction, class: usize) -> usize {
 }
 
 /// Returns whether the operand of an encoding is of a class, and not fixed to a register that isn't allocated.
-fn is_allocated_in(bits: u64, class: usize) -> bool {
+fn is_allocated_in(bits: u64, class: RegClass) -> bool {
     let Some(operand) = operand_of(bits) else {
         return false;
     };
-    operand.as_fixed_nonallocatable().is_none() && class_number(operand.class()) == class
+    operand.as_fixed_nonallocatable().is_none() && operand.class() == class
 }
 
 /// The index of the first operand that is of a class, and not fixed to a register that isn't allocated.
-pub(crate) fn first_allocated_in(operands: &[u64], class: usize) -> Option<usize> {
+pub(crate) fn first_allocated_in(operands: &[u64], class: RegClass) -> Option<usize> {
     for (k, bits) in operands.iter().enumerate() {
         if is_allocated_in(*bits, class) {
             return Some(k);
@@ -148,10 +141,10 @@ pub(crate) fn first_allocated_in(operands: &[u64], class: usize) -> Option<usize
 }
 
 /// Returns whether a vreg among encodings is of a class.
-fn has_vreg_of(words: &[u32], class: usize) -> bool {
+fn has_vreg_of(words: &[u32], class: RegClass) -> bool {
     for word in words {
         if let Some(vreg) = vreg_of(*word) {
-            if class_number(vreg.class()) == class {
+            if vreg.class() == class {
                 return true;
             }
         }
@@ -160,7 +153,7 @@ fn has_vreg_of(words: &[u32], class: usize) -> bool {
 }
 
 /// Returns whether an operand is of a class.
-fn operands_name(insts: &[StoredInst], class: usize) -> bool {
+fn operands_name(insts: &[StoredInst], class: RegClass) -> bool {
     for inst in insts {
         if first_allocated_in(inst.operands.as_slice(), class).is_some() {
             return true;
@@ -170,7 +163,7 @@ fn operands_name(insts: &[StoredInst], class: usize) -> bool {
 }
 
 /// Returns whether a parameter is of a class.
-fn params_name(lists: &[Vec<u32>], class: usize) -> bool {
+fn params_name(lists: &[Vec<u32>], class: RegClass) -> bool {
     for params in lists {
         if has_vreg_of(params.as_slice(), class) {
             return true;
@@ -180,7 +173,7 @@ fn params_name(lists: &[Vec<u32>], class: usize) -> bool {
 }
 
 /// Returns whether an operand or a parameter is of a class.
-fn names_class(function: &StoredFunction, class: usize) -> bool {
+fn names_class(function: &StoredFunction, class: RegClass) -> bool {
     operands_name(function.insts.as_slice(), class)
         || params_name(function.block_params_in.as_slice(), class)
 }
@@ -188,7 +181,7 @@ fn names_class(function: &StoredFunction, class: usize) -> bool {
 /// The registers of a class, counted once for all instructions.
 #[derive(Clone, Copy)]
 struct Supply {
-    class: usize,
+    class: RegClass,
     /// How many registers are allocated; enough for any instruction if the function names no vreg
     /// of the class.
     available: usize,
@@ -198,7 +191,7 @@ struct Supply {
 
 impl Supply {
     /// Counts the registers of a class.
-    fn of(function: &StoredFunction, class: usize) -> Supply {
+    fn of(function: &StoredFunction, class: RegClass) -> Supply {
         let available = if names_class(function, class) {
             available(function, class)
         } else {
@@ -213,7 +206,7 @@ impl Supply {
 }
 
 /// The cause if an instruction needs more registers of a class than the machine has.
-fn of_class(function: &StoredFunction, inst: usize, supply: Supply) -> Option<Cause> {
+fn class_cause(function: &StoredFunction, inst: usize, supply: Supply) -> Option<Cause> {
     let Supply {
         class,
         available,
@@ -236,7 +229,7 @@ fn of_class(function: &StoredFunction, inst: usize, supply: Supply) -> Option<Ca
     }
     Some(Cause::Registers {
         inst,
-        class: class_of_number(class),
+        class,
         needed,
         available,
     })
@@ -258,34 +251,38 @@ fn is_reuse(operand: Operand) -> bool {
     matches!(operand.constraint(), OperandConstraint::Reuse(_))
 }
 
-/// The registers that fixed operands of an instruction occupy early and late, by index.
+/// The registers that fixed operands of an instruction occupy early and late.
 #[derive(Clone, Copy)]
 struct Held {
-    early: [bool; 192],
-    late: [bool; 192],
+    early: PRegSet,
+    late: PRegSet,
 }
 
 impl Held {
-    /// Records that an operand at the index `k` occupies a register. Returns whether another
+    /// Records that the operand at the index `k` occupies `register`. Returns whether another
     /// operand occupies it at the same position.
     fn clashes(&mut self, operands: &[u64], k: usize, operand: Operand, register: PReg) -> bool {
-        let index = register.index();
         let is_early = holds_at(operands, k, operand, OperandPos::Early);
         let is_late = holds_at(operands, k, operand, OperandPos::Late);
-        let clashes = (is_early && self.early[index]) || (is_late && self.late[index]);
-        self.early[index] = self.early[index] || is_early;
-        self.late[index] = self.late[index] || is_late;
+        let clashes = (is_early && self.early.contains(register))
+            || (is_late && self.late.contains(register));
+        if is_early {
+            self.early.add(register);
+        }
+        if is_late {
+            self.late.add(register);
+        }
         clashes
     }
 }
 
 /// The cause if an operand is fixed to a register that it can't get.
-fn of_fixed(function: &StoredFunction, inst: usize) -> Option<(Cause, Site)> {
+fn fixed_cause(function: &StoredFunction, inst: usize) -> Option<(Cause, Site)> {
     let machine = &function.machine_env;
     let operands = operands_at(function, inst);
     let mut held = Held {
-        early: [false; 192],
-        late: [false; 192],
+        early: PRegSet::empty(),
+        late: PRegSet::empty(),
     };
     for (k, bits) in operands.iter().enumerate() {
         let Some(operand) = operand_of(*bits) else {
@@ -296,7 +293,7 @@ fn of_fixed(function: &StoredFunction, inst: usize) -> Option<(Cause, Site)> {
         };
         let index = register.index() as u8;
         let is_slot = machine.fixed_stack_slots.as_slice().contains(&index);
-        if !is_slot && !is_allocatable(machine, index) {
+        if !is_slot && !is_allocatable(machine, register) {
             return Some((
                 Cause::NoSuchRegister { inst, register },
                 Site::Operand(inst, k),
@@ -310,9 +307,13 @@ fn of_fixed(function: &StoredFunction, inst: usize) -> Option<(Cause, Site)> {
 }
 
 /// The cause if an instruction needs more registers of some class than the machine has.
-fn of_count(function: &StoredFunction, inst: usize, supplies: &[Supply]) -> Option<(Cause, Site)> {
+fn count_cause(
+    function: &StoredFunction,
+    inst: usize,
+    supplies: &[Supply],
+) -> Option<(Cause, Site)> {
     for supply in supplies {
-        if let Some(cause) = of_class(function, inst, *supply) {
+        if let Some(cause) = class_cause(function, inst, *supply) {
             return Some((cause, Site::Inst(inst)));
         }
     }
@@ -320,17 +321,17 @@ fn of_count(function: &StoredFunction, inst: usize, supplies: &[Supply]) -> Opti
 }
 
 /// The cause of `TooManyLiveRegs`: the first instruction that doesn't fit.
-pub(crate) fn of_registers(function: &StoredFunction) -> (Cause, Site) {
+pub(crate) fn live_regs_cause(function: &StoredFunction) -> (Cause, Site) {
     let supplies = [
-        Supply::of(function, 0),
-        Supply::of(function, 1),
-        Supply::of(function, 2),
+        Supply::of(function, RegClass::Int),
+        Supply::of(function, RegClass::Float),
+        Supply::of(function, RegClass::Vector),
     ];
     for inst in 0..function.insts.len() {
-        if let Some(found) = of_fixed(function, inst) {
+        if let Some(found) = fixed_cause(function, inst) {
             return found;
         }
-        if let Some(found) = of_count(function, inst, &supplies) {
+        if let Some(found) = count_cause(function, inst, &supplies) {
             return found;
         }
     }

@@ -3,7 +3,7 @@
 
 mod diff;
 mod dump;
-mod places;
+mod operand;
 mod stats;
 
 pub use diff::write_diff;

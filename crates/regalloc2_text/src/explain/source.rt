@@ -6,8 +6,8 @@ use std::fmt;
 /// The text of a function, to look up its blocks, instructions and moves.
 #[derive(Clone, Copy)]
 pub struct Source<'t> {
-    /// The text before a line's number, as `loop.txt:`; nothing if lines have no numbers, as those
-    /// of a function that was read from JSON.
+    /// The text before a line's number, as `loop.txt:`; nothing if lines have no numbers, because the
+    /// function was read from JSON.
     pub name: Option<&'t str>,
     /// The text.
     pub text: &'t str,
@@ -44,7 +44,7 @@ impl fmt::Display for SourceLine<'_> {
     }
 }
 
-/// The bytes of a text before a byte index, and those from there on.
+/// The bytes of a text before the byte index `at`, and the bytes from `at` on.
 fn split(text: &str, at: usize) -> (&str, &str) {
     text.split_at_checked(at).unwrap_or((text, ""))
 }

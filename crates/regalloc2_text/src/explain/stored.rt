@@ -4,7 +4,7 @@ ghost use Rattle.std.specs.Prelude.{Some, ◌≡◌};
 ghost use Rattle.regalloc2_text.specs.Explain.FaultText.{class_word, counted_text, numbered_class};
 
 use regalloc2_function::StoredOutput;
-use regalloc2_names::{Operand, RegClass, VReg};
+use regalloc2_names::{Operand, PReg, RegClass, VReg};
 use regalloc2_serialize::{StoredFunction, StoredMachine};
 use std::fmt;
 
@@ -26,7 +26,17 @@ pub(crate) fn vreg_of(bits: u32) -> Option<VReg> {
     }
 }
 
-/// The encodings of an instruction's operands; none if there is no such instruction.
+/// The register of an index, if it is valid.
+pub(crate) fn register_of(index: u8) -> Option<PReg> {
+    let index = usize::from(index);
+    if PReg::is_index(index) {
+        Some(PReg::from_index(index))
+    } else {
+        None
+    }
+}
+
+/// The encodings of an instruction's operands; none if the function has no instruction `inst`.
 pub(crate) fn operands_at(function: &StoredFunction, inst: usize) -> &[u64] {
     match function.insts.get(inst) {
         Some(data) => data.operands.as_slice(),
@@ -91,18 +101,19 @@ pub(crate) fn moves_from(moves: &[(u32, u32, u32)], point: u64) -> &[(u32, u32, 
     moves.get(begin..).unwrap_or(&[])
 }
 
-/// Returns whether a register index is in the list of its own class.
-fn is_listed(lists: &[Vec<u8>], index: u8) -> bool {
-    match lists.get(usize::from(index >> 6)) {
+/// Returns whether `register` is in the list of its own class.
+fn is_listed(lists: &[Vec<u8>], register: PReg) -> bool {
+    let index = register.index() as u8;
+    match lists.get(class_number(register.class())) {
         Some(list) => list.as_slice().contains(&index),
         None => false,
     }
 }
 
-/// Returns whether a register index is listed to be allocated for its own class.
-pub(crate) fn is_allocatable(machine: &StoredMachine, index: u8) -> bool {
-    is_listed(machine.preferred_regs_by_class.as_slice(), index)
-        || is_listed(machine.non_preferred_regs_by_class.as_slice(), index)
+/// Returns whether `register` is listed to be allocated for its own class.
+pub(crate) fn is_allocatable(machine: &StoredMachine, register: PReg) -> bool {
+    is_listed(machine.preferred_regs_by_class.as_slice(), register)
+        || is_listed(machine.non_preferred_regs_by_class.as_slice(), register)
 }
 
 /// The number of a class, from 0.

@@ -2,9 +2,9 @@
 
 use crate::explain::edges::{Along, edges_into};
 use crate::explain::stored::{block_of, list_of, range_of};
-use crate::explain::writes::{LastWrite, last_between};
+use crate::explain::writes::{LastWrite, last_between, write_by_reader};
 use regalloc2_function::StoredOutput;
-use regalloc2_names::Allocation;
+use regalloc2_names::{Allocation, OperandPos};
 use regalloc2_serialize::StoredFunction;
 use std::alloc::{AllocError, Global};
 use std::io::{self, Write};
@@ -183,8 +183,24 @@ fn search_back(
     Ok(search)
 }
 
-/// The last writes of a place before an instruction reads it. Nothing if no block holds the
-/// instruction.
+/// The last write of `place` in the block from instruction `first` on, before the use at `pos` of instruction `inst` reads it.
+fn last_in_block(
+    function: &StoredFunction,
+    output: &StoredOutput,
+    first: usize,
+    inst: usize,
+    pos: OperandPos,
+    place: u32,
+) -> Option<LastWrite> {
+    let by_reader = write_by_reader(function, output, inst, pos, place);
+    if by_reader.is_some() {
+        return by_reader;
+    }
+    let until = (inst as u64).saturating_mul(2).saturating_add(1);
+    last_between(function, output, first, inst, until, place)
+}
+
+/// The last writes of `place` before a use at `pos` of instruction `inst` reads it. `None` if no block holds the instruction.
 ///
 /// The output's moves are sorted by program point. Linear in the function and the output, with a
 /// binary search of the moves for each block. An error means out of memory.
@@ -193,16 +209,16 @@ pub fn last_writes(
     function: &StoredFunction,
     output: &StoredOutput,
     inst: usize,
+    pos: OperandPos,
     place: Allocation,
 ) -> Result<Option<LastWrites>, AllocError> {
     let Some(block) = block_of(function, inst) else {
         return Ok(None);
     };
     let (first, _) = range_of(function, block);
-    let until = (inst as u64).saturating_mul(2).saturating_add(1);
     let mut writes = Vec::new(alloc);
     let mut unwritten = Vec::new(alloc);
-    if let Some(write) = last_between(function, output, first, inst, until, place.bits()) {
+    if let Some(write) = last_in_block(function, output, first, inst, pos, place.bits()) {
         let path = Vec::new(alloc);
         writes.push(WriteOnPath { write, path })?;
     } else if let Ok(reader) = u32::try_from(block) {

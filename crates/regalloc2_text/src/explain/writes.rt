@@ -2,7 +2,7 @@
 
 use crate::explain::stored::{moves_from, operand_of, operands_at, places_of};
 use regalloc2_function::StoredOutput;
-use regalloc2_names::{Allocation, InstPosition, PReg, ProgPoint};
+use regalloc2_names::{Allocation, InstPosition, OperandPos, PReg, ProgPoint};
 use regalloc2_serialize::StoredFunction;
 use std::fmt;
 
@@ -28,7 +28,7 @@ impl fmt::Display for LastWrite {
                     InstPosition::Before => "before",
                     InstPosition::After => "after",
                 };
-                let inst = point.to_index() >> 1;
+                let inst = point.inst().index();
                 write!(f, "written last by a move from {from} {side} inst{inst}")
             }
         }
@@ -47,38 +47,35 @@ impl LastWrite {
     }
 }
 
-/// Returns whether the operand of an encoding is a definition.
-fn is_def(bits: u64) -> bool {
-    match operand_of(bits) {
-        Some(operand) => operand.is_def(),
-        None => false,
-    }
-}
-
-/// The last definition of an instruction that is in a place.
+/// The last definition of an instruction that is in `place`. If `pos` is given, only definitions at that position count.
 fn definition_in(
     function: &StoredFunction,
     output: &StoredOutput,
     inst: usize,
+    pos: Option<OperandPos>,
     place: u32,
 ) -> Option<LastWrite> {
     let places = places_of(output, inst);
     let mut found = None;
     for (k, bits) in operands_at(function, inst).iter().enumerate() {
-        if is_def(*bits) && places.get(k) == Some(&place) {
+        let Some(operand) = operand_of(*bits) else {
+            continue;
+        };
+        let is_asked = operand.is_def() && pos.is_none_or(|pos| operand.pos() == pos);
+        if is_asked && places.get(k) == Some(&place) {
             found = Some(LastWrite::Definition(inst, k));
         }
     }
     found
 }
 
-/// Returns whether a place is the register of an index.
+/// Returns whether `place` is the register of an `index`.
 fn is_register(place: u32, index: u8) -> bool {
     let index = usize::from(index);
     PReg::is_index(index) && Allocation::reg(PReg::from_index(index)).bits() == place
 }
 
-/// Returns whether an instruction clobbers a place.
+/// Returns whether an instruction clobbers `place`.
 fn clobbers(function: &StoredFunction, inst: usize, place: u32) -> bool {
     let Some(data) = function.insts.get(inst) else {
         return false;
@@ -91,21 +88,32 @@ fn clobbers(function: &StoredFunction, inst: usize, place: u32) -> bool {
     false
 }
 
-/// What an instruction writes into a place.
+/// The last write of `place` by an instruction: its clobbers are overwritten after its definitions.
 fn write_by(
     function: &StoredFunction,
     output: &StoredOutput,
     inst: usize,
     place: u32,
 ) -> Option<LastWrite> {
-    let definition = definition_in(function, output, inst, place);
-    if definition.is_some() {
-        return definition;
-    }
     if clobbers(function, inst, place) {
         return Some(LastWrite::Clobber(inst));
     }
-    None
+    definition_in(function, output, inst, None, place)
+}
+
+/// The last write of `place` by the instruction whose use at `pos` reads it: only early definitions are written before an early
+/// use reads, and all definitions and clobbers before a late one.
+pub(crate) fn write_by_reader(
+    function: &StoredFunction,
+    output: &StoredOutput,
+    inst: usize,
+    pos: OperandPos,
+    place: u32,
+) -> Option<LastWrite> {
+    match pos {
+        OperandPos::Early => definition_in(function, output, inst, Some(pos), place),
+        OperandPos::Late => write_by(function, output, inst, place),
+    }
 }
 
 /// The last of the instructions from `first` until `end` that writes a place.
@@ -144,7 +152,7 @@ fn last_by_move(output: &StoredOutput, first: u64, end: u64, place: u32) -> Opti
 /// The last write of a place by the instructions from `first` until `end`, and by the moves from
 /// the point before the first one until the point `until`.
 ///
-/// The output's moves are sorted by program point. Linear in those instructions and moves.
+/// The output's moves are sorted by program point. Linear in the instructions and moves of the range.
 pub(crate) fn last_between(
     function: &StoredFunction,
     output: &StoredOutput,

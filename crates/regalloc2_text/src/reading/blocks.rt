@@ -11,14 +11,14 @@ use std::alloc::Allocator;
 #[derive(Drop)]
 pub(super) struct DraftBlock<A: Allocator> {
     number: u32,
-    /// Its first instruction and the one past its last.
+    /// The first instruction, and the one past the last.
     range: (u32, u32),
-    /// Whether its line says its range.
+    /// Whether the block's line says the range.
     has_range: bool,
     params: Vec<u32, A>,
-    /// Its predecessors, where its line says them.
+    /// The predecessors, if the block's line says them.
     preds: Option<Vec<u32, A>>,
-    /// Whether its line says its successors.
+    /// Whether the block's line says the successors.
     has_succs: bool,
     succs: Vec<u32, A>,
     /// The arguments for each successor.
@@ -228,19 +228,6 @@ pub(super) struct BlockLists<A: Allocator> {
     pub(super) params_out: Vec<Vec<Vec<u32, A>, A>, A>,
 }
 
-/// As many empty lists.
-fn empty_lists<A: Allocator + Copy>(
-    alloc: A,
-    cursor: &mut Cursor<'_, '_>,
-    count: usize,
-) -> Vec<Vec<u32, A>, A> {
-    let mut lists = Vec::new(alloc);
-    for _ in 0..count {
-        cursor.push(&mut lists, Vec::new(alloc));
-    }
-    lists
-}
-
 /// Notes that a block is followed by its successors, as far as there are such blocks.
 fn add_pred<A: Allocator>(
     cursor: &mut Cursor<'_, '_>,
@@ -261,7 +248,7 @@ fn default_preds<A: Allocator + Copy>(
     cursor: &mut Cursor<'_, '_>,
     blocks: &[DraftBlock<A>],
 ) -> Vec<Vec<u32, A>, A> {
-    let mut preds = empty_lists(alloc, cursor, blocks.len());
+    let mut preds = cursor.empty_lists(alloc, blocks.len());
     for block in blocks {
         add_pred(cursor, &mut preds, block.number, block.succs.as_slice());
     }
@@ -269,7 +256,7 @@ fn default_preds<A: Allocator + Copy>(
 }
 
 impl<A: Allocator + Copy> BlockLists<A> {
-    /// The lists of those blocks.
+    /// The lists of `blocks`.
     pub(super) fn new(
         alloc: A,
         cursor: &mut Cursor<'_, '_>,

@@ -45,7 +45,7 @@ impl<A: Allocator + Copy> Draft<A> {
         }
     }
 
-    /// Reads a line of those tokens.
+    /// Reads a line, given as `tokens`.
     pub(super) fn read_line<'t>(
         &mut self,
         alloc: A,
@@ -135,7 +135,7 @@ impl<A: Allocator + Copy> Draft<A> {
         let mut cursor = Cursor::new(&no_tokens, 0);
         let mut function = self.function.finish(alloc, &mut cursor);
         let (allocs, offsets) = self.lists.replace(&mut function);
-        let output = self.output.finish(&mut cursor, allocs, offsets);
+        let output = self.output.finish(&function, &mut cursor, allocs, offsets);
         cursor.finish_with(Text { function, output })
     }
 }

@@ -3,8 +3,9 @@
 ghost use Rattle.std.specs.Prelude.{◌≤◌};
 
 use crate::cursor::{Cursor, Expected, is_numeral};
-use regalloc2_names::Allocation;
-use regalloc2_serialize::InstOpcode;
+use regalloc2_names::{Allocation, Operand, RegClass};
+use regalloc2_serialize::{InstOpcode, StoredFunction};
+use std::alloc::Allocator;
 
 /// What upstream prints before its results.
 const HEADING: &str = "=== REGALLOC RESULTS ===";
@@ -81,31 +82,96 @@ pub(super) fn read_dumped_opcode(cursor: &mut Cursor<'_, '_>, next: u32) -> Inst
     }
 }
 
-/// One more than the number of the slot that a place is; 0 if it is none.
-fn slots_up_to(place: u32) -> u64 {
+/// How many units the slots of a function take, and how they are named.
+#[derive(Clone, Copy)]
+struct SlotRule<'f> {
+    /// The units of a slot, by class.
+    sizes: &'f [u64],
+    /// Whether a slot is named by its last unit, and not by its first.
+    is_named_by_last: bool,
+}
+
+impl SlotRule<'_> {
+    /// The units that a slot of `class` takes.
+    fn units(&self, class: RegClass) -> u64 {
+        let number = match class {
+            RegClass::Int => 0,
+            RegClass::Float => 1,
+            RegClass::Vector => 2,
+        };
+        self.sizes.get(number).copied().unwrap_or(1)
+    }
+
+    /// The first unit past the slot of `class` that `place` names; 0 if `place` is no slot.
+    fn end_of(&self, place: u32, class: RegClass) -> u64 {
+        if !Allocation::is_bits(place) {
+            return 0;
+        }
+        let Some(slot) = Allocation::from_bits(place).as_stack() else {
+            return 0;
+        };
+        let units = if self.is_named_by_last {
+            1
+        } else {
+            self.units(class)
+        };
+        (slot.index() as u64).saturating_add(units)
+    }
+
+    /// The first unit past each slot that is among the `places` of `operands`.
+    fn end_of_operands(&self, operands: &[u64], places: &[u32]) -> u64 {
+        let mut end = 0;
+        for (bits, place) in operands.iter().zip(places) {
+            if Operand::is_bits(*bits) {
+                let class = Operand::from_bits(*bits).class();
+                end = self.end_of(*place, class).max(end);
+            }
+        }
+        end
+    }
+
+    /// The first unit past each slot that a move in `moves` names. The register at the other end of a move tells the slot's
+    /// class; upstream moves nothing from stack to stack.
+    fn end_of_moves(&self, moves: &[(u32, u32, u32)]) -> u64 {
+        let mut end = 0;
+        for (_, from, to) in moves {
+            let class = register_class(*from)
+                .or(register_class(*to))
+                .unwrap_or(RegClass::Int);
+            end = self.end_of(*from, class).max(end);
+            end = self.end_of(*to, class).max(end);
+        }
+        end
+    }
+}
+
+/// The class of the register that `place` is, if it is one.
+fn register_class(place: u32) -> Option<RegClass> {
     if !Allocation::is_bits(place) {
-        return 0;
+        return None;
     }
-    match Allocation::from_bits(place).as_stack() {
-        Some(slot) => (slot.index() as u64).saturating_add(1),
-        None => 0,
-    }
+    let register = Allocation::from_bits(place).as_reg()?;
+    Some(register.class())
 }
 
-/// How many slots there are at least, where these places name some.
-pub(super) fn slots_named(places: &[u32]) -> u64 {
-    let mut slots = 0;
-    for place in places {
-        slots = slots_up_to(*place).max(slots);
+/// How many units the frame of a dumped `function` has at least: as many as the slots that `places`, from each of `offsets` on
+/// those of one instruction, and `moves` name.
+pub(super) fn frame_units<A: Allocator>(
+    function: &StoredFunction<A>,
+    places: &[u32],
+    offsets: &[u32],
+    moves: &[(u32, u32, u32)],
+) -> u64 {
+    let layout = SlotRule {
+        sizes: function.spillslot_size.as_slice(),
+        is_named_by_last: function.multi_spillslot_named_by_last_slot,
+    };
+    let mut units = layout.end_of_moves(moves);
+    for (inst, offset) in function.insts.iter().zip(offsets) {
+        let rest = places.get(*offset as usize..).unwrap_or(&[]);
+        units = layout
+            .end_of_operands(inst.operands.as_slice(), rest)
+            .max(units);
     }
-    slots
-}
-
-/// How many slots there are at least, where moves name some.
-pub(super) fn slots_moved(moves: &[(u32, u32, u32)]) -> u64 {
-    let mut slots = 0;
-    for (_, from, to) in moves {
-        slots = slots_up_to(*from).max(slots_up_to(*to)).max(slots);
-    }
-    slots
+    units
 }

@@ -88,7 +88,7 @@ impl<A: Allocator + Copy> DraftFunction<A> {
         self.add_inst(cursor, number, parts, output);
     }
 
-    /// Adds the instruction of that number with its places, after all of its line is read.
+    /// Adds the instruction `number` with its places, `parts`, after all of its line is read.
     fn add_inst(
         &mut self,
         cursor: &mut Cursor<'_, '_>,

@@ -8,7 +8,7 @@ use crate::cursor::{Cursor, Expected};
 use regalloc2_serialize::{InstOpcode, StoredInst};
 use std::alloc::Allocator;
 
-/// The opcode of that name.
+/// The opcode that `name` names, if any.
 pub(super) fn opcode_named(name: &str) -> Option<InstOpcode> {
     match name {
         "op" => Some(InstOpcode::Op),
@@ -39,7 +39,7 @@ pub(super) fn read_opcode(cursor: &mut Cursor<'_, '_>, next: u32) -> InstOpcode 
 #[derive(Drop)]
 pub(super) struct DraftInst<A: Allocator> {
     operands: Vec<u64, A>,
-    /// The places of the first operands, and after those of all operands further ones.
+    /// The places of the first operands; if each operand has a place, further places may follow.
     places: Vec<u32, A>,
     clobbers: Option<Vec<u8, A>>,
     /// Whether there are further places.
@@ -143,7 +143,7 @@ impl<A: Allocator + Copy> DraftInst<A> {
         }
     }
 
-    /// Reads places past those of the operands.
+    /// Reads the places after the operands' places.
     fn read_more(&mut self, cursor: &mut Cursor<'_, '_>)
         ensures { tokens_left cursor.new ≤ tokens_left cursor.old }
     {
@@ -156,7 +156,7 @@ impl<A: Allocator + Copy> DraftInst<A> {
         }
     }
 
-    /// The instruction with that opcode, and the places.
+    /// The instruction with the opcode `op`, and the places.
     pub(super) fn into_parts(self, alloc: A, op: InstOpcode) -> (StoredInst<A>, Vec<u32, A>) {
         let inst = StoredInst {
             op,

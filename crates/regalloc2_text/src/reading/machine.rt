@@ -4,6 +4,7 @@ ghost use Rattle.std.specs.Prelude.{◌≤◌};
 ghost use Rattle.regalloc2_text.specs.Cursor.Cursor.{tokens_left};
 
 use crate::cursor::{Cursor, class_named};
+use crate::explain::stored::register_of;
 use regalloc2_names::{PReg, RegClass};
 use regalloc2_serialize::StoredMachine;
 use std::alloc::Allocator;
@@ -17,12 +18,12 @@ pub(super) struct ByClass<T> {
 }
 
 impl<T> ByClass<T> {
-    /// Those values, of the classes in order.
+    /// A value of each class, given in the order of the classes.
     pub(super) fn new(int: T, float: T, vector: T) -> Self {
         ByClass { int, float, vector }
     }
 
-    /// The value of that class.
+    /// The value of `class`.
     pub(super) fn of(&mut self, class: RegClass) -> &mut T {
         match class {
             RegClass::Int => &mut self.int,
@@ -51,13 +52,11 @@ pub(super) struct Span {
     last: u8,
 }
 
-/// The class of the register of that index, where there is one.
+/// The class of the register of `index`, if the index is valid.
 fn class_of(index: u8) -> Option<RegClass> {
-    let index = usize::from(index);
-    if PReg::is_index(index) {
-        Some(PReg::from_index(index).class())
-    } else {
-        None
+    match register_of(index) {
+        Some(register) => Some(register.class()),
+        None => None,
     }
 }
 

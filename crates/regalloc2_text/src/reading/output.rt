@@ -1,18 +1,19 @@
 //! The places, moves, slots and debug locations of an output.
 
-use super::dump::{slots_moved, slots_named};
+use super::dump::frame_units;
 use super::settings::first_of_kind;
 use crate::cursor::{Cursor, Expected, Flaw, Found};
 use regalloc2_function::StoredOutput;
+use regalloc2_serialize::StoredFunction;
 use std::alloc::Allocator;
 
-/// What is said where numbers of 32 bits don't count that much.
+/// What the text needs if there are more instructions or places than 32 bits can number.
 pub(super) const TOO_MANY: &str = "fewer instructions and places";
 
 /// What the lines so far say of an output.
 #[derive(Drop)]
 pub(super) struct DraftOutput<A: Allocator> {
-    /// Whether a line says something of it.
+    /// Whether a line says something of the output.
     is_named: bool,
     /// Whether instructions are as in a dump.
     is_dump: bool,
@@ -23,7 +24,7 @@ pub(super) struct DraftOutput<A: Allocator> {
     debug_locations: Vec<(u32, u32, u32, u32), A>,
 }
 
-/// The number of the point before the instruction of that number.
+/// The number of the point before the instruction `inst`.
 fn before_inst(cursor: &mut Cursor<'_, '_>, inst: u32) -> u32 {
     match inst.checked_mul(2) {
         Some(point) => point,
@@ -69,7 +70,8 @@ impl<A: Allocator + Copy> DraftOutput<A> {
         cursor.extend(&mut self.allocs, places);
     }
 
-    /// Notes that an instruction is as in a dump, so that the slots are those of its places unless a line says how many.
+    /// Notes that an instruction is as in a dump: unless a line gives the number of slots, the frame ends with the last slot that
+    /// the output names.
     pub(super) fn note_dump(&mut self) {
         self.is_dump = true;
     }
@@ -116,17 +118,22 @@ impl<A: Allocator + Copy> DraftOutput<A> {
         cursor.push(&mut self.debug_locations, (label, from, until, place));
     }
 
-    /// The output, where lines say something of it, with those lists in place of its own.
+    /// The output of `function`, if lines say something of it, with `stored_allocs` and `stored_offsets` in place of its own
+    /// lists.
     pub(super) fn finish(
         self,
+        function: &StoredFunction<A>,
         cursor: &mut Cursor<'_, '_>,
         stored_allocs: Option<Vec<u32, A>>,
         stored_offsets: Option<Vec<u32, A>>,
     ) -> Option<StoredOutput<A>> {
         let num_spillslots = match self.num_spillslots {
-            None if self.is_dump => {
-                Some(slots_named(self.allocs.as_slice()).max(slots_moved(self.edits.as_slice())))
-            }
+            None if self.is_dump => Some(frame_units(
+                function,
+                self.allocs.as_slice(),
+                self.inst_alloc_offsets.as_slice(),
+                self.edits.as_slice(),
+            )),
             said => said,
         };
         let Some(num_spillslots) = num_spillslots else {

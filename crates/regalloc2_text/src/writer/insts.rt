@@ -4,8 +4,8 @@ use super::moves::Moves;
 use super::places::Places;
 use super::registers::{write_list, write_registers};
 use super::shown::{Shown, list_at};
+use crate::spell::{BlockText, StoredOperand, StoredPlace, StoredVReg};
 use crate::writer::page::Page;
-use crate::writer::spell::{BlockText, OperandText, PlaceText, VRegText};
 use regalloc2_serialize::{InstOpcode, StoredInst};
 use std::alloc::Allocator;
 use std::fmt;
@@ -29,7 +29,7 @@ fn write_targets<A: Allocator, W: fmt::Write>(
     for k in 0..succs.len().min(params.len()) {
         let before = if k == 0 { before } else { ", " };
         to.put(&format_args!("{before}{}(", BlockText(succs[k])));
-        write_list(params[k].as_slice(), VRegText, to);
+        write_list(params[k].as_slice(), StoredVReg, to);
         to.words(")");
     }
 }
@@ -38,9 +38,9 @@ fn write_targets<A: Allocator, W: fmt::Write>(
 fn write_operands<W: fmt::Write>(operands: &[u64], places: &[u32], to: &mut Page<'_, W>) {
     for (k, bits) in operands.iter().enumerate() {
         let before = if k == 0 { ": " } else { ", " };
-        to.put(&format_args!("{before}{}", OperandText(*bits)));
+        to.put(&format_args!("{before}{}", StoredOperand(*bits)));
         if let Some(place) = places.get(k) {
-            to.put(&format_args!(" [{}]", PlaceText(*place)));
+            to.put(&format_args!(" [{}]", StoredPlace(*place)));
         }
     }
 }
@@ -58,7 +58,7 @@ fn write_parts<A: Allocator, W: fmt::Write>(
     }
     if places.len() > inst.operands.len() {
         to.words("; more ");
-        write_list(&places[inst.operands.len()..], PlaceText, to);
+        write_list(&places[inst.operands.len()..], StoredPlace, to);
     }
 }
 
@@ -92,7 +92,7 @@ impl<'a, A: Allocator + Copy> Shown<'a, A> {
         let params = list_at(self.params_in, block);
         if !params.is_empty() {
             to.words("(");
-            write_list(params, VRegText, to);
+            write_list(params, StoredVReg, to);
             to.words(")");
         }
         if !self.is_in_line {

@@ -4,8 +4,8 @@ use super::machine::{CLASSES, write_machine, write_misfit, write_stored, write_s
 use super::moves::Moves;
 use super::places::{Places, ShownOutput};
 use super::shown::{Shown, targets_disagree};
+use crate::spell::StoredVReg;
 use crate::writer::page::Page;
-use crate::writer::spell::VRegText;
 use regalloc2_function::StoredOutput;
 use regalloc2_serialize::StoredFunction;
 use std::alloc::{AllocError, Allocator};
@@ -45,7 +45,7 @@ fn write_settings<A: Allocator + Copy, W: fmt::Write>(shown: &Shown<'_, A>, to: 
 /// Writes the labels.
 fn write_labels<W: fmt::Write>(labels: &[(u32, u32, u32, u32)], to: &mut Page<'_, W>) {
     for (vreg, first, end, label) in labels {
-        let vreg = VRegText(*vreg);
+        let vreg = StoredVReg(*vreg);
         to.put(&format_args!("label {label}: {vreg} from inst{first} until inst{end}\n"));
     }
 }

@@ -2,14 +2,14 @@
 
 use super::registers::{write_class, write_registers};
 use super::shown::have_items;
+use crate::spell::StoredRegister;
 use crate::writer::lists::JsonText;
 use crate::writer::page::Page;
-use crate::writer::spell::RegisterText;
 use regalloc2_serialize::StoredMachine;
 use std::alloc::Allocator;
 use std::fmt;
 
-/// How many classes there are, and so how long a list by class is.
+/// The number of classes, which is the length of a list by class.
 pub(crate) const CLASSES: usize = 3;
 
 /// Whether some list by class has a line of its own.
@@ -66,7 +66,7 @@ fn write_scratch<W: fmt::Write>(registers: &[Option<u8>], to: &mut Page<'_, W>) 
         if let Some(index) = register {
             to.words("scratch ");
             write_class(class, &[*index], to);
-            to.put(&RegisterText(*index));
+            to.put(&StoredRegister(*index));
             to.words("\n");
         }
     }
@@ -97,7 +97,7 @@ pub(crate) fn write_stored<T: JsonText, W: fmt::Write>(name: &str, list: &T, to:
     to.words("\n");
 }
 
-/// Writes a list as a `stored` line, if it doesn't have that many items.
+/// Writes `list` as a `stored` line, if it doesn't have `wanted` items.
 pub(crate) fn write_misfit<T: JsonText, A: Allocator, W: fmt::Write>(
     name: &str,
     list: &Vec<T, A>,

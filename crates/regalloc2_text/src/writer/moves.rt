@@ -2,14 +2,14 @@
 
 ghost use Rattle.std.specs.Prelude.{◌<◌, IfSome, length};
 
+use crate::spell::StoredPlace;
 use crate::writer::page::Page;
-use crate::writer::spell::PlaceText;
 use std::fmt;
 
 /// A stored move: a point, the place that is read, and the place that is written.
 pub(crate) type Move = (u32, u32, u32);
 
-/// Whether points never fall, and are points of the first so many instructions.
+/// Returns whether points never fall, and are points of the first `insts` instructions.
 pub(crate) fn run_in_order(moves: &[Move], insts: usize) -> bool {
     let mut before = 0;
     for (point, _, _) in moves {
@@ -23,7 +23,7 @@ pub(crate) fn run_in_order(moves: &[Move], insts: usize) -> bool {
 
 /// Writes the places of a move.
 pub(crate) fn write_move<W: fmt::Write>(from: u32, into: u32, to: &mut Page<'_, W>) {
-    to.put(&format_args!("move {} -> {}", PlaceText(from), PlaceText(into)));
+    to.put(&format_args!("move {} -> {}", StoredPlace(from), StoredPlace(into)));
 }
 
 /// Moves that are still to be written, each beside its instruction.

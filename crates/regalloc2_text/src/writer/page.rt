@@ -2,10 +2,8 @@
 
 use std::fmt;
 
-/// Where a text is written. After a write that fails nothing more is written, and `finish` reports
-/// it.
-///
-/// So what writes a line needs no test after each of its pieces.
+/// Where a text is written. After a failed write nothing more is written, and `finish` returns the
+/// error. Therefore no write needs a test of its own.
 #[derive(Drop)]
 pub(crate) struct Page<'a, W: fmt::Write> {
     to: &'a mut W,
@@ -32,7 +30,7 @@ impl<'a, W: fmt::Write> Page<'a, W> {
         }
     }
 
-    /// Whether all was written.
+    /// Returns the error of the first write that failed, if one did.
     pub(crate) fn finish(self) -> fmt::Result {
         self.result
     }

@@ -2,8 +2,8 @@
 
 use super::machine::write_stored;
 use super::moves::{Moves, run_in_order, write_move};
+use crate::spell::{StoredPlace, StoredPoint};
 use crate::writer::page::Page;
-use crate::writer::spell::{PlaceText, PointText};
 use regalloc2_function::StoredOutput;
 use std::alloc::Allocator;
 use std::fmt;
@@ -53,7 +53,7 @@ impl<'a> Places<'a> {
     }
 }
 
-/// An output with what of it stands beside the instructions.
+/// An output, and which of its lists are written beside the instructions.
 #[derive(Drop)]
 pub(crate) struct ShownOutput<'a, A: Allocator> {
     output: &'a StoredOutput<A>,
@@ -62,8 +62,8 @@ pub(crate) struct ShownOutput<'a, A: Allocator> {
 }
 
 impl<'a, A: Allocator + Copy> ShownOutput<'a, A> {
-    /// What of an output of so many instructions, where there is one, stands beside them: places by offsets in order,
-    /// moves by points in order.
+    /// An output of `insts` instructions, if there is one. Its places are written beside the instructions if the offsets are
+    /// in order, its moves if the points are in order.
     pub(crate) fn of(
         output: Option<&'a StoredOutput<A>>,
         insts: usize,
@@ -104,7 +104,7 @@ impl<'a, A: Allocator + Copy> ShownOutput<'a, A> {
         }
         for (point, from, into) in &self.output.edits {
             write_move(*from, *into, to);
-            to.put(&format_args!(" at {}\n", PointText(*point)));
+            to.put(&format_args!(" at {}\n", StoredPoint(*point)));
         }
     }
 
@@ -125,8 +125,8 @@ impl<'a, A: Allocator + Copy> ShownOutput<'a, A> {
         self.write_moves(to);
         self.write_places(to);
         for (label, from, until, place) in &self.output.debug_locations {
-            let (from, until) = (PointText(*from), PointText(*until));
-            let place = PlaceText(*place);
+            let (from, until) = (StoredPoint(*from), StoredPoint(*until));
+            let place = StoredPlace(*place);
             to.put(&format_args!("debug {label} {from} {until} {place}\n"));
         }
     }

@@ -2,13 +2,13 @@
 
 use std::alloc::{AllocError, Allocator};
 
-/// How many of a block's predecessors were met so far, going through the successors block by block; `None` once another
-/// one than the next was met.
+/// The number of a block's predecessors that were met, in the order of the list, going through the successors block by
+/// block; `None` once a block was met out of this order.
 #[derive(Clone, Copy)]
 pub(crate) struct Following(Option<usize>);
 
 impl Following {
-    /// Whether these predecessors, all of them, were met.
+    /// Returns whether all of `preds` were met.
     pub(crate) fn is_all(self, preds: &[u32]) -> bool {
         self.0 == Some(preds.len())
     }
@@ -40,8 +40,8 @@ fn meet_all<A: Allocator>(
     }
 }
 
-/// For each list of predecessors how far it follows from the successors: it does where it has each block, by rising
-/// number, as often as that names it. Linear in both.
+/// For each list of predecessors how far it follows from the successors. The whole list follows if it has each block, by
+/// rising number, once for each edge from that block. Linear in both.
 pub(crate) fn follow<A: Allocator>(
     alloc: A,
     preds: &[Vec<u32, A>],

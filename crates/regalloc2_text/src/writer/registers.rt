@@ -2,9 +2,9 @@
 
 ghost use Rattle.std.specs.Prelude.{◌<◌, ◌≤◌, length};
 
+use crate::explain::stored::{class_number, register_of};
+use crate::spell::StoredRegister;
 use crate::writer::page::Page;
-use crate::writer::spell::RegisterText;
-use regalloc2_names::PReg;
 use std::fmt;
 
 /// What stands before an item of a list.
@@ -27,10 +27,18 @@ pub(crate) fn write_list<T: Copy, D: fmt::Display + Drop, F: Fn(T) -> D + Drop, 
     }
 }
 
-/// Whether all registers are of a class.
+/// Returns whether the register of `index` is of the class with the number `class`.
+fn is_of_class(index: u8, class: usize) -> bool {
+    match register_of(index) {
+        Some(register) => class_number(register.class()) == class,
+        None => false,
+    }
+}
+
+/// Returns whether all registers are of the class with the number `class`.
 fn are_of_class(registers: &[u8], class: usize) -> bool {
-    for register in registers {
-        if usize::from(*register >> 6) != class {
+    for index in registers {
+        if !is_of_class(*index, class) {
             return false;
         }
     }
@@ -49,11 +57,15 @@ pub(crate) fn write_class<W: fmt::Write>(class: usize, registers: &[u8], to: &mu
     }
 }
 
-/// Whether the second is the register of the next number, in the same class.
-fn is_neighbour(register: u8, next: u8) -> bool {
-    register.checked_add(1) == Some(next)
-        && PReg::is_index(usize::from(next))
-        && register >> 6 == next >> 6
+/// Returns whether `next` is the index of the register with the next number in the class of the
+/// register of `index`.
+fn is_neighbour(index: u8, next: u8) -> bool {
+    match (register_of(index), register_of(next)) {
+        (Some(register), Some(next)) => {
+            register.class() == next.class() && register.hw_enc() + 1 == next.hw_enc()
+        }
+        _ => false,
+    }
 }
 
 /// Where the neighbours that follow a register end: the index of the last one.
@@ -89,9 +101,9 @@ pub(crate) fn write_registers<W: fmt::Write>(registers: &[u8], to: &mut Page<'_,
     while first < registers.len() {
         let last = span_end(registers, first);
         let before = separator(first);
-        to.put(&format_args!("{before}{}", RegisterText(registers[first])));
+        to.put(&format_args!("{before}{}", StoredRegister(registers[first])));
         if first < last {
-            to.put(&format_args!("..{}", RegisterText(registers[last])));
+            to.put(&format_args!("..{}", StoredRegister(registers[last])));
         }
         first = last + 1;
     }

@@ -1,18 +1,18 @@
 //! What of a function is shown line by line.
 
 use super::preds::{Following, follow};
-use crate::writer::spell::{OperandText, VRegText};
+use crate::spell::{StoredOperand, StoredVReg};
 use regalloc2_serialize::{StoredFunction, StoredInst};
 use std::alloc::{AllocError, Allocator};
 
-/// A function with what of it is shown line by line. A list by block whose length isn't that of the blocks is shown as
-/// nothing here, and stands as numbers behind the lines.
+/// A function with the lists that are shown line by line. A list by block that doesn't have an item for each block is
+/// empty here, and is written as numbers after the lines.
 #[derive(Drop)]
 pub(crate) struct Shown<'a, A: Allocator> {
     pub function: &'a StoredFunction<A>,
     /// The successors by block.
     pub succs: &'a [Vec<u32, A>],
-    /// The arguments by block and successor, as many as the successors.
+    /// The arguments by block and successor; each block has a list for each of its successors.
     pub params_out: &'a [Vec<Vec<u32, A>, A>],
     /// The parameters by block.
     pub params_in: &'a [Vec<u32, A>],
@@ -24,7 +24,7 @@ pub(crate) struct Shown<'a, A: Allocator> {
     pub is_in_line: bool,
 }
 
-/// Whether each block has as many lists of arguments as successors, so far as both lists go.
+/// Returns whether each block that is in both lists has a list of arguments for each successor.
 fn agree<A: Allocator>(succs: &[Vec<u32, A>], params_out: &[Vec<Vec<u32, A>, A>]) -> bool {
     for k in 0..succs.len().min(params_out.len()) {
         if succs[k].len() != params_out[k].len() {
@@ -69,7 +69,7 @@ fn blocks_follow(blocks: &[(u32, u32)], insts: usize) -> bool {
     !blocks.is_empty() && end as usize == insts
 }
 
-/// The list, where it has an item for each block, else an empty one.
+/// The list if it has an item for each block, else an empty list.
 fn by_block<T>(list: &[T], blocks: usize) -> &[T] {
     if list.len() == blocks {
         list
@@ -78,7 +78,7 @@ fn by_block<T>(list: &[T], blocks: usize) -> &[T] {
     }
 }
 
-/// The list at an index, or an empty one where there is none.
+/// The list at `index`, or an empty list if there is none.
 pub(crate) fn list_at<T, A: Allocator>(lists: &[Vec<T, A>], index: usize) -> &[T] {
     match lists.get(index) {
         Some(list) => list.as_slice(),
@@ -127,7 +127,7 @@ impl<'a, A: Allocator + Copy> Shown<'a, A> {
         }
     }
 
-    /// One more than the greatest number of a vreg that the text shows, 0 where it shows none.
+    /// One more than the greatest vreg number that the text shows; 0 if it shows none.
     pub(crate) fn count_vregs(&self) -> u64 {
         let insts = count_in_insts(self.function.insts.as_slice());
         let labels = count_in_labels(self.function.debug_value_labels.as_slice());
@@ -139,16 +139,16 @@ impl<'a, A: Allocator + Copy> Shown<'a, A> {
     }
 }
 
-/// One more than the greatest number that the encodings show, 0 where they show none.
+/// One more than the greatest vreg number that the encodings show; 0 if they show none.
 fn count_in_words(words: &[u32]) -> u64 {
     let mut count = 0;
     for bits in words {
-        count = count.max(VRegText(*bits).vregs());
+        count = count.max(StoredVReg(*bits).vregs());
     }
     count
 }
 
-/// The same of lists of encodings.
+/// One more than the greatest vreg number in lists of encodings; 0 if they show none.
 fn count_in_lists<A: Allocator>(lists: &[Vec<u32, A>]) -> u64 {
     let mut count = 0;
     for words in lists {
@@ -157,7 +157,7 @@ fn count_in_lists<A: Allocator>(lists: &[Vec<u32, A>]) -> u64 {
     count
 }
 
-/// The same of the arguments of all blocks.
+/// One more than the greatest vreg number in the arguments of all blocks; 0 if they show none.
 fn count_in_arguments<A: Allocator>(params_out: &[Vec<Vec<u32, A>, A>]) -> u64 {
     let mut count = 0;
     for lists in params_out {
@@ -166,25 +166,25 @@ fn count_in_arguments<A: Allocator>(params_out: &[Vec<Vec<u32, A>, A>]) -> u64 {
     count
 }
 
-/// The same of labels.
+/// One more than the greatest vreg number in labels; 0 if they show none.
 fn count_in_labels(labels: &[(u32, u32, u32, u32)]) -> u64 {
     let mut count = 0;
     for label in labels {
-        count = count.max(VRegText(label.0).vregs());
+        count = count.max(StoredVReg(label.0).vregs());
     }
     count
 }
 
-/// The same of operands.
+/// One more than the greatest vreg number in operands; 0 if they show none.
 fn count_in_operands(operands: &[u64]) -> u64 {
     let mut count = 0;
     for bits in operands {
-        count = count.max(OperandText(*bits).vregs());
+        count = count.max(StoredOperand(*bits).vregs());
     }
     count
 }
 
-/// The same of the operands of all instructions.
+/// One more than the greatest vreg number in the operands of all instructions; 0 if they show none.
 fn count_in_insts<A: Allocator>(insts: &[StoredInst<A>]) -> u64 {
     let mut count = 0;
     for inst in insts {

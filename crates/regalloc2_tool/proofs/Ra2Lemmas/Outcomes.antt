@@ -18,27 +18,27 @@ use Rattle.regalloc2_tool.specs.declared.ra2.task.Task.{Task}
 use Rattle.regalloc2_tool.specs.declared.ra2.task.Task.TheVariants.{Run, Check}
 
 -- the bytes of the writer before the listing, after it, and after the check
-pub judged : (A : Type 0) {E : Type 0} (task : Task) (f : FunctionValue) (env : MachineValue) (out : OutputValue) (old listed new : Option (List ℕ))
+pub check_outcome : (A : Type 0) {E : Type 0} (task : Task) (f : FunctionValue) (env : MachineValue) (out : OutputValue) (old listed new : Option (List ℕ))
     (r : Result Bool E) → task ≡ Check → IsWellFormedAllocation f env out →
     Appends old listed (listing_text f out) → IfOk r (IsOutputJudged A f env out (Appends listed new)) → IfOk r (IsOutcome A task f env (Appends old new))
 unfolding IsOutputJudged
-judged A task f env out old listed new (Ok true) e a w h =
+check_outcome A task f env out old listed new (Ok true) e a w h =
     (out, a, subst (λ t. IsAnswerWritten t f env out (Appends old new)) (sym e) (h.1, Appends-trans old listed new (listing_text f out) checked_line w h.2))
-judged A task f env out old listed new (Ok false) e a w h =
+check_outcome A task f env out old listed new (Ok false) e a w h =
     unaccepted out a e (h.0, h.1, Appends-trans old listed new (listing_text f out) (findings_text h.0) w h.2)
-judged A task f env out old listed new (Err y) e a w h = tt
+check_outcome A task f env out old listed new (Err y) e a w h = tt
 
 -- a flush changes no outcome
-answered : (task : Task) (f : FunctionValue) (env : MachineValue) (out : OutputValue) (old shown new : Option (List ℕ)) → Keeps shown new →
+answer_kept : (task : Task) (f : FunctionValue) (env : MachineValue) (out : OutputValue) (old shown new : Option (List ℕ)) → Keeps shown new →
     IsAnswerWritten task f env out (Appends old shown) → IsAnswerWritten task f env out (Appends old new)
-answered Run f env out old shown new k w = Appends-kept old shown new (listing_text f out) w k
-answered Check f env out old shown new k w = (w.0, Appends-kept old shown new (listing_text f out ++ checked_line) w.1 k)
+answer_kept Run f env out old shown new k w = Appends-kept old shown new (listing_text f out) w k
+answer_kept Check f env out old shown new k w = (w.0, Appends-kept old shown new (listing_text f out ++ checked_line) w.1 k)
 
-flushed : (A : Type 0) (task : Task) (f : FunctionValue) (env : MachineValue) (old shown new : Option (List ℕ)) (accepted : Bool) → Keeps shown new →
+outcome_kept : (A : Type 0) (task : Task) (f : FunctionValue) (env : MachineValue) (old shown new : Option (List ℕ)) (accepted : Bool) → Keeps shown new →
     IsOutcome A task f env (Appends old shown) accepted → IsOutcome A task f env (Appends old new) accepted
-flushed A task f env old shown new true k h = (h.0, h.1, answered task f env h.0 old shown new k h.2)
-flushed A task f env old shown new false k (refused e h w) = refused e h (Appends-kept old shown new (refusal_line e) w k)
-flushed A task f env old shown new false k (unaccepted out h e x) = unaccepted out h e
+outcome_kept A task f env old shown new true k h = (h.0, h.1, answer_kept task f env h.0 old shown new k h.2)
+outcome_kept A task f env old shown new false k (refused e h w) = refused e h (Appends-kept old shown new (refusal_line e) w k)
+outcome_kept A task f env old shown new false k (unaccepted out h e x) = unaccepted out h e
     (x.0, x.1, Appends-kept old shown new (listing_text f out ++ findings_text x.0) x.2 k)
 
 -- an empty buffer has no unwritten bytes
@@ -61,16 +61,16 @@ verdict {A} bytes f env own out old new (Ok b) o given e k h = rw k (f, env, out
 verdict bytes f env own out old new (Err y) o given e k h = rw k tt
 
 -- a flush changes no result of a check
-still_judged : (A : Type 0) (f : FunctionValue) (env : MachineValue) (out : OutputValue) (old shown new : Option (List ℕ)) (accepted : Bool) → Keeps shown new →
+judgement_kept : (A : Type 0) (f : FunctionValue) (env : MachineValue) (out : OutputValue) (old shown new : Option (List ℕ)) (accepted : Bool) → Keeps shown new →
     IsOutputJudged A f env out (Appends old shown) accepted → IsOutputJudged A f env out (Appends old new) accepted
 unfolding IsOutputJudged
-still_judged A f env out old shown new true k h = (h.0, h.1, Appends-kept old shown new checked_line h.2 k)
-still_judged A f env out old shown new false k h = (h.0, h.1, Appends-kept old shown new (findings_text h.0) h.2 k)
+judgement_kept A f env out old shown new true k h = (h.0, h.1, Appends-kept old shown new checked_line h.2 k)
+judgement_kept A f env out old shown new false k h = (h.0, h.1, Appends-kept old shown new (findings_text h.0) h.2 k)
 
-kept : (A : Type 0) (bytes : Option (List ℕ)) (command : Command) (old shown new : Option (List ℕ)) (accepted : Bool) → Keeps shown new →
+input_outcome_kept : (A : Type 0) (bytes : Option (List ℕ)) (command : Command) (old shown new : Option (List ℕ)) (accepted : Bool) → Keeps shown new →
     HasOutcome A bytes command (Appends old shown) accepted → HasOutcome A bytes command (Appends old new) accepted
-kept A bytes (Allocate task) old shown new accepted k h = (h.0, h.1, h.2, flushed A task h.0 h.1 old shown new accepted k h.3)
-kept A bytes Replay old shown new accepted k h = (h.0, h.1, h.2, h.3, still_judged A h.0 h.1 h.2 old shown new accepted k h.4)
+input_outcome_kept A bytes (Allocate task) old shown new accepted k h = (h.0, h.1, h.2, outcome_kept A task h.0 h.1 old shown new accepted k h.3)
+input_outcome_kept A bytes Replay old shown new accepted k h = (h.0, h.1, h.2, h.3, judgement_kept A h.0 h.1 h.2 old shown new accepted k h.4)
 
 -- the input has the outcome, once the buffer is empty
 pub flushed_outcome : (A : Type 0) (bytes : Option (List ℕ)) (command : Command) (old shown new : Option (List ℕ)) (buffer : List ℕ) (accepted b : Bool) →
@@ -78,4 +78,4 @@ pub flushed_outcome : (A : Type 0) (bytes : Option (List ℕ)) (command : Comman
     HasOutcome A bytes command (Appends old new) b
 flushed_outcome A bytes command old shown new buffer accepted b d k n h =
     subst (λ a. HasOutcome A bytes command (Appends old new) a) d
-    (kept A bytes command old shown new accepted (subst (λ x. Keeps shown x) (unbuffered new buffer n) k) h)
+    (input_outcome_kept A bytes command old shown new accepted (subst (λ x. Keeps shown x) (unbuffered new buffer n) k) h)

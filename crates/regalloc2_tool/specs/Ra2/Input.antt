@@ -46,7 +46,7 @@ IsOutputFault o Index = ⊥
 IsOutputFault o Limit = ⊥
 IsOutputFault o Shape = ⊥
 
--- why the numbers name no output of a function, or why that can't be checked
+-- why the numbers name no output of a function, or why the output can't be checked
 abbrev pub IsOutputRefusal : {A : Type 0} → FunctionValue → StoredOutput A → InputError → Type 0
 IsOutputRefusal f o Unreadable = ⊥
 IsOutputRefusal f o (BadFunction fault) = ⊥
@@ -54,7 +54,7 @@ IsOutputRefusal f o BadMachine = ⊥
 IsOutputRefusal f o (BadOutput fault) = IsOutputFault o fault
 IsOutputRefusal f o NotFramed = NamesValues o × (IsFramed f → ⊥)
 
--- the bytes are a text of sound numbers, in memory of an allocator A, which name this function and this machine
+-- the bytes are a text of sound numbers, in memory of an allocator A, which name the function `f` and the machine `env`
 pub record TextNamesFunction (A : Type 0) (bytes : Option (List ℕ)) (f : FunctionValue) (env : MachineValue) : Type 0 where
   pub stored : StoredFunction A
   pub text : IsTextOf bytes stored
@@ -62,12 +62,12 @@ pub record TextNamesFunction (A : Type 0) (bytes : Option (List ℕ)) (f : Funct
   pub function : NamesFunction stored f
   pub machine : NamesMachine stored.machine_env env
 
--- and the machine fits the function
+-- the bytes name a function and a machine that fits it
 pub record TextNamesFitting (A : Type 0) (bytes : Option (List ℕ)) (f : FunctionValue) (env : MachineValue) : Type 0 where
   pub named : TextNamesFunction A bytes f env
   pub fits : MachineFits f env
 
--- why the bytes name none; any bytes may be unreadable, because a read may fail or memory may run out
+-- why the bytes name no function with a machine that fits it; any bytes may be unreadable, because a read may fail or memory may run out
 abbrev pub IsInputFault : (A : Type 0) → Option (List ℕ) → InputError → Type 0
 IsInputFault A bytes Unreadable = Unit {0}
 IsInputFault A bytes (BadFunction fault) = (s : StoredFunction A) × IsTextOf bytes s × IsFaultOf s fault
@@ -75,11 +75,11 @@ IsInputFault A bytes BadMachine = (f : FunctionValue) × (env : MachineValue) ×
 IsInputFault A bytes (BadOutput fault) = ⊥
 IsInputFault A bytes NotFramed = ⊥
 
--- the bytes, if they are known, are a JSON text of an array of exactly the stored numbers of a function and those of an output
+-- the bytes, if they are known, are a JSON text of an array of exactly the stored numbers of a function and of an output
 abbrev pub IsTextOfPair : {A : Type 0} → Option (List ℕ) → StoredFunction A → StoredOutput A → Type 0
 IsTextOfPair bytes s o = IfSome bytes (λ text. (d : Data) × (read text ≡ Some d) × IsPairAt d s o)
 
--- the bytes are a text of sound numbers, which name this function, this machine and this output
+-- the bytes are a text of sound numbers, which name the function `f`, the machine `env` and the output `out`
 pub record TextNamesOutput (A : Type 0) (bytes : Option (List ℕ)) (f : FunctionValue) (env : MachineValue) (out : OutputValue) : Type 0 where
   pub stored : StoredFunction A
   pub stored_output : StoredOutput A
@@ -90,12 +90,12 @@ pub record TextNamesOutput (A : Type 0) (bytes : Option (List ℕ)) (f : Functio
   pub names : NamesValues stored_output
   pub output : out ≡ output_of_stored stored_output
 
--- and the function is structurally valid (`IsFramed`), so the output can be checked
+-- the bytes name an output of a structurally valid function (`IsFramed`), which can therefore be checked
 pub record AreGiven (A : Type 0) (bytes : Option (List ℕ)) (f : FunctionValue) (env : MachineValue) (out : OutputValue) : Type 0 where
   pub named : TextNamesOutput A bytes f env out
   pub framed : IsFramed f
 
--- why the bytes name none; any bytes may be unreadable, because a read may fail or memory may run out
+-- why the bytes name no output of a structurally valid function; any bytes may be unreadable, because a read may fail or memory may run out
 abbrev pub IsPairFault : (A : Type 0) → Option (List ℕ) → InputError → Type 0
 IsPairFault A bytes Unreadable = Unit {0}
 IsPairFault A bytes (BadFunction fault) = (s : StoredFunction A) × (o : StoredOutput A) × IsTextOfPair bytes s o × IsFaultOf s fault

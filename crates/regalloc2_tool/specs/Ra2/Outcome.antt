@@ -27,12 +27,12 @@ abbrev pub IsAnswerWritten : Task → FunctionValue → MachineValue → OutputV
 IsAnswerWritten Run f env out IsWritten = IsWritten (listing_text f out)
 IsAnswerWritten Check f env out IsWritten = IsFaithful f env out × IsWritten (listing_text f out ++ checked_line)
 
--- the task succeeds: there is such an output, and its text is written
+-- the task succeeds: there is an allocation, and its text is written
 abbrev pub IsDone : Task → FunctionValue → MachineValue → (List ℕ → Type 0) → Type 0
 IsDone task f env IsWritten = (out : OutputValue) × IsWellFormedAllocation f env out × IsAnswerWritten task f env out IsWritten
 
--- the task fails: the function is rejected, for a reason, and the reason's line is written; or there is such an output, but the checker doesn't accept it, and
--- its listing and the checker's findings are written
+-- the task fails: the function is rejected, for a reason, and the reason's line is written; or there is an allocation that the checker doesn't accept, and
+-- the listing and the checker's findings are written
 pub data IsTurnedDown (A : Type 0) (task : Task) (f : FunctionValue) (env : MachineValue) (IsWritten : List ℕ → Type 0) : Type 0 where
   refused : (e : RegAllocError) → IsReason f env true e → IsWritten (refusal_line e) → IsTurnedDown A task f env IsWritten
   unaccepted : (out : OutputValue) → IsWellFormedAllocation f env out → task ≡ Check →

@@ -64,7 +64,7 @@ pub enum Call {
     /// To report counts of the given output or, if there is none, of the allocator's; the result is
     /// a table.
     Stats,
-    /// To report the same counts, as JSON.
+    /// To report the counts of `Stats`, as JSON.
     StatsJson,
     /// To write the given output or, if there is none, the allocator's, as upstream does.
     Dump,
@@ -150,7 +150,7 @@ impl From<io::Error> for CallError {
 pub struct Given<'g, 'o, 's> {
     /// The function and its machine.
     pub function: &'g StoredFunction,
-    /// The output that is given with it.
+    /// The output that is given with the function.
     pub output: Option<&'o StoredOutput>,
     /// The text in which errors and findings are shown. Without a text, each error and each finding
     /// is one line.
@@ -258,7 +258,7 @@ fn place_found(error: &CheckerError) -> Option<(Inst, Operand, Option<Allocation
     }
 }
 
-/// The index of the first operand of an instruction that equals this one.
+/// The index of the first operand of `inst` that equals `operand`.
 fn operand_index(function: &StoredFunction, inst: Inst, operand: Operand) -> Option<usize> {
     let data = function.insts.get(inst.index())?;
     let bits = operand.bits();
@@ -286,14 +286,30 @@ fn explain_finding<W: Write>(
     let (Some(place), Some(output)) = (place, given.output) else {
         return Ok(());
     };
-    if let Some(writes) = last_writes(alloc, given.function, output, number, place)? {
+    let pos = operand.pos();
+    if let Some(writes) = last_writes(alloc, given.function, output, number, pos, place)? {
         writes.write(to)?;
     }
     Ok(())
 }
 
+/// Writes a path on which a vreg is read or passed before it is written.
+fn write_path<W: Write>(
+    alloc: Global,
+    function: &StoredFunction,
+    source: &Source<'_>,
+    to: &mut W,
+) -> Result<(), CallError> {
+    let Some(read) = find_unwritten_read(alloc, function)? else {
+        return Ok(());
+    };
+    writeln!(to, "  {read}")?;
+    write_site(read.site, source, to)
+}
+
 /// Writes a line for each error, unless it is a failed memory allocation, and explains the first
-/// errors if there is a text. The output isn't accepted.
+/// errors if there is a text. If the output is the allocator's own, a path follows on which a vreg is
+/// read or passed before it is written. The output isn't accepted.
 fn write_findings<W: Write>(
     alloc: Global,
     errors: &[CheckerError],
@@ -310,6 +326,9 @@ fn write_findings<W: Write>(
         if let (Some(source), true) = (&given.source, k < EXPLAINED) {
             explain_finding(alloc, error, given, source, to)?;
         }
+    }
+    if let (Some(source), None) = (&given.source, given.output) {
+        write_path(alloc, given.function, source, to)?;
     }
     Ok(false)
 }
@@ -429,20 +448,6 @@ fn replay<F: Function, W: Write, E: Write>(
     }
 }
 
-/// Writes a path on which a vreg is read or passed before it is written.
-fn write_path<W: Write>(
-    alloc: Global,
-    function: &StoredFunction,
-    source: &Source<'_>,
-    to: &mut W,
-) -> Result<(), CallError> {
-    let Some(read) = find_unwritten_read(alloc, function)? else {
-        return Ok(());
-    };
-    writeln!(to, "  {read}")?;
-    write_site(read.site, source, to)
-}
-
 /// Writes whether a write precedes each read and each argument, on every path, and if not, a path
 /// on which none does. Returns the verdict.
 fn judge_reads<F: Function, W: Write>(
@@ -547,8 +552,8 @@ fn compare<F: Function, W: Write, E: Write>(
     Ok(Verdict::of(is_accepted && !differs))
 }
 
-/// Performs a call about the allocator's output, on its stored form.
-fn answer_stored<F: Function, W: Write, E: Write>(
+/// Performs a call about the allocator's output in its stored form.
+fn show_stored<F: Function, W: Write, E: Write>(
     alloc: Global,
     call: Call,
     f: &F,
@@ -622,7 +627,7 @@ fn show<F: Function, W: Write, E: Write>(
             let is_accepted = judge(alloc, f, env, output, given, to)?;
             return Ok(Verdict::of(is_accepted));
         }
-        _ => return answer_stored(alloc, call, f, env, output, given, to, err),
+        _ => return show_stored(alloc, call, f, env, output, given, to, err),
     }
     Ok(Verdict::Accepted)
 }
@@ -679,7 +684,7 @@ fn function_of<E: Write>(
 ///
 /// `Accepted` says that both outputs are well-ordered, faithful and in cells of their own. Spec:
 /// `AreAcceptedBoth` in `specs/Calls.antt`.
-pub fn answer_diff<W: Write, E: Write>(
+pub fn perform_diff<W: Write, E: Write>(
     alloc: Global,
     given: &Given<'_, '_, '_>,
     other: &Given<'_, '_, '_>,
@@ -731,7 +736,7 @@ fn perform<F: Function, W: Write, E: Write>(
 /// `Accepted` says that the numbers of `given` name a function and a machine for which what the
 /// call tests holds, and that an allocated output has all that `run` guarantees. The contract
 /// doesn't say what is written; tests check it. Spec: `IsAcceptedCall` in `specs/Calls.antt`.
-pub fn answer<W: Write, E: Write>(
+pub fn perform_call<W: Write, E: Write>(
     alloc: Global,
     call: Call,
     given: &Given<'_, '_, '_>,

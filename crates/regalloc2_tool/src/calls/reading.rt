@@ -10,8 +10,8 @@ static FIRST_WORDS: [&str; 18] = [
     "branch", "ret", "inst", "move", "slots", "debug", "label", "stored",
 ];
 
-/// The word that begins a line and is nearest to this one, at most two edits away; the first of
-/// several such words.
+/// The word that begins a line and is nearest to `word`, at most two edits away; the first of
+/// several equally near words.
 fn nearest_word(alloc: Global, word: &str) -> Result<Option<&'static str>, AllocError> {
     let mut nearest = None;
     let mut bound = 3;
@@ -25,7 +25,7 @@ fn nearest_word(alloc: Global, word: &str) -> Result<Option<&'static str>, Alloc
     Ok(nearest)
 }
 
-/// The same error, with a suggestion if a word begins no line.
+/// Returns `fault`, with a suggestion if a word begins no line.
 fn suggesting<'t>(alloc: Global, mut fault: Fault<'t>) -> Result<Fault<'t>, AllocError> {
     if let (Expected::LineBeginning(None), Found::Token(word)) = (fault.expected, fault.found) {
         fault.expected = Expected::LineBeginning(nearest_word(alloc, word)?);
@@ -42,6 +42,6 @@ pub fn read_text<'t>(
 ) -> Result<Text, TextError<'t>> {
     match read(alloc, text, first_line) {
         Err(TextError::Fault(fault)) => Err(TextError::Fault(suggesting(alloc, fault)?)),
-        answer => answer,
+        result => result,
     }
 }

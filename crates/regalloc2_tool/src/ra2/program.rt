@@ -127,7 +127,7 @@ fn perform<A: Allocator + Copy, R: Read + Drop, O: Write + Drop, E: Write>(
 ///
 /// `serde_json` allocates from `global`, since it supports no other allocator; all else allocates
 /// from `alloc`.
-pub fn answer<A: Allocator + Copy, R: Read + Drop, O: Write + Drop, E: Write>(
+pub fn run_program<A: Allocator + Copy, R: Read + Drop, O: Write + Drop, E: Write>(
     global: Global,
     alloc: A,
     words: &[String],

@@ -1,8 +1,7 @@
 //! Reads the function, the machine and the output from the program's input.
 
-ghost use Rattle.std.specs.Prelude.{ℕ, List, Option, ◌≡◌, ◌↔◌, IsTrue, Some, IfOk, IfErr, IfSome};
+ghost use Rattle.std.specs.Prelude.{ℕ, List, Option, ◌≡◌, Some, IfOk, IfErr, IfSome};
 ghost use Rattle.serde_json.specs.View.{view};
-ghost use Rattle.regalloc2_function.specs.Fitting.{MachineFits};
 ghost use Rattle.regalloc2_function.specs.Stored.{NamesValues, output_of_stored};
 ghost use Rattle.regalloc2_function.specs.Views.{machine_of, output_of};
 ghost use Rattle.regalloc2_function.specs.WellFormed.{IsFramed};
@@ -13,7 +12,7 @@ ghost use Rattle.regalloc2_tool.specs.Ra2.Text.{input_text};
 use regalloc2::serialize::{
     FromValue, SerializableFunction, StoredFault, StoredFunction, StoredOutput,
 };
-use regalloc2::{Function, MachineEnv, Output, is_framed, machine_fits};
+use regalloc2::{Function, Output, is_framed, machine_fits};
 use regalloc2_text::stored_fault::number_of;
 use serde_json::Value;
 use std::alloc::{Allocator, Global};
@@ -40,15 +39,13 @@ impl fmt::Display for InputError {
     ghost output = { λ e. Some (input_text e) };
 
     fn fmt<W: fmt::Write>(&self, f: &mut fmt::Formatter<W>) -> fmt::Result {
-        let (before, fault) = match self {
-            InputError::Unreadable => return f.write_str("input unreadable"),
-            InputError::BadFunction(fault) => ("bad function ", *fault),
-            InputError::BadMachine => return f.write_str("bad machine"),
-            InputError::BadOutput(fault) => ("bad output ", *fault),
-            InputError::NotFramed => return f.write_str("not framed"),
-        };
-        let number = number_of(fault);
-        write!(f, "{before}{number}")
+        match self {
+            InputError::Unreadable => write!(f, "input unreadable"),
+            InputError::BadFunction(fault) => write!(f, "bad function {}", number_of(*fault)),
+            InputError::BadMachine => write!(f, "bad machine"),
+            InputError::BadOutput(fault) => write!(f, "bad output {}", number_of(*fault)),
+            InputError::NotFramed => write!(f, "not framed"),
+        }
     }
 }
 
@@ -76,13 +73,6 @@ fn stored_from<A: Allocator + Copy, R: Read + Drop>(
     StoredFunction::from_value(alloc, &value).ok()
 }
 
-/// Whether a machine fits a function.
-fn fits<A: Allocator, F: Function>(f: &F, env: &MachineEnv<A>) -> bool
-    ensures { IsTrue result ↔ MachineFits (F.function f.now) (machine_of env.now) }
-{
-    machine_fits(f, env)
-}
-
 /// The function and its machine that stored numbers name. The machine fits the function.
 fn fitting<A: Allocator + Copy>(
     alloc: A,
@@ -95,7 +85,7 @@ fn fitting<A: Allocator + Copy>(
         Ok(f) => f,
         Err(fault) => return Err(InputError::BadFunction(fault)),
     };
-    if !fits(&f, f.machine_env()) {
+    if !machine_fits(&f, f.machine_env()) {
         return Err(InputError::BadMachine);
     }
     Ok(f)

@@ -136,10 +136,10 @@ fn read_lines(alloc: Global, text: &str) -> Result<Input, InputError> {
     }
 }
 
-/// The text that bytes are, or the first byte that is part of no character.
+/// The text that `bytes` are, without a byte order mark before it, or the first byte that is part of no character.
 pub(crate) fn text_of(bytes: &[u8]) -> Result<&str, InputError> {
     match str::from_utf8(bytes) {
-        Ok(text) => Ok(text),
+        Ok(text) => Ok(text.strip_prefix('\u{feff}').unwrap_or(text)),
         Err(error) => {
             let place = error.valid_up_to();
             let (line, column) = position_of(bytes, place);

@@ -4,7 +4,7 @@ ghost use Rattle.std.specs.Prelude.{◌≤◌};
 
 use super::input::{Input, text_of};
 use super::task::{Action, Task};
-use crate::calls::call::{Call, CallError, Given, Verdict, answer as answer_call, answer_diff};
+use crate::calls::call::{Call, CallError, Given, Verdict, perform_call, perform_diff};
 use regalloc2_serialize::StoredFunction;
 use regalloc2_text::explain::Source;
 use regalloc2_text::{write, write_json};
@@ -48,7 +48,7 @@ fn write_function(
     Ok(())
 }
 
-/// How many words of operands, parameters and arguments a function has, of which each names at most one vreg.
+/// The number of operands and parameters of a function. Each of them names at most one vreg.
 fn count_names(function: &StoredFunction) -> u64 {
     let mut count = 0u64;
     for inst in &function.insts {
@@ -74,7 +74,8 @@ fn warn(path: &str, function: &StoredFunction, err: &mut Vec<u8>) -> io::Result<
     )
 }
 
-/// The first line in which a text differs from another one, and that of the other one, without blanks at both ends; empty behind an end.
+/// The first line of `one` that differs from its line in `other`, and that line, without blanks at both ends; empty after the end of a
+/// text.
 fn first_difference<'a>(one: &'a str, other: &'a str) -> (&'a str, &'a str) {
     let mut lines = other.lines();
     for line in one.lines() {
@@ -86,8 +87,7 @@ fn first_difference<'a>(one: &'a str, other: &'a str) -> (&'a str, &'a str) {
     ("", lines.next().unwrap_or("").trim())
 }
 
-/// The text in which the parts of an input are shown: the one that was read, with that name before line numbers, or else the one that is
-/// shown for JSON.
+/// The text in which the parts of an input are shown: `shown` for JSON, else the text that was read, with `name` before line numbers.
 fn source_of<'s>(text: &'s str, shown: Option<&'s String>, name: &'s str) -> Source<'s> {
     match shown {
         Some(shown) => Source {
@@ -111,7 +111,7 @@ struct Other<'p, 't, 'i> {
     input: &'i Input,
 }
 
-/// What a call is given of an input with that name before line numbers.
+/// What a call is given of an input, whose lines are shown with `name` before their numbers.
 fn given_of<'a>(input: &'a Input, text: &'a str, name: &'a str) -> Given<'a, 'a, 'a> {
     Given {
         function: &input.text.function,
@@ -120,7 +120,7 @@ fn given_of<'a>(input: &'a Input, text: &'a str, name: &'a str) -> Given<'a, 'a,
     }
 }
 
-/// Whether two texts are the same; else `err` gets the lines in which they differ.
+/// Returns whether two texts are equal; else `err` gets the lines in which they differ.
 fn are_same(one: &str, other: &str, err: &mut Vec<u8>) -> Result<bool, CallError> {
     if one == other {
         return Ok(true);
@@ -133,7 +133,7 @@ fn are_same(one: &str, other: &str, err: &mut Vec<u8>) -> Result<bool, CallError
     Ok(false)
 }
 
-/// Whether two functions are the same; else `err` gets the lines in which their texts differ.
+/// Returns whether two functions are equal; else `err` gets the lines in which their texts differ.
 fn are_same_functions(
     alloc: Global,
     one: &StoredFunction,
@@ -161,10 +161,10 @@ fn act_diff(
         return Err(CallError::Memory);
     };
     let second = given_of(input, text, name.as_str());
-    answer_diff(alloc, given, &second, out, err)
+    perform_diff(alloc, given, &second, out, err)
 }
 
-/// An input with the text that it was read from, and the other one of `diff`.
+/// An input with the text that it was read from, and the other input of `diff`.
 #[derive(Clone, Copy)]
 struct Inputs<'t, 'i, 'p, 'u, 'o> {
     text: &'t str,
@@ -186,12 +186,12 @@ fn act_on(
             write_function(alloc, given.function, out)?;
             Ok(Verdict::Accepted)
         }
-        (Action::Answer(Call::Diff), Some(other)) => act_diff(alloc, given, other, out, err),
-        (Action::Answer(call), _) => {
+        (Action::Call(Call::Diff), Some(other)) => act_diff(alloc, given, other, out, err),
+        (Action::Call(call), _) => {
             if !matches!(call, Call::Text) {
                 warn(task.path, given.function, err)?;
             }
-            answer_call(alloc, call, given, out, err)
+            perform_call(alloc, call, given, out, err)
         }
     }
 }
@@ -269,7 +269,7 @@ fn finish(
 }
 
 /// Reads the other file of a task, if it has one, and does the task.
-fn answer_read(
+fn perform_with_other(
     alloc: Global,
     task: Task<'_>,
     text: &str,
@@ -309,7 +309,7 @@ fn answer_read(
 /// The input's error, or why there is no whole result, is a line on `err`, and the status then 2. Else the result is on `out`,
 /// and the status 0; or 1 if the function is rejected, of which `err` has the cause, or something is found; or 2 if its numbers
 /// name no function.
-pub fn answer(
+pub fn perform_task(
     alloc: Global,
     task: Task<'_>,
     bytes: &[u8],
@@ -323,5 +323,5 @@ pub fn answer(
         return UNUSABLE;
     };
     let text = text_of(bytes).unwrap_or("");
-    answer_read(alloc, task, text, &input, other, out, err)
+    perform_with_other(alloc, task, text, &input, other, out, err)
 }

@@ -57,7 +57,7 @@ on standard error: for a rejected function its cause, with the line and column a
 #[derive(Clone, Copy)]
 pub enum Action {
     /// A call on a text or on JSON.
-    Answer(Call),
+    Call(Call),
     /// To write the function as JSON.
     Json,
 }
@@ -67,10 +67,10 @@ impl Action {
     fn named(word: &str, is_json: bool) -> Option<Action> {
         match word {
             "json" => Some(Action::Json),
-            "stats" if is_json => Some(Action::Answer(Call::StatsJson)),
+            "stats" if is_json => Some(Action::Call(Call::StatsJson)),
             // the listing that shows everything is the text
-            "run" => Some(Action::Answer(Call::Allocated)),
-            _ => Call::named(word).map(Action::Answer),
+            "run" => Some(Action::Call(Call::Allocated)),
+            _ => Call::named(word).map(Action::Call),
         }
     }
 }

@@ -22,13 +22,12 @@ struct InBrackets<'a>(&'a [VReg]);
 
 impl fmt::Display for InBrackets<'_> {
     fn fmt<W: fmt::Write>(&self, f: &mut fmt::Formatter<W>) -> fmt::Result {
-        let mut before = "(";
-        for vreg in self.0 {
-            f.write_str(before)?;
-            fmt::Display::fmt(&VRegText(*vreg), f)?;
-            before = ", ";
+        write!(f, "(")?;
+        for (k, vreg) in self.0.iter().enumerate() {
+            let before = if k == 0 { "" } else { ", " };
+            write!(f, "{before}{}", VRegText(*vreg))?;
         }
-        f.write_str(if self.0.is_empty() { "()" } else { ")" })
+        write!(f, ")")
     }
 }
 
@@ -61,7 +60,7 @@ impl<F: Function> fmt::Display for Head<'_, F> {
         }
         let params = self.f.block_params(self.block);
         if !params.is_empty() {
-            fmt::Display::fmt(&InBrackets(params), f)?;
+            write!(f, "{}", InBrackets(params))?;
         }
         self.write_succs(f)
     }

@@ -16,6 +16,46 @@ pub(crate) struct Lanes<A: Allocator> {
     edges: Vec<usize, A>,
 }
 
+/// The left edges of `columns` columns, and of the space after them. `in_columns` has the column of
+/// each lane and the index of its place, by rising column.
+fn edges_of<A: Allocator>(
+    alloc: A,
+    columns: usize,
+    in_columns: &[(usize, usize)],
+) -> Result<Vec<usize, A>, AllocError> {
+    let mut edges = Vec::new(alloc);
+    let (mut edge, mut first) = (0usize, 0usize);
+    edges.push(edge)?;
+    for column in 0..columns {
+        let end = in_columns.partition_point(|lane| lane.0 <= column);
+        edge = edge.saturating_add(shapes::width(end.saturating_sub(first)));
+        edges.push(edge)?;
+        first = end;
+    }
+    Ok(edges)
+}
+
+/// The lanes of `in_columns`, pairs of a column and the index of a place in rising order. Lanes are
+/// counted in each column from the left.
+fn shown_in<A: Allocator>(
+    alloc: A,
+    in_columns: &[(usize, usize)],
+) -> Result<Vec<(usize, usize, usize), A>, AllocError> {
+    let mut shown = Vec::new(alloc);
+    let mut current = 0;
+    let mut lane = 0usize;
+    for (column, index) in in_columns {
+        if *column != current {
+            current = *column;
+            lane = 0;
+        }
+        shown.push((*index, *column, lane))?;
+        lane = lane.saturating_add(1);
+    }
+    shown.sort_unstable();
+    Ok(shown)
+}
+
 impl<A: Allocator + Copy> Lanes<A> {
     /// No lanes.
     pub(crate) fn none(alloc: A) -> Self {
@@ -25,69 +65,34 @@ impl<A: Allocator + Copy> Lanes<A> {
             edges: Vec::new(alloc),
         }
     }
+
+    /// The lanes of `columns` columns; `sightings` lists the places that each column shows. An error
+    /// means out of memory.
+    pub(crate) fn of(
+        alloc: A,
+        columns: usize,
+        sightings: &mut Vec<(Allocation, usize), A>,
+    ) -> Result<Self, AllocError> {
+        sightings.sort_unstable();
+        sightings.dedup();
+        let mut places = Vec::new(alloc);
+        let mut in_columns = Vec::new(alloc);
+        for (place, column) in sightings.iter() {
+            if places.last().copied() != Some(*place) {
+                places.push(*place)?;
+            }
+            in_columns.push((*column, places.len().saturating_sub(1)))?;
+        }
+        in_columns.sort_unstable();
+        Ok(Lanes {
+            places,
+            shown: shown_in(alloc, in_columns.as_slice())?,
+            edges: edges_of(alloc, columns, in_columns.as_slice())?,
+        })
+    }
 }
 
 impl<A: Allocator> Lanes<A> {
-    /// Lays out this many columns; `sightings` lists the places that each one shows. An error means
-    /// out of memory.
-    pub(crate) fn lay_out(
-        &mut self,
-        columns: usize,
-        sightings: &mut Vec<(Allocation, usize), A>,
-    ) -> Result<(), AllocError> {
-        sightings.sort_unstable();
-        sightings.dedup();
-        self.list(sightings.as_slice())?;
-        self.shown.sort_unstable();
-        self.set_edges(columns)?;
-        self.number_lanes();
-        self.shown.sort_unstable();
-        Ok(())
-    }
-
-    /// Lists the places, and for each sighting its column, the index of its place and 0.
-    fn list(&mut self, sightings: &[(Allocation, usize)]) -> Result<(), AllocError> {
-        self.places.clear();
-        self.shown.clear();
-        for (place, column) in sightings {
-            if self.places.last().copied() != Some(*place) {
-                self.places.push(*place)?;
-            }
-            let index = self.places.len().saturating_sub(1);
-            self.shown.push((*column, index, 0))?;
-        }
-        Ok(())
-    }
-
-    /// Sets the left edges of this many columns, and of the space after them, where `shown` begins
-    /// with the column.
-    fn set_edges(&mut self, columns: usize) -> Result<(), AllocError> {
-        self.edges.clear();
-        let (mut edge, mut first) = (0usize, 0usize);
-        self.edges.push(edge)?;
-        for column in 0..columns {
-            let end = self.shown.partition_point(|lane| lane.0 <= column);
-            edge = edge.saturating_add(shapes::width(end.saturating_sub(first)));
-            self.edges.push(edge)?;
-            first = end;
-        }
-        Ok(())
-    }
-
-    /// Counts the lanes of each column from the left, where `shown` begins with the column.
-    fn number_lanes(&mut self) {
-        let (mut current, mut next) = (0, 0usize);
-        for lane in self.shown.iter_mut() {
-            let (column, index, _) = *lane;
-            if column != current {
-                current = column;
-                next = 0;
-            }
-            *lane = (index, column, next);
-            next = next.saturating_add(1);
-        }
-    }
-
     /// The places, each once.
     pub(crate) fn places(&self) -> &[Allocation] {
         self.places.as_slice()
@@ -103,7 +108,8 @@ impl<A: Allocator> Lanes<A> {
         self.shown.as_slice()
     }
 
-    /// The same, from the first column of the place that isn't left of the row's column.
+    /// What `shown` returns, from the first column of the place `index` that isn't left of the column
+    /// of `row`.
     pub(crate) fn shown_from(&self, index: usize, row: usize) -> &[(usize, usize, usize)] {
         let column = shapes::column_of(row);
         let shown = self.shown.as_slice();

@@ -50,7 +50,7 @@ impl<A: Allocator + Copy> Picture<A> {
         }
     }
 
-    /// Lays out the lanes for this many rows.
+    /// Lays out the lanes for `rows` rows.
     fn lay_out<F: Function, B: Allocator>(
         &mut self,
         f: &F,
@@ -61,7 +61,7 @@ impl<A: Allocator + Copy> Picture<A> {
         requires blocks { BlocksAreWithin (F.function f.now) }
     {
         let mut sightings = sightings_of(self.alloc, f, output)?;
-        self.lanes.lay_out(shapes::columns(rows), &mut sightings)?;
+        self.lanes = Lanes::of(self.alloc, shapes::columns(rows), &mut sightings)?;
         self.spans.clear();
         self.spans.resize(self.lanes.places().len(), None)?;
         Ok(())
@@ -92,9 +92,8 @@ impl<A: Allocator + Copy> Picture<A> {
         Ok(())
     }
 
-    /// Records that a place is read in a row, by an operand of the vreg of that number, or by a
-    /// move. A place that its block hasn't written before has held the value since the block's
-    /// first row. Returns the number of the value's vreg, if known.
+    /// Records that a place is read in a row, by an operand of the vreg `by`, or by a move. A place that its block hasn't
+    /// written before has held the value since the block's first row. Returns the number of the value's vreg, if known.
     fn note_read(
         &mut self,
         place: Allocation,
@@ -185,11 +184,10 @@ impl<A: Allocator + Copy> Picture<A> {
         row: usize,
         block_row: usize,
     ) -> Result<(), AllocError> {
-        for k in 0..operands.len().min(places.len()) {
-            let operand = operands[k];
+        for (operand, place) in operands.iter().zip(places) {
             if operand.is_reading() {
                 let by = Some(operand.vreg().vreg());
-                self.note_read(places[k], row_of(operand, row), block_row, by)?;
+                self.note_read(*place, row_of(*operand, row), block_row, by)?;
             }
         }
         Ok(())
@@ -203,17 +201,16 @@ impl<A: Allocator + Copy> Picture<A> {
         row: usize,
         to: &mut W,
     ) -> io::Result<()> {
-        for k in 0..operands.len().min(places.len()) {
-            let operand = operands[k];
+        for (operand, place) in operands.iter().zip(places) {
             if operand.is_def() {
                 let vreg = Some(operand.vreg().vreg());
-                self.note_write(places[k], row_of(operand, row), vreg, to)?;
+                self.note_write(*place, row_of(*operand, row), vreg, to)?;
             }
         }
         Ok(())
     }
 
-    /// Draws the bar of a place that is open at a block's end; that of a slot reaches its last row.
+    /// Draws the bar of a place that is open at a block's end; the bar of a slot reaches the block's last row.
     fn end_bar_at<W: Write>(&mut self, index: usize, row: usize, to: &mut W) -> io::Result<()> {
         let until = match self.lanes.places().get(index) {
             Some(place) if place.is_stack() => Some(row),
@@ -297,10 +294,9 @@ impl<A: Allocator + Copy> Picture<A> {
         row: usize,
         to: &mut W,
     ) -> io::Result<()> {
-        for k in 0..operands.len().min(places.len()) {
-            let operand = operands[k];
-            let row = row_of(operand, row);
-            if let Some(x) = self.lanes.middle(places[k], row) {
+        for (operand, place) in operands.iter().zip(places) {
+            let row = row_of(*operand, row);
+            if let Some(x) = self.lanes.middle(*place, row) {
                 shapes::cell(x, row, operand.vreg(), operand.is_def(), to)?;
             }
         }

@@ -22,12 +22,6 @@ const COLUMN_ROWS: usize = 1000;
 /// The width of the legend, in pixels.
 const LEGEND_WIDTH: usize = 720;
 
-/// The beginning of a picture.
-const BEGIN: &str = "\
-<svg xmlns=\"http://www.w3.org/2000/svg\" width=\"#\" height=\"#\" font-family=\"monospace\" font-size=\"12\">
-<rect width=\"#\" height=\"#\" fill=\"white\"/>
-";
-
 /// The legend of boxes, bars and arrows, above the names.
 const LEGEND: &str = "\
 <g transform=\"translate(8,20)\">\
@@ -48,43 +42,35 @@ const LEGEND: &str = "\
 <text x=\"8\" y=\"44\">block(parameters) to successors(arguments); an instruction: early operands, below late ones</text>
 ";
 
-/// A bar of the value of a vreg, and of an unknown value.
-const BAR: &str = "<path d=\"M#,# V#\" stroke=\"hsl(#,65%,80%)\" stroke-width=\"12\"/>\n";
-
-const UNKNOWN_BAR: &str = "<path d=\"M#,# V#\" stroke=\"gainsboro\" stroke-width=\"12\"/>\n";
-
-/// A box, up to the vreg in it.
-const CELL: &str = "\
-<rect x=\"#\" y=\"#\" width=\"48\" height=\"16\" rx=\"4\" fill=\"hsl(#,65%,80%)\" stroke=\"black\" stroke-width=\"#\"/>
-<text x=\"#\" y=\"#\" text-anchor=\"middle\">";
-
-/// An arrow from the left to the right, and the other way.
-const ARROW: &str = "\
-<circle cx=\"#\" cy=\"#\" r=\"3\"/><path d=\"M#,# H#\" stroke=\"black\"/><path d=\"M#,# l-7,-3 v6 z\"/>
-";
-
-const ARROW_BACK: &str = "\
-<circle cx=\"#\" cy=\"#\" r=\"3\"/><path d=\"M#,# H#\" stroke=\"black\"/><path d=\"M#,# l7,-3 v6 z\"/>
-";
-
-/// The column of a row: rows fill a column downwards, then the next one from its top.
+/// The column of a row: rows fill a column downwards, then the next column from its top.
 pub(crate) fn column_of(row: usize) -> usize {
     row / COLUMN_ROWS
 }
 
-/// The width of a column of this many lanes.
+/// The width of a column of `lanes` lanes.
 pub(crate) fn width(lanes: usize) -> usize {
     lanes.saturating_mul(LANE).saturating_add(LEFT + LANE / 2)
 }
 
-/// The horizontal middle of a lane in a column with that left edge.
+/// The horizontal middle of `lane` in a column whose left edge is at `edge`.
 pub(crate) fn middle(edge: usize, lane: usize) -> usize {
     width(lane).saturating_add(edge)
 }
 
-/// The hue of the vreg of a number.
-fn hue(vreg: usize) -> usize {
-    vreg.saturating_mul(67) % 360
+/// The colour of the vreg with a number, or of an unknown vreg.
+#[derive(Clone, Copy)]
+struct Colour(Option<usize>);
+
+impl fmt::Display for Colour {
+    fn fmt<W: fmt::Write>(&self, f: &mut fmt::Formatter<W>) -> fmt::Result {
+        match self.0 {
+            Some(vreg) => {
+                let hue = vreg.saturating_mul(67) % 360;
+                write!(f, "hsl({hue},65%,80%)")
+            }
+            None => write!(f, "gainsboro"),
+        }
+    }
 }
 
 /// The vertical middle of a row.
@@ -94,31 +80,27 @@ fn height(row: usize) -> usize {
         .saturating_add(TOP + ROW / 2)
 }
 
-/// Writes a form, with the next of as many numbers in place of each `#`.
-fn fill<W: Write>(form: &str, numbers: &[usize], to: &mut W) -> io::Result<()> {
-    let mut pieces = form.split('#');
-    to.write_all(pieces.next().unwrap_or("").as_bytes())?;
-    for number in numbers {
-        let piece = pieces.next().unwrap_or("");
-        write!(to, "{number}{piece}")?;
-    }
-    Ok(())
-}
-
-/// Writes the beginning of a picture of this many rows, whose columns have that width.
+/// Writes the beginning of a picture of `rows` rows; all columns together are `width` pixels wide.
 pub(crate) fn begin<W: Write>(width: usize, rows: usize, to: &mut W) -> io::Result<()> {
     let width = width.max(LEGEND_WIDTH);
     let bottom = TOP.saturating_add(rows.min(COLUMN_ROWS).saturating_add(1).saturating_mul(ROW));
-    fill(BEGIN, &[width, bottom, width, bottom], to)?;
+    writeln!(
+        to,
+        "<svg xmlns=\"http://www.w3.org/2000/svg\" width=\"{width}\" height=\"{bottom}\" font-family=\"monospace\" font-size=\"12\">"
+    )?;
+    writeln!(
+        to,
+        "<rect width=\"{width}\" height=\"{bottom}\" fill=\"white\"/>"
+    )?;
     to.write_all(LEGEND.as_bytes())
 }
 
-/// How many columns this many rows take.
+/// The number of columns that `rows` rows take.
 pub(crate) fn columns(rows: usize) -> usize {
     rows.saturating_sub(1) / COLUMN_ROWS + 1
 }
 
-/// Writes the name of a lane with that middle above it.
+/// Writes `name` above the lane whose middle is at `x`.
 pub(crate) fn name<T: fmt::Display, W: Write>(x: usize, name: &T, to: &mut W) -> io::Result<()> {
     writeln!(
         to,
@@ -126,7 +108,7 @@ pub(crate) fn name<T: fmt::Display, W: Write>(x: usize, name: &T, to: &mut W) ->
     )
 }
 
-/// Writes the text left of a row, in a column with that left edge.
+/// Writes `words` left of `row`, in a column whose left edge is at `edge`.
 pub(crate) fn label<T: fmt::Display, W: Write>(
     edge: usize,
     row: usize,
@@ -138,19 +120,14 @@ pub(crate) fn label<T: fmt::Display, W: Write>(
     writeln!(to, "<text x=\"{x}\" y=\"{y}\">{words}</text>")
 }
 
-/// Writes the line that runs over a column, which has those edges, above a block's first row.
+/// Writes the line over a column between `edges`, above `row`, a block's first.
 pub(crate) fn rule<W: Write>(edges: (usize, usize), row: usize, to: &mut W) -> io::Result<()> {
     let y = height(row).saturating_sub(ROW / 2);
     let (left, right) = edges;
-    fill(
-        "<path d=\"M#,# H#\" stroke=\"silver\"/>\n",
-        &[left, y, right],
-        to,
-    )
+    writeln!(to, "<path d=\"M{left},{y} H{right}\" stroke=\"silver\"/>")
 }
 
-/// Writes one column's part of the bar over these rows, along a lane with that middle, for a vreg
-/// if that is known.
+/// Writes the part in `column` of the bar over `rows`, along the lane whose middle is at `x`, for `vreg` if it is known.
 pub(crate) fn bar<W: Write>(
     x: usize,
     column: usize,
@@ -162,13 +139,14 @@ pub(crate) fn bar<W: Write>(
     let end = begin.saturating_add(COLUMN_ROWS - 1);
     let top = height(rows.0.max(begin));
     let bottom = height(rows.1.min(end));
-    match vreg {
-        Some(number) => fill(BAR, &[x, top, bottom, hue(number)], to),
-        None => fill(UNKNOWN_BAR, &[x, top, bottom], to),
-    }
+    let colour = Colour(vreg);
+    writeln!(
+        to,
+        "<path d=\"M{x},{top} V{bottom}\" stroke=\"{colour}\" stroke-width=\"12\"/>"
+    )
 }
 
-/// Writes a box on a lane with that middle, with the vreg that is read or, with a thicker frame, written there.
+/// Writes a box with `vreg` on the lane whose middle is at `x`; a thicker frame if `is_def`.
 pub(crate) fn cell<W: Write>(
     x: usize,
     row: usize,
@@ -180,19 +158,29 @@ pub(crate) fn cell<W: Write>(
     let y = height(row);
     let top = y.saturating_sub(ROW / 2 - 2);
     let foot = y.saturating_add(4);
+    let colour = Colour(Some(vreg.vreg()));
     let frame = if is_def { 2 } else { 1 };
-    fill(CELL, &[left, top, hue(vreg.vreg()), frame, x, foot], to)?;
-    writeln!(to, "{vreg}</text>")
+    writeln!(
+        to,
+        "<rect x=\"{left}\" y=\"{top}\" width=\"48\" height=\"16\" rx=\"4\" fill=\"{colour}\" stroke=\"black\" stroke-width=\"{frame}\"/>"
+    )?;
+    writeln!(
+        to,
+        "<text x=\"{x}\" y=\"{foot}\" text-anchor=\"middle\">{vreg}</text>"
+    )
 }
 
-/// Writes the arrow of a move, from the middle of a lane to that of another.
+/// Writes the arrow of a move, from the lane whose middle is at `tail` to the lane whose middle is at `tip`.
 pub(crate) fn arrow<W: Write>(tail: usize, tip: usize, row: usize, to: &mut W) -> io::Result<()> {
     let y = height(row);
-    let form = if tail < tip { ARROW } else { ARROW_BACK };
-    fill(form, &[tail, y, tail, y, tip, tip, y], to)
+    // from the tip back to the barbs
+    let back = if tail < tip { "-7" } else { "7" };
+    write!(to, "<circle cx=\"{tail}\" cy=\"{y}\" r=\"3\"/>")?;
+    write!(to, "<path d=\"M{tail},{y} H{tip}\" stroke=\"black\"/>")?;
+    writeln!(to, "<path d=\"M{tip},{y} l{back},-3 v6 z\"/>")
 }
 
 /// Writes the end of a picture.
 pub(crate) fn end<W: Write>(to: &mut W) -> io::Result<()> {
-    to.write_all(b"</svg>\n")
+    writeln!(to, "</svg>")
 }

@@ -14,7 +14,7 @@ use std::alloc::{AllocError, Allocator};
 /// How many rows an instruction takes: one for its early operands, one for the late ones.
 pub(crate) const INST_ROWS: usize = 2;
 
-/// The row of an operand of an instruction that begins in this row.
+/// The row of an operand of an instruction that begins in `row`.
 pub(crate) fn row_of(operand: Operand, row: usize) -> usize {
     if operand.is_late() {
         row.saturating_add(1)
@@ -43,8 +43,8 @@ impl<A: Allocator> Sightings<A> {
         places: &[Allocation],
         row: usize,
     ) -> Result<(), AllocError> {
-        for k in 0..operands.len().min(places.len()) {
-            self.see(places[k], row_of(operands[k], row))?;
+        for (operand, place) in operands.iter().zip(places) {
+            self.see(*place, row_of(*operand, row))?;
         }
         Ok(())
     }

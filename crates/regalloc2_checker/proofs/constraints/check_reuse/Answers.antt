@@ -1,4 +1,4 @@
-use Rattle.std.proofs.Common.{arith, rules}
+use Rattle.std.proofs.Common.{arith, rules, sym, ◌∙◌}
 use Rattle.regalloc2_checker.specs.Report.IsConstraintFault.{reuses_no_register, reuses_no_operand, not_reused}
 use Rattle.regalloc2_checker.proofs.OperandErrors.{not_so}
 use Rattle.regalloc2_checker.proofs.constraints.check_reuse.Goals as goal
@@ -10,5 +10,5 @@ pub returns-then-index-count : goal.returns-then-index-count
 returns-then-index-count g c = λ env. reuses_no_operand c.args.index (search rules) (omega (arith, c.if-index-count.true))
 
 pub returns : goal.returns
-returns g c = λ env. rw c.place_at.ensures (not_reused c.args.index (search rules) (omega (arith, c.if-index-count.false))
-    (λ e. not_so _ _ c.is_reused.ensures c.if-is_reused.false e))
+returns g c = λ env. rw c.place_at-expected_alloc.ensures (not_reused c.args.index (search rules) (omega (arith, c.if-index-count.false))
+    (λ e. not_so _ _ c.is_same.ensures.same c.if-is_same.false (e ∙ sym c.place_at-expected_alloc.ensures)))

@@ -22,7 +22,7 @@ take_arguments-requires-clause-params g c =
 
 pub take_arguments-requires-clause-arguments : goal.take_arguments-requires-clause-arguments
 take_arguments-requires-clause-arguments g c =
-    subst (λ (vs : List VirtualRegister). All (IsListedVReg c.args.values.now.vregs) vs) (sym c.edge_arguments-arguments.ensures)
+    subst (λ (vs : List VirtualRegister). All (IsListedVReg c.args.values.now.vregs) vs) (sym c.branch_blockparams-arguments.ensures)
     (c.requires.named.arguments c.args.block c.args.position c.requires.block c.requires.position)
 
 pub returns-clause-now : goal.returns-clause-now
@@ -33,17 +33,8 @@ returns-clause-now g c =
     index_is (block_at f c.args.block).succs c.block_succs.result.now c.args.position c.index-block_succs-position.result less c.index-block_succs-position.is
     c.block_succs.ensures in
     over_run f c.args.block c.args.position (facts_now c.args.values.now) (facts_now c.take_arguments.new.values) c.block_params-params.result.now
-    c.edge_arguments-arguments.result.now (c.block_params-params.ensures ∙ ap (λ (t : ℕ). (block_at f t).params) target)
-    c.edge_arguments-arguments.ensures c.in_ok-take_arguments.ensures.now
-
-pub edge_arguments-arguments-requires-clause-framed : goal.edge_arguments-arguments-requires-clause-framed
-edge_arguments-arguments-requires-clause-framed g c = c.requires.framed
-
-pub edge_arguments-arguments-requires-clause-block : goal.edge_arguments-arguments-requires-clause-block
-edge_arguments-arguments-requires-clause-block g c = c.requires.block
-
-pub edge_arguments-arguments-requires-clause-position : goal.edge_arguments-arguments-requires-clause-position
-edge_arguments-arguments-requires-clause-position g c = c.requires.position
+    c.branch_blockparams-arguments.result.now (c.block_params-params.ensures ∙ ap (λ (t : ℕ). (block_at f t).params) target)
+    c.branch_blockparams-arguments.ensures c.in_ok-take_arguments.ensures.now
 
 pub returns-in_err-take_arguments : goal.returns-in_err-take_arguments
 returns-in_err-take_arguments g c = record {

@@ -1,4 +1,3 @@
-use Rattle.std.proofs.lemmas.Result.{IfOk-from_err}
 use Rattle.std.proofs.Common.{ℕ, ◌≡◌, ◌+◌, List, sym, ap, ◌∙◌, subst, arith}
 use Rattle.regalloc2_names.specs.Register.{Register}
 use Rattle.regalloc2_fastalloc_state.specs.StateParts.{AreThoseBelow}
@@ -28,9 +27,3 @@ loop-number-preserved g c =
           (those_same c.args.set c.args.class c.loop-number.number c.loop-number.regs.items c.new-preg.result number class
           (sym c.contains.ensures.member ∙ w.if-contains.false) c.loop-number.invariant)
     ]
-
-pub returns-in_err-regs-clause-ok : goal.returns-in_err-regs-clause-ok
-returns-in_err-regs-clause-ok g c = IfOk-from_err c.from_residual.result _ c.from_residual.ensures.0
-
-pub returns-in_err-push-clause-ok : goal.returns-in_err-push-clause-ok
-returns-in_err-push-clause-ok g c = IfOk-from_err c.from_residual-in_err-push.result _ c.from_residual-in_err-push.ensures.0

@@ -1,4 +1,3 @@
-use Rattle.std.proofs.lemmas.Result.{IfOk-from_err}
 use Rattle.std.proofs.Common.{[], List, subst, slice_index_or}
 use Rattle.std.specs.Prelude.{IfOk}
 use Rattle.regalloc2_names.specs.Register.{Register}
@@ -13,12 +12,3 @@ returns-clause-ok g c =
     (subst (λ (l : List Register). IfOk c.new.result (λ r. IsNewRing l (slice_index_or r.items 0 []))) c.deref.ensures.value c.new.ensures.int)
     (subst (λ (l : List Register). IfOk c.new.result (λ r. IsNewRing l (slice_index_or r.items 1 []))) c.deref-2.ensures.value c.new.ensures.float)
     (subst (λ (l : List Register). IfOk c.new.result (λ r. IsNewRing l (slice_index_or r.items 2 []))) c.deref-3.ensures.value c.new.ensures.vector)
-
-pub returns-in_err-int_regs-clause-ok : goal.returns-in_err-int_regs-clause-ok
-returns-in_err-int_regs-clause-ok g c = IfOk-from_err c.from_residual.result _ c.from_residual.ensures.0
-
-pub returns-in_err-float_regs-clause-ok : goal.returns-in_err-float_regs-clause-ok
-returns-in_err-float_regs-clause-ok g c = IfOk-from_err c.from_residual-in_err-float_regs.result _ c.from_residual-in_err-float_regs.ensures.0
-
-pub returns-in_err-vector_regs-clause-ok : goal.returns-in_err-vector_regs-clause-ok
-returns-in_err-vector_regs-clause-ok g c = IfOk-from_err c.from_residual-in_err-vector_regs.result _ c.from_residual-in_err-vector_regs.ensures.0

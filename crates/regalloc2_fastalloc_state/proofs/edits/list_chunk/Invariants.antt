@@ -4,7 +4,7 @@ use Rattle.regalloc2_function.specs.Views.{edit_of}
 use Rattle.regalloc2_fastalloc_state.specs.StateParts.{kept_move}
 use Rattle.regalloc2_fastalloc_state.proofs.edits.list_chunk.Given as goal
 
--- those that were pushed last are listed, and there is room for the others
+-- the moves of the chunk from k on are listed, and there is room for the moves before k
 abbrev pub invariant-loop-k : goal.invariant-loop-k
 invariant-loop-k g l = record {
   within : l.k ≤ length l.chunk;

@@ -1,5 +1,5 @@
 use Rattle.std.proofs.Common.{sym, subst}
-use Rattle.std.proofs.lemmas.Result.{IfErr-weaker, err_from_is_err_and, IfOk-from_err}
+use Rattle.std.proofs.lemmas.Result.{IfErr-weaker, err_from_is_err_and}
 use Rattle.regalloc2_function.specs.FunctionValue.{FunctionValue}
 use Rattle.regalloc2_function.specs.Machine.{MachineValue}
 use Rattle.regalloc2_function.specs.Views.{machine_of}
@@ -33,9 +33,3 @@ returns-clause-refused g c =
     let env : MachineValue = machine_of c.args.env.now in
     IfErr-weaker c.validate_fixed.result (IsFixedFault f env) (IsFunctionFault f env)
     (λ e h. clashing c.in_ok-test_shape.ensures.ok c.in_ok-test_soundness.ensures.sound h) c.validate_fixed.ensures.refused
-
-pub returns-in_err-test_shape-clause-ok : goal.returns-in_err-test_shape-clause-ok
-returns-in_err-test_shape-clause-ok g c = IfOk-from_err c.from_residual.result _ c.from_residual.ensures.0
-
-pub returns-in_err-test_soundness-clause-ok : goal.returns-in_err-test_soundness-clause-ok
-returns-in_err-test_soundness-clause-ok g c = IfOk-from_err c.from_residual-in_err-test_soundness.result _ c.from_residual-in_err-test_soundness.ensures.0

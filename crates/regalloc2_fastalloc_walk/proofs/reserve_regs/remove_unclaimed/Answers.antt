@@ -1,7 +1,7 @@
 use Rattle.std.proofs.Common.{◌≡◌, true, false, sym, ap, ◌∙◌, subst}
 use Rattle.regalloc2_names.specs.Register.{Register}
 use Rattle.regalloc2_names.specs.declared.OperandConstraint.TheVariants.{FixedReg}
-use Rattle.regalloc2_steps.specs.Positions.{positions_of}
+use Rattle.regalloc2_fastalloc_state.specs.Positions.{positions_of}
 use Rattle.regalloc2_fastalloc_state.specs.InstRegs.{RemovesAvailable}
 use Rattle.regalloc2_fastalloc_walk.proofs.RegsReserved.{shrinks_none, shrinks_held, takes_held, taken_one}
 use Rattle.regalloc2_fastalloc_walk.proofs.reserve_regs.remove_unclaimed.Goals as goal

@@ -4,7 +4,6 @@ use Rattle.regalloc2_function.specs.FunctionValue.{FunctionValue, block_at}
 use Rattle.regalloc2_function.specs.WellFormed.{times_in}
 use Rattle.regalloc2_function.specs.Ways.{listed_of}
 use Rattle.regalloc2_function.proofs.PredsListed.{all_ways_end, all_ways_more}
-use Rattle.std.proofs.lemmas.Result.{err_from_is_err_and}
 use Rattle.regalloc2_function.proofs.blocks.add_all_ways.Goals as goal
 
 pub loop-b-preserved : goal.loop-b-preserved
@@ -34,9 +33,6 @@ add_ways-requires g c =
     let less : c.new-block.result < length f.blocks = omega (arith, c.loop-b.invariant.whole, c.loop-b-test.true, c.new-block.ensures) in
     subst (λ n. All (λ s. s < n) c.block_succs.result.now) (sym (c.loop-b.auto.ways ∙ c.requires.long))
     (subst (λ succs. All (λ s. s < length f.blocks) succs) (sym c.block_succs.ensures) (c.requires.blocks.1 c.new-block.result less))
-
-pub returns-in_err-add_ways : goal.returns-in_err-add_ways
-returns-in_err-add_ways g c = let p = err_from_is_err_and c.from_residual.result c.from_residual.ensures.1 in rw p.1 tt
 
 pub loop-b-init : goal.loop-b-init
 loop-b-init g c = record {

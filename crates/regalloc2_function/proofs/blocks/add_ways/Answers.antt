@@ -4,7 +4,6 @@ use Rattle.std.proofs.lemmas.List.{take_all}
 use Rattle.regalloc2_function.specs.WellFormed.{times_in}
 use Rattle.regalloc2_function.specs.Ways.{listed_of}
 use Rattle.regalloc2_function.proofs.PredsListed.{ways_more}
-use Rattle.std.proofs.lemmas.Result.{err_from_is_err_and}
 use Rattle.regalloc2_function.proofs.blocks.add_ways.Goals as goal
 
 pub loop-succ-preserved : goal.loop-succ-preserved
@@ -18,9 +17,6 @@ pub bounds-ways-index : goal.bounds-ways-index
 bounds-ways-index g c =
     let there = c.requires c.loop-succ.succ-index c.succ-item.result c.loop-succ-test.true in
     omega (arith, there, c.succ-item.is, c.index.ensures, c.loop-succ.auto.ways)
-
-pub returns-in_err-push : goal.returns-in_err-push
-returns-in_err-push g c = let p = err_from_is_err_and c.from_residual.result c.from_residual.ensures.1 in rw p.1 tt
 
 pub returns : goal.returns
 returns g c = λ n p. c.loop-succ.invariant n p

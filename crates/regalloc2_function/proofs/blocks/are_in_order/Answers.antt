@@ -1,9 +1,5 @@
 use Rattle.std.proofs.Common.{◌∙◌, ap, replicate}
-use Rattle.std.proofs.lemmas.Result.{IfOk-from_err}
 use Rattle.regalloc2_function.proofs.blocks.are_in_order.Goals as goal
-
-pub returns-in_err-counts : goal.returns-in_err-counts
-returns-in_err-counts g c = IfOk-from_err c.from_residual.result _ c.from_residual.ensures.0
 
 pub pass_in_order-requires-clause-blocks : goal.pass_in_order-requires-clause-blocks
 pass_in_order-requires-clause-blocks g c = c.requires

@@ -16,20 +16,11 @@ pub add_all_ways-requires-clause-none : goal.add_all_ways-requires-clause-none
 add_all_ways-requires-clause-none g c = subst (λ (l : List (Vec ℕ g.row.A.Denot)). (n : ℕ) → listed_of l n ≡ []) (sym c.as_mut_slice.ensures.value)
     c.in_ok-ways.ensures.none
 
-pub returns-in_err-ways-clause-ok : goal.returns-in_err-ways-clause-ok
-returns-in_err-ways-clause-ok g c = let p = err_from_is_err_and c.from_residual.result c.from_residual.ensures.1 in rw p.1 tt
-
 pub returns-in_err-ways-clause-err : goal.returns-in_err-ways-clause-err
 returns-in_err-ways-clause-err g c = let p = err_from_is_err_and c.from_residual.result c.from_residual.ensures.1 in rw p.1 (inl p.2)
 
-pub returns-in_err-add_all_ways-clause-ok : goal.returns-in_err-add_all_ways-clause-ok
-returns-in_err-add_all_ways-clause-ok g c = let p = err_from_is_err_and c.from_residual-in_err-add_all_ways.result c.from_residual-in_err-add_all_ways.ensures.1 in rw p.1 tt
-
 pub returns-in_err-add_all_ways-clause-err : goal.returns-in_err-add_all_ways-clause-err
 returns-in_err-add_all_ways-clause-err g c = let p = err_from_is_err_and c.from_residual-in_err-add_all_ways.result c.from_residual-in_err-add_all_ways.ensures.1 in rw p.1 (inl p.2)
-
-pub returns-in_err-counts-clause-ok : goal.returns-in_err-counts-clause-ok
-returns-in_err-counts-clause-ok g c = let p = err_from_is_err_and c.from_residual-in_err-counts.result c.from_residual-in_err-counts.ensures.1 in rw p.1 tt
 
 pub returns-in_err-counts-clause-err : goal.returns-in_err-counts-clause-err
 returns-in_err-counts-clause-err g c = let p = err_from_is_err_and c.from_residual-in_err-counts.result c.from_residual-in_err-counts.ensures.1 in rw p.1 (inl p.2)

@@ -72,18 +72,6 @@ pub returns-clause-accepted : goal.returns-clause-accepted
 returns-clause-accepted g c = λ shape. IfErr-weaker c.test_branches.result _ (λ e. e ≡ Memory) (λ e h. absurd (h.2.1 (shape.no_operands_into_joins h.0 h.2.0)))
     c.test_branches.ensures.err
 
-pub returns-in_err-test_successors-clause-ok : goal.returns-in_err-test_successors-clause-ok
-returns-in_err-test_successors-clause-ok g c = let p = err_from_is_err_and c.from_residual.result c.from_residual.ensures.1 in rw p.1 tt
-
-pub returns-in_err-test_blocks-clause-ok : goal.returns-in_err-test_blocks-clause-ok
-returns-in_err-test_blocks-clause-ok g c = let p = err_from_is_err_and c.from_residual-in_err-test_blocks.result c.from_residual-in_err-test_blocks.ensures.1 in rw p.1 tt
-
-pub returns-in_err-test_predecessors-clause-ok : goal.returns-in_err-test_predecessors-clause-ok
-returns-in_err-test_predecessors-clause-ok g c = let p = err_from_is_err_and c.from_residual-in_err-test_predecessors.result c.from_residual-in_err-test_predecessors.ensures.1 in rw p.1 tt
-
-pub returns-in_err-test_edges-clause-ok : goal.returns-in_err-test_edges-clause-ok
-returns-in_err-test_edges-clause-ok g c = let p = err_from_is_err_and c.from_residual-in_err-test_edges.result c.from_residual-in_err-test_edges.ensures.1 in rw p.1 tt
-
 pub returns-in_err-test_blocks-clause-accepted : goal.returns-in_err-test_blocks-clause-accepted
 returns-in_err-test_blocks-clause-accepted g c = λ shape.
     (let f : FunctionValue = g.F.Function.function c.args.f.now in

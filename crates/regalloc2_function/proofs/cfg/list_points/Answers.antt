@@ -6,7 +6,6 @@ use Rattle.regalloc2_function.specs.Tables.{entry_point, exit_point}
 use Rattle.regalloc2_function.specs.Following.{end_within}
 use Rattle.regalloc2_function.proofs.BlockRanges.{block_is}
 use Rattle.regalloc2_function.proofs.TablesByBlock.{points_more}
-use Rattle.std.proofs.lemmas.Result.{err_from_is_err_and}
 use Rattle.regalloc2_function.proofs.ListsInParts.{map_taken}
 use Rattle.regalloc2_function.proofs.cfg.list_points.Goals as goal
 
@@ -51,20 +50,6 @@ loop-b-init g c = record { whole = c.num_blocks-b-end.ensures.count; entries = c
 
 pub block_insns-range-requires : goal.block_insns-range-requires
 block_insns-range-requires g c = omega (arith, c.loop-b.invariant.whole, c.loop-b-test.true, c.new.ensures)
-
-pub returns-in_err-push-clause-entries : goal.returns-in_err-push-clause-entries
-returns-in_err-push-clause-entries g c = let p = err_from_is_err_and c.from_residual.result c.from_residual.ensures.1 in rw p.1 tt
-
-pub returns-in_err-push-clause-exits : goal.returns-in_err-push-clause-exits
-returns-in_err-push-clause-exits g c = let p = err_from_is_err_and c.from_residual.result c.from_residual.ensures.1 in rw p.1 tt
-
-pub returns-in_err-push-2-clause-entries : goal.returns-in_err-push-2-clause-entries
-returns-in_err-push-2-clause-entries g c =
-    let p = err_from_is_err_and c.from_residual-in_err-push-2.result c.from_residual-in_err-push-2.ensures.1 in rw p.1 tt
-
-pub returns-in_err-push-2-clause-exits : goal.returns-in_err-push-2-clause-exits
-returns-in_err-push-2-clause-exits g c =
-    let p = err_from_is_err_and c.from_residual-in_err-push-2.result c.from_residual-in_err-push-2.ensures.1 in rw p.1 tt
 
 pub returns-clause-entries : goal.returns-clause-entries
 returns-clause-entries g c =

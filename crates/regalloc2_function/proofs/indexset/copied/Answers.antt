@@ -1,4 +1,3 @@
-use Rattle.std.proofs.lemmas.Result.{IfOk-from_err}
 use Rattle.std.proofs.Common.{◌∙◌}
 use Rattle.regalloc2_function.specs.Numbers.{word_of}
 use Rattle.regalloc2_function.proofs.NumberMaps.{KeysApart-from_distinct}
@@ -17,9 +16,3 @@ loop-key-preserved g c =
           (λ k. word_of c.insert.new.many.entries k) (KeysApart-from_distinct c.args.many.now.entries c.iter.ensures.unique) e c.loop-key.invariant.words
           c.in_ok-insert.ensures.written;
     }
-
-pub returns-in_err-copy : goal.returns-in_err-copy
-returns-in_err-copy g c = IfOk-from_err c.from_residual.result _ c.from_residual.ensures.0
-
-pub returns-in_err-insert : goal.returns-in_err-insert
-returns-in_err-insert g c = IfOk-from_err c.from_residual-in_err-insert.result _ c.from_residual-in_err-insert.ensures.0

@@ -1,4 +1,3 @@
-use Rattle.std.proofs.lemmas.Result.{IfOk-from_err}
 use Rattle.regalloc2_function.proofs.NumberMaps.{word_of-update}
 use Rattle.regalloc2_function.proofs.indexset.insert.Goals as goal
 
@@ -6,6 +5,3 @@ pub returns-clause-written : goal.returns-clause-written
 returns-clause-written g c =
     word_of-update c.args.many.now.entries c.insert.new.self.entries c.args.key c.args.word c.len-words.ensures.unique c.in_ok-insert.ensures.unique
     (λ q. c.in_ok-insert.ensures.updates.0 q)
-
-pub returns-in_err-insert-clause-written : goal.returns-in_err-insert-clause-written
-returns-in_err-insert-clause-written g c = IfOk-from_err c.from_residual.result _ c.from_residual.ensures.0

@@ -3,7 +3,7 @@ use Rattle.std.specs.Prelude.{Any}
 use Rattle.regalloc2_function.specs.FunctionValue.{block_at}
 use Rattle.regalloc2_function.proofs.machine.arguments_name.Given as goal
 
--- none of the arguments so far does
+-- no argument so far names a vreg of the class
 abbrev pub invariant-loop-k : goal.invariant-loop-k
 invariant-loop-k g l = record {
   whole : l.k-end ≡ length (block_at (g.F.Function.function l.f) l.block).succs;

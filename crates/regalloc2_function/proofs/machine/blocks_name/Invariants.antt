@@ -4,7 +4,7 @@ use Rattle.regalloc2_function.specs.FunctionValue.{block_at}
 use Rattle.regalloc2_function.specs.Fitting.{NamesByArgument}
 use Rattle.regalloc2_function.proofs.machine.blocks_name.Given as goal
 
--- none of the blocks so far does
+-- no block so far names a vreg of the class
 abbrev pub invariant-loop-b : goal.invariant-loop-b
 invariant-loop-b g l = record {
   whole : l.b-end ≡ length (g.F.Function.function l.f).blocks;

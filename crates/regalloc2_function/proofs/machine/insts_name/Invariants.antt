@@ -4,7 +4,7 @@ use Rattle.regalloc2_function.specs.FunctionValue.{inst_at}
 use Rattle.regalloc2_names.specs.Operand.{is_fixed_nonallocatable}
 use Rattle.regalloc2_function.proofs.machine.insts_name.Given as goal
 
--- none of the instructions so far does
+-- no instruction so far names a vreg of the class
 abbrev pub invariant-loop-i : goal.invariant-loop-i
 invariant-loop-i g l = record {
   whole : l.i-end ≡ length (g.F.Function.function l.f).insts;

@@ -1,4 +1,3 @@
-use Rattle.std.proofs.lemmas.Result.{IfOk-from_err}
 use Rattle.std.proofs.Common.{rules, ◌≡◌, Option, true, false, sym, ap, ◌∙◌}
 use Rattle.std.specs.Prelude.{MatchOption, None, Some, is_some, not}
 use Rattle.std.proofs.lemmas.Bool.{false≢true}
@@ -68,12 +67,3 @@ returns-clause-ok g c = record {
         (found.0, sym (c.allocatable.ensures found.0) ∙ found.1)
   ];
 }
-
-pub returns-in_err-test_registers-clause-ok : goal.returns-in_err-test_registers-clause-ok
-returns-in_err-test_registers-clause-ok g c = IfOk-from_err c.from_residual.result _ c.from_residual.ensures.0
-
-pub returns-in_err-test_scratch-clause-ok : goal.returns-in_err-test_scratch-clause-ok
-returns-in_err-test_scratch-clause-ok g c = IfOk-from_err c.from_residual-in_err-test_scratch.result _ c.from_residual-in_err-test_scratch.ensures.0
-
-pub returns-in_err-test_slots-clause-ok : goal.returns-in_err-test_slots-clause-ok
-returns-in_err-test_slots-clause-ok g c = IfOk-from_err c.from_residual-in_err-test_slots.result _ c.from_residual-in_err-test_slots.ensures.0

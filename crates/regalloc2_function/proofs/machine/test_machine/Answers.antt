@@ -1,4 +1,4 @@
-use Rattle.std.proofs.lemmas.Result.{IfOk-weaker, IfOk-from_err, err_from_is_err_and}
+use Rattle.std.proofs.lemmas.Result.{IfOk-weaker, err_from_is_err_and}
 use Rattle.regalloc2_function.specs.Fitting.{ClassFits, MachineFits}
 use Rattle.regalloc2_function.specs.Misfit.{IsMisfit}
 use Rattle.regalloc2_function.specs.Views.{machine_of}
@@ -36,12 +36,6 @@ returns-clause-err g c =
     let f = g.F.Function.function c.args.f.now in
     let env = machine_of c.args.env.now in
     denies c.test_class-3.result (MachineFits f env) (IsMisfit f env) c.test_class-3.ensures.misfit (misfit_fails f env)
-
-pub returns-in_err-test_class-clause-ok : goal.returns-in_err-test_class-clause-ok
-returns-in_err-test_class-clause-ok g c = IfOk-from_err c.from_residual.result _ c.from_residual.ensures.0
-
-pub returns-in_err-test_class-2-clause-ok : goal.returns-in_err-test_class-2-clause-ok
-returns-in_err-test_class-2-clause-ok g c = IfOk-from_err c.from_residual-in_err-test_class-2.result _ c.from_residual-in_err-test_class-2.ensures.0
 
 pub returns-then-has_invalid_slot-clause-misfit : goal.returns-then-has_invalid_slot-clause-misfit
 returns-then-has_invalid_slot-clause-misfit g c = c.if-has_invalid_slot.ensures.some

@@ -51,9 +51,6 @@ returns-in_err-test_named-clause-blocks g c = λ succs same. (let p = err_from_i
 pub returns-in_err-test_named-clause-order : goal.returns-in_err-test_named-clause-order
 returns-in_err-test_named-clause-order g c = λ succs same. (let p = err_from_is_err_and c.from_residual.result c.from_residual.ensures.1 in rw p.1 tt)
 
-pub returns-in_err-test_named-clause-once : goal.returns-in_err-test_named-clause-once
-returns-in_err-test_named-clause-once g c = let p = err_from_is_err_and c.from_residual.result c.from_residual.ensures.1 in rw p.1 tt
-
 pub returns-in_err-test_named-clause-reached : goal.returns-in_err-test_named-clause-reached
 returns-in_err-test_named-clause-reached g c = λ succs same. (let p = err_from_is_err_and c.from_residual.result c.from_residual.ensures.1 in rw p.1 tt)
 
@@ -67,10 +64,6 @@ returns-in_err-resize-clause-blocks g c =
 pub returns-in_err-resize-clause-order : goal.returns-in_err-resize-clause-order
 returns-in_err-resize-clause-order g c =
     λ succs same. (let p = err_from_is_err_and c.from_residual-in_err-resize.result c.from_residual-in_err-resize.ensures.1 in rw p.1 tt)
-
-pub returns-in_err-resize-clause-once : goal.returns-in_err-resize-clause-once
-returns-in_err-resize-clause-once g c =
-    let p = err_from_is_err_and c.from_residual-in_err-resize.result c.from_residual-in_err-resize.ensures.1 in rw p.1 tt
 
 pub returns-in_err-resize-clause-reached : goal.returns-in_err-resize-clause-reached
 returns-in_err-resize-clause-reached g c =

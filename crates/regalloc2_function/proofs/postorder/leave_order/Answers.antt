@@ -1,4 +1,3 @@
-use Rattle.std.proofs.lemmas.Result.{IfOk-from_err}
 use Rattle.std.proofs.Common.{ℕ, ◌≡◌, ◌<◌, length, refl, sym, subst, arith, rules}
 use Rattle.regalloc2_function.specs.FunctionValue.{FunctionValue}
 use Rattle.regalloc2_function.specs.WellFormed.{SuccessorsAreBlocks}
@@ -54,12 +53,3 @@ returns-in-Ok-clause-once g c = leaves_once (succs_in (g.F.Function.function c.a
 pub returns-in-Ok-clause-reached : goal.returns-in-Ok-clause-reached
 returns-in-Ok-clause-reached g c = leaves_reached (succs_in (g.F.Function.function c.args.f.now)) (g.F.Function.function c.args.f.now).entry
     c.walk.new.out.items (returns-in-Ok-clause-order g c)
-
-pub returns-in_err-resize-clause-order : goal.returns-in_err-resize-clause-order
-returns-in_err-resize-clause-order g c = IfOk-from_err c.from_residual.result _ c.from_residual.ensures.0
-
-pub returns-in_err-resize-clause-once : goal.returns-in_err-resize-clause-once
-returns-in_err-resize-clause-once g c = IfOk-from_err c.from_residual.result _ c.from_residual.ensures.0
-
-pub returns-in_err-resize-clause-reached : goal.returns-in_err-resize-clause-reached
-returns-in_err-resize-clause-reached g c = IfOk-from_err c.from_residual.result _ c.from_residual.ensures.0

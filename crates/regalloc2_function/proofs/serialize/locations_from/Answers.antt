@@ -1,4 +1,3 @@
-use Rattle.std.proofs.lemmas.Result.{IfOk-from_err}
 use Rattle.std.proofs.Common.{◌≡◌, ℕ, [], ◌∷◌, map, get_or, refl, arith}
 use Rattle.std.proofs.lemmas.List.{map-append, take_all}
 use Rattle.regalloc2_names.specs.Place.{Place}
@@ -16,12 +15,6 @@ loop-word-preserved g c =
     let here : location_of one ≡ stored_location word = rw (c.from_index-from.ensures, c.from_index-to.ensures, c.from_bits.ensures.place) refl in
     rw (c.in_ok-push.ensures.items, map-append location_of done (one ∷ []))
     (more-of-image stored_location words (map location_of done) i (0, 0, 0, 0) (location_of one) c.loop-word-test.true here c.loop-word.invariant)
-
-pub returns-in_err-locations : goal.returns-in_err-locations
-returns-in_err-locations g c = IfOk-from_err c.from_residual.result _ c.from_residual.ensures.0
-
-pub returns-in_err-push : goal.returns-in_err-push
-returns-in_err-push g c = IfOk-from_err c.from_residual-in_err-push.result _ c.from_residual-in_err-push.ensures.0
 
 pub from_index-from-requires : goal.from_index-from-requires
 from_index-from-requires g c = (c.requires c.loop-word.word-index (0, 0, 0, 0) c.loop-word-test.true).0

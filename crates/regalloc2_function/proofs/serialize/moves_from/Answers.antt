@@ -1,4 +1,3 @@
-use Rattle.std.proofs.lemmas.Result.{IfOk-from_err}
 use Rattle.std.proofs.Common.{◌≡◌, ℕ, [], ◌∷◌, map, get_or, refl, arith}
 use Rattle.std.proofs.lemmas.List.{map-append, take_all}
 use Rattle.regalloc2_function.specs.Stored.{stored_move}
@@ -18,12 +17,6 @@ loop-word-preserved g c =
     rw (c.from_index.ensures, c.from_bits-from.ensures.place, c.from_bits-to.ensures.place) refl in
     rw (c.in_ok-push.ensures.items, map-append edit_of done (one ∷ []))
     (more-of-image stored_move words (map edit_of done) i (0, 0, 0) (edit_of one) c.loop-word-test.true here c.loop-word.invariant)
-
-pub returns-in_err-edits : goal.returns-in_err-edits
-returns-in_err-edits g c = IfOk-from_err c.from_residual.result _ c.from_residual.ensures.0
-
-pub returns-in_err-push : goal.returns-in_err-push
-returns-in_err-push g c = IfOk-from_err c.from_residual-in_err-push.result _ c.from_residual-in_err-push.ensures.0
 
 pub from_index-requires : goal.from_index-requires
 from_index-requires g c = (c.requires c.loop-word.word-index (0, 0, 0) c.loop-word-test.true).0

@@ -1,4 +1,3 @@
-use Rattle.std.proofs.lemmas.Result.{IfOk-from_err}
 use Rattle.std.proofs.Common.{arith}
 use Rattle.std.proofs.lemmas.List.{take_all}
 use Rattle.regalloc2_names.specs.PlaceBits.{place_of_bits}
@@ -9,12 +8,6 @@ pub loop-bits-preserved : goal.loop-bits-preserved
 loop-bits-preserved g c =
     rw c.in_ok-push.ensures.items (more-of-image place_of_bits c.args.words.now c.loop-bits.places.items c.loop-bits.bits-index 0 c.from_bits.result
     c.loop-bits-test.true c.from_bits.ensures.place c.loop-bits.invariant)
-
-pub returns-in_err-places : goal.returns-in_err-places
-returns-in_err-places g c = IfOk-from_err c.from_residual.result _ c.from_residual.ensures.0
-
-pub returns-in_err-push : goal.returns-in_err-push
-returns-in_err-push g c = IfOk-from_err c.from_residual-in_err-push.result _ c.from_residual-in_err-push.ensures.0
 
 pub from_bits-requires : goal.from_bits-requires
 from_bits-requires g c = c.requires c.loop-bits.bits-index 0 c.loop-bits-test.true

@@ -27,9 +27,6 @@ returns-clause-err g c =
     (λ e h. names_in_part (block_definitions f b) (map (param_definition b.range.first) b.params) (flat_map (inst_definitions f) (numbers_of b.range)) [] e
     (sym (append-nil (block_definitions f b))) params (rw c.block_insns-range.ensures at h)) c.note_insts.ensures.err
 
-pub returns-in_err-note_params-clause-ok : goal.returns-in_err-note_params-clause-ok
-returns-in_err-note_params-clause-ok g c = let p = err_from_is_err_and c.from_residual.result c.from_residual.ensures.1 in rw p.1 tt
-
 pub returns-in_err-note_params-clause-err : goal.returns-in_err-note_params-clause-err
 returns-in_err-note_params-clause-err g c =
     let f : FunctionValue = g.F.Function.function c.args.f.now in

@@ -1,6 +1,6 @@
 use Rattle.std.proofs.Common.{◌+◌, ◌<◌, length, take, drop, arith}
 use Rattle.std.specs.Prelude.{flat_map}
-use Rattle.std.proofs.lemmas.Result.{err_from_is_err_and, IfOk-from_err}
+use Rattle.std.proofs.lemmas.Result.{err_from_is_err_and}
 use Rattle.regalloc2_function.specs.FunctionValue.{FunctionValue, block_at}
 use Rattle.regalloc2_function.specs.Reasons.{block_definitions, definitions_in}
 use Rattle.regalloc2_function.specs.Definitions.NotesDefinitions.{none}
@@ -33,6 +33,3 @@ loop-b-preserved g c =
     let less : c.loop-b.b < length f.blocks = omega (arith, c.num_blocks-b-end.ensures.count) in
     rw (flat_more (block_definitions f) f.blocks c.loop-b.b (block_at f c.loop-b.b) less (block_is f c.loop-b.b less))
     (notes_append c.loop-b.invariant (rw c.new.ensures at c.in_ok-note_block.ensures.ok))
-
-pub returns-in_err-note_block-clause-ok : goal.returns-in_err-note_block-clause-ok
-returns-in_err-note_block-clause-ok g c = IfOk-from_err c.from_residual.result _ c.from_residual.ensures.0

@@ -1,6 +1,6 @@
 use Rattle.std.proofs.Common.{ℕ, ◌≡◌, ◌+◌, ◌-◌, ◌<◌, arith}
 use Rattle.std.specs.Prelude.{flat_map}
-use Rattle.std.proofs.lemmas.Result.{err_from_is_err_and, IfOk-from_err}
+use Rattle.std.proofs.lemmas.Result.{err_from_is_err_and}
 use Rattle.regalloc2_index.specs.Range.{numbers_from, numbers_of}
 use Rattle.regalloc2_function.specs.FunctionValue.{FunctionValue}
 use Rattle.regalloc2_function.specs.Reasons.{inst_definitions}
@@ -46,6 +46,3 @@ loop-i-preserved g c =
     ) in
     rw (numbers_more (inst_definitions f) first c.loop-i.i) (notes_append c.loop-i.invariant
     (rw (c.inst_operands.ensures, at) at c.in_ok-note_operands.ensures.ok))
-
-pub returns-in_err-note_operands-clause-ok : goal.returns-in_err-note_operands-clause-ok
-returns-in_err-note_operands-clause-ok g c = IfOk-from_err c.from_residual.result _ c.from_residual.ensures.0

@@ -1,6 +1,6 @@
 use Rattle.std.proofs.Common.{[], length, refl, sym, append-nil}
 use Rattle.std.specs.Prelude.{All, flat_map}
-use Rattle.std.proofs.lemmas.Result.{on_ok_weaker, IfErr-weaker, err_from_is_err_and, IfOk-from_err}
+use Rattle.std.proofs.lemmas.Result.{on_ok_weaker, IfErr-weaker, err_from_is_err_and}
 use Rattle.std.proofs.lemmas.List.Elements.{All-append, All-nil}
 use Rattle.regalloc2_index.specs.Range.{numbers_from, numbers_of}
 use Rattle.regalloc2_function.specs.FunctionValue.{FunctionValue, BlockValue, block_at}
@@ -34,6 +34,3 @@ returns-clause-err g c =
     IfErr-weaker c.test_passed.result _ (NamesUnusable c.args.defined.now (block_uses f b))
     (λ e h. unusable_in_part c.args.defined.now (block_uses f b) (flat_map (inst_reads f) (numbers_of b.range))
     (flat_map (passed_at b) (numbers_from 0 (length b.succs))) [] e (sym (append-nil (block_uses f b))) read h) c.test_passed.ensures.err
-
-pub returns-in_err-test_reads-clause-ok : goal.returns-in_err-test_reads-clause-ok
-returns-in_err-test_reads-clause-ok g c = IfOk-from_err c.from_residual.result _ c.from_residual.ensures.0

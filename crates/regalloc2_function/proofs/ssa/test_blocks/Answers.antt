@@ -1,6 +1,6 @@
 use Rattle.std.proofs.Common.{◌+◌, ◌<◌, length, take, drop, arith}
 use Rattle.std.specs.Prelude.{flat_map}
-use Rattle.std.proofs.lemmas.Result.{err_from_is_err_and, IfOk-from_err}
+use Rattle.std.proofs.lemmas.Result.{err_from_is_err_and}
 use Rattle.std.proofs.lemmas.List.Elements.{All-append, All-same}
 use Rattle.regalloc2_function.specs.FunctionValue.{FunctionValue, block_at}
 use Rattle.regalloc2_function.specs.Reasons.{block_uses, uses_in}
@@ -38,6 +38,3 @@ returns-clause-ok g c =
     let f : FunctionValue = g.F.Function.function c.args.f.now in
     All-same (IsUsable c.args.defined.now) _ _ (flat_taken (block_uses f) f.blocks c.loop-b.b (omega (arith, c.num_blocks-b-end.ensures.count)))
     c.loop-b.invariant
-
-pub returns-in_err-test_block-clause-ok : goal.returns-in_err-test_block-clause-ok
-returns-in_err-test_block-clause-ok g c = IfOk-from_err c.from_residual.result _ c.from_residual.ensures.0

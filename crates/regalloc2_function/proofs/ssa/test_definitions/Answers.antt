@@ -1,5 +1,5 @@
 use Rattle.std.proofs.Common.{◌≡◌, length, sym, subst, arith, ◌∙◌, Option, None, refl}
-use Rattle.std.proofs.lemmas.Result.{IfErr-weaker, IfOk-from_err}
+use Rattle.std.proofs.lemmas.Result.{IfErr-weaker}
 use Rattle.regalloc2_names.specs.declared.RegAllocError.TheVariants.{Memory}
 use Rattle.regalloc2_function.specs.FunctionValue.{FunctionValue}
 use Rattle.regalloc2_function.specs.Reasons.{IsDefinitionFault}
@@ -46,9 +46,3 @@ returns-clause-uses g c = c.test_over.ensures.uses
 
 pub returns-clause-refused : goal.returns-clause-refused
 returns-clause-refused g c = c.test_over.ensures.refused
-
-pub returns-in_err-defined-clause-once : goal.returns-in_err-defined-clause-once
-returns-in_err-defined-clause-once g c = IfOk-from_err c.from_residual.result _ c.from_residual.ensures.0
-
-pub returns-in_err-defined-clause-uses : goal.returns-in_err-defined-clause-uses
-returns-in_err-defined-clause-uses g c = IfOk-from_err c.from_residual.result _ c.from_residual.ensures.0

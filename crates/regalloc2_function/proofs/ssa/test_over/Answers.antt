@@ -1,5 +1,5 @@
 use Rattle.std.proofs.Common.{ℕ, None, length, replicate, subst}
-use Rattle.std.proofs.lemmas.Result.{on_ok_weaker, IfErr-weaker, err_from_is_err_and, IfOk-from_err}
+use Rattle.std.proofs.lemmas.Result.{on_ok_weaker, IfErr-weaker, err_from_is_err_and}
 use Rattle.regalloc2_function.specs.FunctionValue.{FunctionValue}
 use Rattle.regalloc2_function.specs.Reasons.{IsDefinitionFault, definitions_in}
 use Rattle.regalloc2_function.specs.Definitions.{NamesTaken, NotesDefinitions, Table}
@@ -38,9 +38,3 @@ returns-clause-refused g c =
     subst (λ (t : Table). NotesDefinitions t (definitions_in f) c.note_blocks.new.defined) c.requires.blank c.in_ok-note_blocks.ensures.ok in
     IfErr-weaker c.test_blocks.result _ (IsDefinitionFault f)
     (λ e h. unusable_fault f c.requires.follow c.requires.some c.note_blocks.new.defined n c.requires.few noted e h) c.test_blocks.ensures.err
-
-pub returns-in_err-note_blocks-clause-once : goal.returns-in_err-note_blocks-clause-once
-returns-in_err-note_blocks-clause-once g c = IfOk-from_err c.from_residual.result _ c.from_residual.ensures.0
-
-pub returns-in_err-note_blocks-clause-uses : goal.returns-in_err-note_blocks-clause-uses
-returns-in_err-note_blocks-clause-uses g c = IfOk-from_err c.from_residual.result _ c.from_residual.ensures.0

@@ -1,7 +1,7 @@
 use Rattle.std.proofs.Common.{◌≡◌, ◌+◌, ◌-◌, ◌<◌, length, refl, ap, arith}
 use Rattle.std.specs.Prelude.{flat_map}
 use Rattle.std.proofs.lemmas.List.Elements.{All-append, All-nil, All-same}
-use Rattle.std.proofs.lemmas.Result.{err_from_is_err_and, IfOk-from_err}
+use Rattle.std.proofs.lemmas.Result.{err_from_is_err_and}
 use Rattle.regalloc2_index.specs.Range.{numbers_from}
 use Rattle.regalloc2_function.specs.FunctionValue.{BlockValue, block_at}
 use Rattle.regalloc2_function.specs.WellFormed.{last_of}
@@ -45,9 +45,6 @@ returns-clause-ok g c =
     let b : BlockValue = block_at (g.F.Function.function c.args.f.now) c.args.block in
     let all : length b.succs ≡ c.loop-k.k = rw (← c.block_succs-k-end.ensures) (omega arith) in
     All-same (IsUsable c.args.defined.now) _ _ (ap (λ n. flat_map (passed_at b) (numbers_from 0 n)) all) c.loop-k.invariant
-
-pub returns-in_err-test_arguments-clause-ok : goal.returns-in_err-test_arguments-clause-ok
-returns-in_err-test_arguments-clause-ok g c = IfOk-from_err c.from_residual.result _ c.from_residual.ensures.0
 
 pub last-last-requires : goal.last-last-requires
 last-last-requires g c = rw c.block_insns.ensures c.requires.nonempty

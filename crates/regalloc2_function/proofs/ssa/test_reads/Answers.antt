@@ -1,7 +1,7 @@
 use Rattle.std.proofs.Common.{ℕ, ◌≡◌, ◌+◌, ◌-◌, ◌<◌, ap, arith}
 use Rattle.std.specs.Prelude.{flat_map}
 use Rattle.std.proofs.lemmas.List.Elements.{All-append, All-same}
-use Rattle.std.proofs.lemmas.Result.{err_from_is_err_and, IfOk-from_err}
+use Rattle.std.proofs.lemmas.Result.{err_from_is_err_and}
 use Rattle.regalloc2_index.specs.Range.{numbers_from, numbers_of}
 use Rattle.regalloc2_function.specs.FunctionValue.{FunctionValue}
 use Rattle.regalloc2_function.specs.Reasons.{inst_reads}
@@ -51,6 +51,3 @@ returns-clause-ok g c =
     let f : FunctionValue = g.F.Function.function c.args.f.now in
     let all : c.args.range.end - c.args.range.first ≡ c.loop-i.i = omega (arith, c.len-i-end.ensures.len) in
     All-same (IsUsable c.args.defined.now) _ _ (ap (λ n. flat_map (inst_reads f) (numbers_from c.args.range.first n)) all) c.loop-i.invariant
-
-pub returns-in_err-test_operands-clause-ok : goal.returns-in_err-test_operands-clause-ok
-returns-in_err-test_operands-clause-ok g c = IfOk-from_err c.from_residual.result _ c.from_residual.ensures.0

@@ -57,19 +57,12 @@ returns-clause-refused g c =
     IfErr-weaker c.test_definitions.result (IsDefinitionFault f) (Fault f)
     (definition_fault f c.in_ok-test_entry.ensures.ok (c.in_ok-test_ends.ensures.ok.0 refl) c.in_ok-test_fit.ensures.ok) c.test_definitions.ensures.refused
 
-pub returns-in_err-test_entry-clause-sound : goal.returns-in_err-test_entry-clause-sound
-returns-in_err-test_entry-clause-sound g c = let p = err_from_is_err_and c.from_residual.result c.from_residual.ensures.1 in rw p.1 tt
-
 pub returns-in_err-test_entry-clause-accepted : goal.returns-in_err-test_entry-clause-accepted
 returns-in_err-test_entry-clause-accepted g c = λ sound.
     (let no : ⊥ = elim c.in_err-test_entry.ensures.err [
       | inl h ↦ h.0 sound.entry.0
       | inr h ↦ h.1 sound.entry.1
     ] in absurd no)
-
-pub returns-in_err-test_ends-clause-sound : goal.returns-in_err-test_ends-clause-sound
-returns-in_err-test_ends-clause-sound g c =
-    let p = err_from_is_err_and c.from_residual-in_err-test_ends.result c.from_residual-in_err-test_ends.ensures.1 in rw p.1 tt
 
 pub returns-in_err-test_ends-clause-accepted : goal.returns-in_err-test_ends-clause-accepted
 returns-in_err-test_ends-clause-accepted g c = λ sound. (let h = c.in_err-test_ends.ensures.first in absurd (h.2.1 (sound.end h.0 h.2.0)))
@@ -79,10 +72,6 @@ test_fit-requires-clause-blocks g c = c.requires.successors
 
 pub test_fit-requires-clause-follow : goal.test_fit-requires-clause-follow
 test_fit-requires-clause-follow g c = c.requires.follow
-
-pub returns-in_err-test_fit-clause-sound : goal.returns-in_err-test_fit-clause-sound
-returns-in_err-test_fit-clause-sound g c =
-    let p = err_from_is_err_and c.from_residual-in_err-test_fit.result c.from_residual-in_err-test_fit.ensures.1 in rw p.1 tt
 
 pub test_definitions-requires-clause-follow : goal.test_definitions-requires-clause-follow
 test_definitions-requires-clause-follow g c = c.requires.follow

@@ -29,9 +29,6 @@ returns-clause-all g c = c.loop-m.invariant ∙ ap with_units (take_all c.loop-m
 pub returns-clause-memory : goal.returns-clause-memory
 returns-clause-memory g c = tt
 
-pub returns-in_err-add-clause-all : goal.returns-in_err-add-clause-all
-returns-in_err-add-clause-all g c = let p = err_from_is_err_and c.from_residual.result c.from_residual.ensures.1 in rw p.1 tt
-
 pub returns-in_err-add-clause-memory : goal.returns-in_err-add-clause-memory
 returns-in_err-add-clause-memory g c =
     let p = err_from_is_err_and c.from_residual.result c.from_residual.ensures.1 in rw p.1 (p.2 ∙ c.in_err-add.ensures.memory)

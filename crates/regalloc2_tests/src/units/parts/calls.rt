@@ -162,7 +162,7 @@ fn cycle_after(
     Ok(moves)
 }
 
-/// Writes what is made of such a cycle, and what the results are where an allocation fails.
+/// Writes what `schedule` makes of a cycle, and its results where an allocation fails.
 pub fn write_refused(global: Global, out: &mut Report) -> Result<(), AllocError> {
     for (first, free) in [((0, 1), 5), ((0, SLOT + 2), 5), ((0, 1), 0)] {
         let moves = cycle_after(global, first)?;

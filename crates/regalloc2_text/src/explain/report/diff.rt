@@ -1,12 +1,13 @@
 //! How two allocations of one function differ.
 
-use crate::explain::report::places::{OperandText, PlaceText, PointText};
+use crate::explain::report::operand::ReportedOperand;
 use crate::explain::stored::{operands_at, places_of};
+use crate::spell::{StoredPlace, StoredPoint};
 use regalloc2_function::StoredOutput;
 use regalloc2_serialize::StoredFunction;
 use std::io::{self, Write};
 
-/// The text of a place that is none.
+/// The encoding of no place.
 const NONE: u32 = 0;
 
 /// A stored move: a program point, the place that is read, and the place that is written.
@@ -42,9 +43,9 @@ fn next_point(first: &[Move], second: &[Move]) -> Option<u32> {
 /// Writes the moves at one point that only one side has, a line for each.
 fn write_moves<W: Write>(sign: &str, moves: &[Move], to: &mut W) -> io::Result<()> {
     for (point, from, into) in moves {
-        let point = PointText(*point);
-        let from = PlaceText(*from);
-        let into = PlaceText(*into);
+        let point = StoredPoint(*point);
+        let from = StoredPlace(*from);
+        let into = StoredPlace(*into);
         writeln!(to, "{sign} {point} move {from} -> {into}")?;
     }
     Ok(())
@@ -93,9 +94,9 @@ fn diff_inst<W: Write>(
         let here = left.get(k).copied().unwrap_or(NONE);
         let there = right.get(k).copied().unwrap_or(NONE);
         if here != there {
-            let operand = OperandText(*operand);
-            let here = PlaceText(here);
-            let there = PlaceText(there);
+            let operand = ReportedOperand(*operand);
+            let here = StoredPlace(here);
+            let there = StoredPlace(there);
             writeln!(to, "  inst{inst} {operand}: {here}, {there}")?;
             differs = true;
         }

@@ -1,7 +1,8 @@
 //! A function with its allocation, in the form in which upstream prints results.
 
-use crate::explain::report::places::{OperandText, PlaceText, RegisterText};
+use crate::explain::report::operand::ReportedOperand;
 use crate::explain::stored::{list_of, moves_from, operands_at, places_of};
+use crate::spell::{StoredPlace, StoredPoint, StoredRegister};
 use regalloc2_function::StoredOutput;
 use regalloc2_serialize::{InstOpcode, StoredFunction};
 use std::fmt;
@@ -42,8 +43,8 @@ fn name_of(op: InstOpcode) -> &'static str {
 fn write_operands<W: Write>(operands: &[u64], places: &[u32], to: &mut W) -> io::Result<()> {
     for (k, bits) in operands.iter().enumerate() {
         let before = if k == 0 { "" } else { ", " };
-        let operand = OperandText(*bits);
-        let place = PlaceText(places.get(k).copied().unwrap_or(0));
+        let operand = ReportedOperand(*bits);
+        let place = StoredPlace(places.get(k).copied().unwrap_or(0));
         write!(to, "{before}{operand} [{place}]")?;
     }
     Ok(())
@@ -53,7 +54,7 @@ fn write_operands<W: Write>(operands: &[u64], places: &[u32], to: &mut W) -> io:
 fn write_clobbers<W: Write>(clobbers: &[u8], to: &mut W) -> io::Result<()> {
     for (k, clobber) in clobbers.iter().enumerate() {
         let before = if k == 0 { " [clobber: " } else { ", " };
-        let register = RegisterText(*clobber);
+        let register = StoredRegister(*clobber);
         write!(to, "{before}{register}")?;
     }
     if clobbers.is_empty() {
@@ -64,15 +65,14 @@ fn write_clobbers<W: Write>(clobbers: &[u8], to: &mut W) -> io::Result<()> {
 
 /// Writes the moves at a point, as upstream's annotations of results.
 fn write_moves<W: Write>(output: &StoredOutput, point: u64, to: &mut W) -> io::Result<()> {
-    let inst = point / 2;
-    let ending = if point % 2 == 0 { "pre" } else { "post" };
     for (at, from, into) in moves_from(output.edits.as_slice(), point) {
         if u64::from(*at) != point {
             break;
         }
-        let from = PlaceText(*from);
-        let into = PlaceText(*into);
-        writeln!(to, "  inst{inst}-{ending}: move {from} -> {into}")?;
+        let at = StoredPoint(*at);
+        let from = StoredPlace(*from);
+        let into = StoredPlace(*into);
+        writeln!(to, "  {at}: move {from} -> {into}")?;
     }
     Ok(())
 }

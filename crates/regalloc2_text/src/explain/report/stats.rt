@@ -1,9 +1,8 @@
 //! Counts of an allocated function.
 
-use crate::explain::report::places::is_memory;
 use crate::explain::stored::operand_of;
 use regalloc2_function::StoredOutput;
-use regalloc2_names::OperandConstraint;
+use regalloc2_names::{Allocation, OperandConstraint};
 use regalloc2_serialize::{StoredFunction, StoredMachine};
 use std::fmt;
 
@@ -53,6 +52,22 @@ fn index_of(constraint: OperandConstraint) -> usize {
     }
 }
 
+/// Returns whether the place with the encoding `bits` is a stack place: a spill slot, or a register
+/// that is a fixed stack slot.
+fn is_stack_place(machine: &StoredMachine, bits: u32) -> bool {
+    if !Allocation::is_bits(bits) {
+        return false;
+    }
+    let place = Allocation::from_bits(bits);
+    match place.as_reg() {
+        Some(register) => {
+            let index = register.index() as u8;
+            machine.fixed_stack_slots.as_slice().contains(&index)
+        }
+        None => place.is_stack(),
+    }
+}
+
 impl Stats {
     /// The counts of a function with its output. A stack-to-stack move, which no faithful output
     /// has, counts as a store. Linear in both.
@@ -89,9 +104,9 @@ impl Stats {
 
     /// Counts a move.
     fn count_move(&mut self, machine: &StoredMachine, from: u32, to: u32) {
-        if is_memory(machine, to) {
+        if is_stack_place(machine, to) {
             self.stores = self.stores.saturating_add(1);
-        } else if is_memory(machine, from) {
+        } else if is_stack_place(machine, from) {
             self.loads = self.loads.saturating_add(1);
         } else {
             self.register_moves = self.register_moves.saturating_add(1);

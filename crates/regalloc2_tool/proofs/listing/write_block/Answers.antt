@@ -4,7 +4,7 @@ use Rattle.std.proofs.lemmas.List.Elements.{All-tail}
 use Rattle.regalloc2_function.specs.FunctionValue.{block_at}
 use Rattle.regalloc2_function.specs.Views.{output_of}
 use Rattle.regalloc2_tool.specs.Listing.{item_line}
-use Rattle.regalloc2_tool.proofs.ListedInsts.{IsBelow, block_below, first_below}
+use Rattle.regalloc2_tool.proofs.ListedInsts.{HasInstBelow, block_below, first_below}
 use Rattle.regalloc2_tool.proofs.ListingLines.{block_begun, next_inst, next_move}
 use Rattle.regalloc2_tool.proofs.WrittenInParts.{none_written, more_written, all_written}
 use Rattle.regalloc2_tool.proofs.listing.write_block.Goals as goal
@@ -25,14 +25,14 @@ write_inst-requires-clause-inst g c = first_below _ _ _ _ _ c.loop-item.invarian
 
 pub loop-item-preserved-in-Continue-branch-2 : goal.loop-item-preserved-in-Continue-branch-2
 loop-item-preserved-in-Continue-branch-2 g c = (
-  All-tail (IsBelow (length (g.F.Function.function c.args.f.now).insts)) _ _ (rw c.in-Some.ensures.steps at c.loop-item.invariant.0),
+  All-tail (HasInstBelow (length (g.F.Function.function c.args.f.now).insts)) _ _ (rw c.in-Some.ensures.steps at c.loop-item.invariant.0),
   more_written _ _ _ _ _ _ _ c.loop-item.invariant.1 c.in_ok-write_inst-in-Inst.ensures
       (next_inst (g.F.Function.function c.args.f.now) (output_of c.args.output.now) _ _ _ _ c.in-Some.ensures.steps c.in-Inst.is),
 )
 
 pub loop-item-preserved : goal.loop-item-preserved
 loop-item-preserved g c = (
-  All-tail (IsBelow (length (g.F.Function.function c.args.f.now).insts)) _ _ (rw c.in-Some.ensures.steps at c.loop-item.invariant.0),
+  All-tail (HasInstBelow (length (g.F.Function.function c.args.f.now).insts)) _ _ (rw c.in-Some.ensures.steps at c.loop-item.invariant.0),
   more_written _ _ _ _ _ _ _ c.loop-item.invariant.1 c.in_ok-write_move-in-Edit.ensures
       (next_move (g.F.Function.function c.args.f.now) (output_of c.args.output.now) _ _ _ _ c.in-Some.ensures.steps c.in-Edit.is),
 )

@@ -1,4 +1,3 @@
-use Rattle.std.proofs.lemmas.Result.{IfOk-from_err}
 use Rattle.std.proofs.Common.{arith}
 use Rattle.std.proofs.KnownBytes.{Appends-nil}
 use Rattle.std.specs.Prelude.{[]}
@@ -17,6 +16,3 @@ loop-b-preserved g c = more_written _ _ _ _ _ _ _ c.loop-b.invariant c.in_ok-wri
 pub returns : goal.returns
 returns g c = all_written _ _ _ _ c.loop-b.invariant (no_more_blocks (g.F.Function.function c.args.f.now) (output_of c.args.output.now) c.loop-b.b
     (omega arith))
-
-pub returns-in_err-write_block : goal.returns-in_err-write_block
-returns-in_err-write_block g c = IfOk-from_err c.from_residual.result _ c.from_residual.ensures.0

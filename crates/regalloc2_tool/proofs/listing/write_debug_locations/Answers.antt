@@ -1,4 +1,3 @@
-use Rattle.std.proofs.lemmas.Result.{IfOk-from_err}
 use Rattle.std.proofs.Common.{refl}
 use Rattle.std.proofs.KnownBytes.{Appends-nil}
 use Rattle.std.specs.Prelude.{[]}
@@ -21,6 +20,3 @@ loop-location-preserved g c = more_written _ _ _ _ _ _ _ c.loop-location.invaria
 pub returns : goal.returns
 returns g c = all_written _ _ _ _ c.loop-location.invariant (no_more_locations _ c.deref-location-items.result.now c.loop-location.location-index
     c.loop-location-test.false)
-
-pub returns-in_err-write_debug_location : goal.returns-in_err-write_debug_location
-returns-in_err-write_debug_location g c = IfOk-from_err c.from_residual.result _ c.from_residual.ensures.0

@@ -1,4 +1,3 @@
-use Rattle.std.proofs.lemmas.Result.{IfOk-from_err}
 use Rattle.regalloc2_function.specs.Views.{output_of}
 use Rattle.regalloc2_tool.proofs.ListingLines.{listing_written}
 use Rattle.regalloc2_tool.proofs.listing.write_listing.Goals as goal
@@ -6,9 +5,3 @@ use Rattle.regalloc2_tool.proofs.listing.write_listing.Goals as goal
 pub returns : goal.returns
 returns g c = listing_written c.write_debug_locations.result _ _ _ _ (g.F.Function.function c.args.f.now) (output_of c.args.output.now)
     c.in_ok-write_blocks.ensures c.in_ok-writeln.ensures.bytes c.write_debug_locations.ensures
-
-pub returns-in_err-write_blocks : goal.returns-in_err-write_blocks
-returns-in_err-write_blocks g c = IfOk-from_err c.from_residual.result _ c.from_residual.ensures.0
-
-pub returns-in_err-writeln : goal.returns-in_err-writeln
-returns-in_err-writeln g c = IfOk-from_err c.from_residual-in_err-writeln.result _ c.from_residual-in_err-writeln.ensures.0

@@ -1,4 +1,3 @@
-use Rattle.std.proofs.lemmas.Result.{IfOk-from_err}
 use Rattle.regalloc2_tool.proofs.WrittenInParts.{more_written, all_written}
 use Rattle.regalloc2_tool.proofs.ListingLines.{next_operand, no_more_operands}
 use Rattle.regalloc2_tool.proofs.listing.write_operands.Goals as goal
@@ -10,6 +9,3 @@ loop-k-preserved g c = more_written _ _ _ _ _ _ _ c.loop-k.invariant c.in_ok-wri
 
 pub returns : goal.returns
 returns g c = all_written _ _ _ _ c.loop-k.invariant (no_more_operands c.args.places.now c.args.operands.now c.loop-k.k c.loop-k-test.false)
-
-pub returns-in_err-write_operand : goal.returns-in_err-write_operand
-returns-in_err-write_operand g c = IfOk-from_err c.from_residual.result _ c.from_residual.ensures.0

@@ -1,4 +1,4 @@
-use Rattle.std.proofs.Common.{true, false, sym, ◌∙◌}
+use Rattle.std.proofs.Common.{sym, ◌∙◌}
 use Rattle.std.proofs.lemmas.Result.{err_from_is_err_and}
 use Rattle.regalloc2_function.specs.FunctionValue.{FunctionValue}
 use Rattle.regalloc2_analysis.proofs.BranchDefsLemmas.Tables.{tables_all, tables_none}
@@ -39,26 +39,17 @@ branch_sites-requires-clause-well_formed g c = c.requires.well_formed
 pub branch_sites-requires-clause-room : goal.branch_sites-requires-clause-room
 branch_sites-requires-clause-room g c = c.table_length-vregs.ensures.room
 
-pub returns-in_err-sites-clause-ok : goal.returns-in_err-sites-clause-ok
-returns-in_err-sites-clause-ok g c = let p = err_from_is_err_and c.from_residual.result c.from_residual.ensures.1 in rw p.1 tt
-
 pub returns-in_err-sites-clause-memory : goal.returns-in_err-sites-clause-memory
 returns-in_err-sites-clause-memory g c = let p = err_from_is_err_and c.from_residual.result c.from_residual.ensures.1 in rw p.1 p.2
 
 pub returns-in_err-sites-clause-asked : goal.returns-in_err-sites-clause-asked
 returns-in_err-sites-clause-asked g c = let p = err_from_is_err_and c.from_residual.result c.from_residual.ensures.1 in rw p.1 (c.some_branch_defines.ensures.0 c.if-not-some_branch_defines.false)
 
-pub returns-in_err-used-clause-ok : goal.returns-in_err-used-clause-ok
-returns-in_err-used-clause-ok g c = let p = err_from_is_err_and c.from_residual-in_err-used.result c.from_residual-in_err-used.ensures.1 in rw p.1 tt
-
 pub returns-in_err-used-clause-memory : goal.returns-in_err-used-clause-memory
 returns-in_err-used-clause-memory g c = let p = err_from_is_err_and c.from_residual-in_err-used.result c.from_residual-in_err-used.ensures.1 in rw p.1 p.2
 
 pub returns-in_err-used-clause-asked : goal.returns-in_err-used-clause-asked
 returns-in_err-used-clause-asked g c = let p = err_from_is_err_and c.from_residual-in_err-used.result c.from_residual-in_err-used.ensures.1 in rw p.1 (c.some_branch_defines.ensures.0 c.if-not-some_branch_defines.false)
-
-pub returns-in_err-edges-clause-ok : goal.returns-in_err-edges-clause-ok
-returns-in_err-edges-clause-ok g c = let p = err_from_is_err_and c.from_residual-in_err-edges.result c.from_residual-in_err-edges.ensures.1 in rw p.1 tt
 
 pub returns-in_err-edges-clause-memory : goal.returns-in_err-edges-clause-memory
 returns-in_err-edges-clause-memory g c = let p = err_from_is_err_and c.from_residual-in_err-edges.result c.from_residual-in_err-edges.ensures.1 in rw p.1 p.2

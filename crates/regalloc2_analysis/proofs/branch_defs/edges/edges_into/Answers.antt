@@ -1,8 +1,7 @@
 use Rattle.std.proofs.Common.{List, Option, ◌∙◌, sym, subst}
-use Rattle.std.proofs.lemmas.Result.{err_from_is_err_and}
 use Rattle.std.proofs.lemmas.List.{with_items_is}
 use Rattle.regalloc2_function.specs.FunctionValue.{FunctionValue}
-use Rattle.regalloc2_analysis_steps.specs.declared.edges.EdgeInto.{EdgeInto}
+use Rattle.regalloc2_analysis.specs.declared.branch_defs.EdgeInto.{EdgeInto}
 use Rattle.regalloc2_analysis.specs.BranchDefs.Tables.{AreEdges}
 use Rattle.regalloc2_analysis.proofs.BranchDefsLemmas.EdgeNotes.{edges_none}
 use Rattle.regalloc2_analysis.proofs.branch_defs.edges.edges_into.Goals as goal
@@ -21,10 +20,3 @@ note_edges-requires-clause-well_formed g c = c.requires.well_formed
 
 pub note_edges-requires-clause-used : goal.note_edges-requires-clause-used
 note_edges-requires-clause-used g c = c.requires.used
-
-pub returns-in_err-edges : goal.returns-in_err-edges
-returns-in_err-edges g c = let p = err_from_is_err_and c.from_residual.result c.from_residual.ensures.1 in rw p.1 tt
-
-pub returns-in_err-note_edges : goal.returns-in_err-note_edges
-returns-in_err-note_edges g c =
-    let p = err_from_is_err_and c.from_residual-in_err-note_edges.result c.from_residual-in_err-note_edges.ensures.1 in rw p.1 tt

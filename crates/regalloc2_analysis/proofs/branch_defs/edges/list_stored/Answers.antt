@@ -1,5 +1,4 @@
 use Rattle.std.proofs.Common.{ℕ, ◌≡◌, List, length, sym, subst, arith, ◌∙◌}
-use Rattle.std.proofs.lemmas.Result.{err_from_is_err_and}
 use Rattle.regalloc2_names.specs.Operand.{OperandValue}
 use Rattle.regalloc2_analysis.specs.BranchDefs.Notes.{IsMarkedDefinition, ListsStored}
 use Rattle.regalloc2_analysis.proofs.BranchDefsLemmas.BlockEnds.{read_operand}
@@ -30,6 +29,3 @@ pub returns : goal.returns
 returns g c =
     let all : c.loop-k.k ≡ length c.args.operands.now = omega (arith, c.loop-k.auto.k-end, c.loop-k-test.false) in
     subst (λ (n : ℕ). ListsStored c.args.used.now c.args.operands.now n c.args.stored.now.items c.loop-k.stored.items) all c.loop-k.invariant
-
-pub returns-in_err-push : goal.returns-in_err-push
-returns-in_err-push g c = let p = err_from_is_err_and c.from_residual.result c.from_residual.ensures.1 in rw p.1 tt

@@ -1,4 +1,3 @@
-use Rattle.std.proofs.lemmas.Result.{IfOk-from_err}
 use Rattle.std.proofs.Common.{ℕ, ◌≡◌, length, sym, subst, arith}
 use Rattle.regalloc2_function.specs.FunctionValue.{FunctionValue}
 use Rattle.regalloc2_analysis.specs.BranchDefs.Tables.{AreEdges}
@@ -20,6 +19,3 @@ returns g c =
     let f : FunctionValue = g.F.Function.function c.args.f.now in
     let all : c.loop-b.b ≡ length f.blocks = omega (arith, c.loop-b.invariant.within) in
     subst (λ (n : ℕ). AreEdges f n c.loop-b.edges c.loop-b.stored.items) all c.loop-b.invariant.noted
-
-pub returns-in_err-note_edges_of : goal.returns-in_err-note_edges_of
-returns-in_err-note_edges_of g c = IfOk-from_err c.from_residual.result _ c.from_residual.ensures.0

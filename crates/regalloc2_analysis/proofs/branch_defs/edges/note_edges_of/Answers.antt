@@ -1,4 +1,3 @@
-use Rattle.std.proofs.lemmas.Result.{IfOk-from_err}
 use Rattle.std.proofs.Common.{ℕ, ◌≡◌, ◌-◌, ◌<◌, List, Bool, true, length, ap, ◌∙◌, sym, subst, refl, arith, inl, inr}
 use Rattle.std.specs.Prelude.{◌↔◌}
 use Rattle.regalloc2_index.proofs.Bools.{false_refutes}
@@ -11,7 +10,7 @@ use Rattle.regalloc2_function.specs.FunctionValue.{FunctionValue, block_at, inst
 use Rattle.regalloc2_function.specs.WellFormed.{last_of}
 use Rattle.regalloc2_analysis.specs.BranchDefs.BranchDefs.{EndsInDefinitions, IsHeld}
 use Rattle.regalloc2_analysis.specs.BranchDefs.Notes.{ListsStored}
-use Rattle.regalloc2_analysis_steps.specs.declared.edges.EdgeInto.{EdgeInto}
+use Rattle.regalloc2_analysis.specs.declared.branch_defs.EdgeInto.{EdgeInto}
 use Rattle.regalloc2_analysis.proofs.BranchDefsLemmas.BlockEnds.{last_within, within_function}
 use Rattle.regalloc2_analysis.proofs.BranchDefsLemmas.EdgeNotes.{IsFrom, edges_more, lists_stored}
 use Rattle.regalloc2_analysis.proofs.branch_defs.edges.note_edges_of.Goals as goal
@@ -74,6 +73,3 @@ returns-then-not-ends_in_definitions g c =
             c.ends_in_definitions.ensures.1 (subst (EndsInDefinitions f) last edge.definitions)
       ];
     }
-
-pub returns-in_err-list_held : goal.returns-in_err-list_held
-returns-in_err-list_held g c = IfOk-from_err c.from_residual.result _ c.from_residual.ensures.0

@@ -1,4 +1,4 @@
-use Rattle.std.proofs.Common.{List, ◌≡◌, true, false, refl, sym, ap, ◌∙◌, arith, below_more}
+use Rattle.std.proofs.Common.{List, ◌≡◌, false, refl, sym, ap, ◌∙◌, arith, below_more}
 use Rattle.regalloc2_names.specs.Operand.{OperandValue, is_def}
 use Rattle.regalloc2_function.specs.FunctionValue.{op_at}
 use Rattle.regalloc2_analysis.proofs.BranchDefsLemmas.BlockEnds.{read_operand}

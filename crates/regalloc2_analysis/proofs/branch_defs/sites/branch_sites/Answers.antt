@@ -1,6 +1,5 @@
 use Rattle.std.proofs.Common.{◌≡◌, ◌∙◌, length, sym, subst, arith}
 use Rattle.std.proofs.lemmas.List.{with_items_is}
-use Rattle.std.proofs.lemmas.Result.{err_from_is_err_and}
 use Rattle.regalloc2_function.specs.TableLength.{HasRoom}
 use Rattle.regalloc2_analysis.proofs.branch_defs.sites.branch_sites.Goals as goal
 
@@ -17,6 +16,3 @@ note_branches-requires-clause-none g c = rw c.as_mut_slice.ensures.value c.in_ok
 
 pub returns : goal.returns
 returns g c = rw (with_items_is c.in_ok-sites.sites c.note_branches.new.sites (c.note_branches.auto.sites ∙ c.as_mut_slice.ensures.len)) c.note_branches.ensures
-
-pub returns-in_err-sites : goal.returns-in_err-sites
-returns-in_err-sites g c = let p = err_from_is_err_and c.from_residual.result c.from_residual.ensures.1 in rw p.1 tt

@@ -11,7 +11,7 @@ returns-then-is_reading c =
     let number : c.vreg-then-is_reading.result ≡ c.args.operand.vreg.number =
     c.vreg-then-is_reading.ensures.number ∙ ap (λ (v : VirtualRegister). v.number) c.vreg.ensures in
     marks_same (λ n. c.vreg-then-is_reading.result ≡ n) (λ n. (is_reading c.args.operand ≡ true) × (c.args.operand.vreg.number ≡ n)) c.args.used.now
-    c.mark.new.used (λ n. (λ e. (reads, sym number ∙ e), λ h. number ∙ h.1)) c.mark.ensures
+    c.mark.new.marks (λ n. (λ e. (reads, sym number ∙ e), λ h. number ∙ h.1)) c.mark.ensures
 
 pub returns-else-is_reading : goal.returns-else-is_reading
 returns-else-is_reading c =

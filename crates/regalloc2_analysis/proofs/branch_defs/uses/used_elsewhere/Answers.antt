@@ -1,6 +1,5 @@
 use Rattle.std.proofs.Common.{◌≡◌, ◌∙◌, length, sym, subst, arith}
 use Rattle.std.proofs.lemmas.List.{with_items_is}
-use Rattle.std.proofs.lemmas.Result.{err_from_is_err_and}
 use Rattle.regalloc2_function.specs.TableLength.{HasRoom}
 use Rattle.regalloc2_analysis.proofs.branch_defs.uses.used_elsewhere.Goals as goal
 
@@ -20,6 +19,3 @@ note_uses-requires-clause-none g c = rw c.as_mut_slice.ensures.value c.in_ok-use
 
 pub returns : goal.returns
 returns g c = rw (with_items_is c.in_ok-used.used c.note_uses.new.used (c.note_uses.auto.used ∙ c.as_mut_slice.ensures.len)) c.note_uses.ensures
-
-pub returns-in_err-used : goal.returns-in_err-used
-returns-in_err-used g c = let p = err_from_is_err_and c.from_residual.result c.from_residual.ensures.1 in rw p.1 tt

@@ -1,6 +1,6 @@
 use Rattle.std.proofs.Common.{List, ◌∙◌, map, refl, ap, subst}
 use Rattle.std.proofs.lemmas.List.{take_all}
-use Rattle.std.proofs.lemmas.Result.{IfOk-from_err, err_from_is_err_and}
+use Rattle.std.proofs.lemmas.Result.{err_from_is_err_and}
 use Rattle.regalloc2_function.specs.FunctionValue.{FunctionValue, Label, label_of}
 use Rattle.regalloc2_analysis.specs.LiveRanges.LiveRanges.{AreKeptLabels}
 use Rattle.regalloc2_analysis.specs.LiveRanges.LiveRanges.AreKeptLabels.{none}
@@ -37,9 +37,6 @@ kept_range-requires-clause-ssa g c = c.requires.ssa
 pub kept_range-requires-clause-ranges : goal.kept_range-requires-clause-ranges
 kept_range-requires-clause-ranges g c = c.requires.ranges
 
-pub returns-in_err-push-clause-ok : goal.returns-in_err-push-clause-ok
-returns-in_err-push-clause-ok g c = IfOk-from_err c.from_residual.result _ c.from_residual.ensures.0
-
 pub returns-in_err-push-clause-err : goal.returns-in_err-push-clause-err
 returns-in_err-push-clause-err g c =
     let p = err_from_is_err_and c.from_residual.result c.from_residual.ensures.1 in rw p.1 p.2
@@ -49,6 +46,3 @@ returns-clause-ok g c =
     subst (λ (ls : List Label). AreKeptLabels (g.F.Function.function c.args.f.now) ls c.loop-label.kept.items)
     (ap (λ ls. map label_of ls) (take_all c.loop-label.label-index c.debug_value_labels-label-items.result.now c.loop-label-test.false)
     ∙ c.debug_value_labels-label-items.ensures) c.loop-label.invariant
-
-pub returns-clause-err : goal.returns-clause-err
-returns-clause-err g c = tt

@@ -1,4 +1,3 @@
-use Rattle.std.proofs.lemmas.Result.{IfOk-from_err}
 use Rattle.std.proofs.Common.{ℕ, ◌≡◌, ◌<◌, ◌∙◌, Bool, false, List, [], ◌∷◌, length, slice_index_or, ap, sym, arith}
 use Rattle.std.proofs.lemmas.List.{length-append}
 use Rattle.regalloc2_index.proofs.Bools.{not_both}
@@ -27,21 +26,3 @@ loop-number-preserved g c =
 
 pub returns-clause-slots : goal.returns-clause-slots
 returns-clause-slots g c = slots_all c.args.wanted.now c.loop-number.slots.items c.loop-number.count c.args.num c.loop-number.invariant.slots
-
-pub returns-in_err-slots : goal.returns-in_err-slots
-returns-in_err-slots g c = record {
-  len = IfOk-from_err c.from_residual.result _ c.from_residual.ensures.0;
-  slots = IfOk-from_err c.from_residual.result _ c.from_residual.ensures.0;
-}
-
-pub returns-in_err-push : goal.returns-in_err-push
-returns-in_err-push g c = record {
-  len = IfOk-from_err c.from_residual-in_err-push.result _ c.from_residual-in_err-push.ensures.0;
-  slots = IfOk-from_err c.from_residual-in_err-push.result _ c.from_residual-in_err-push.ensures.0;
-}
-
-pub returns-in_err-push-2 : goal.returns-in_err-push-2
-returns-in_err-push-2 g c = record {
-  len = IfOk-from_err c.from_residual-in_err-push-2.result _ c.from_residual-in_err-push-2.ensures.0;
-  slots = IfOk-from_err c.from_residual-in_err-push-2.result _ c.from_residual-in_err-push-2.ensures.0;
-}

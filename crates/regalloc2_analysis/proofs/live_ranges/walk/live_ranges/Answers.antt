@@ -1,4 +1,3 @@
-use Rattle.std.proofs.lemmas.Result.{IfOk-from_err}
 use Rattle.std.proofs.Common.{ℕ, List, Option, ◌∙◌, length, sym, ap, subst, arith}
 use Rattle.regalloc2_function.specs.FunctionValue.{FunctionValue}
 use Rattle.regalloc2_analysis.specs.declared.live_ranges.LiveRange.{LiveRange}
@@ -27,21 +26,3 @@ returns-clause-few g c =
     let long = ap (λ (t : List (Option LiveRange)). length t) c.in_ok-spread_out.ensures ∙ spread_length c.as_slice-2.result.now c.as_slice-3.result.now
     ∙ ap (λ (ss : List ℕ). length ss) c.as_slice-2.ensures.value in
     omega (arith, long, c.in_ok-few.ensures.few)
-
-pub returns-in_err-named-clause-ok : goal.returns-in_err-named-clause-ok
-returns-in_err-named-clause-ok g c = IfOk-from_err c.from_residual.result _ c.from_residual.ensures.0
-
-pub returns-in_err-named-clause-few : goal.returns-in_err-named-clause-few
-returns-in_err-named-clause-few g c = IfOk-from_err c.from_residual.result _ c.from_residual.ensures.0
-
-pub returns-in_err-few-clause-ok : goal.returns-in_err-few-clause-ok
-returns-in_err-few-clause-ok g c = IfOk-from_err c.from_residual-in_err-few.result _ c.from_residual-in_err-few.ensures.0
-
-pub returns-in_err-few-clause-few : goal.returns-in_err-few-clause-few
-returns-in_err-few-clause-few g c = IfOk-from_err c.from_residual-in_err-few.result _ c.from_residual-in_err-few.ensures.0
-
-pub returns-in_err-spread_out-clause-ok : goal.returns-in_err-spread_out-clause-ok
-returns-in_err-spread_out-clause-ok g c = IfOk-from_err c.from_residual-in_err-spread_out.result _ c.from_residual-in_err-spread_out.ensures.0
-
-pub returns-in_err-spread_out-clause-few : goal.returns-in_err-spread_out-clause-few
-returns-in_err-spread_out-clause-few g c = IfOk-from_err c.from_residual-in_err-spread_out.result _ c.from_residual-in_err-spread_out.ensures.0

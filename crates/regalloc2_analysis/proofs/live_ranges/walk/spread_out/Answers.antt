@@ -1,7 +1,6 @@
 use Rattle.std.proofs.Common.{ℕ, ◌≡◌, ◌+◌, ◌∷◌, ◌++◌, ◌<◌, ◌∙◌, [], List, Option, length, take, sym, ap, arith}
 use Rattle.std.specs.Prelude.{None, slice_index_or}
 use Rattle.std.proofs.lemmas.List.{take_all, take_more}
-use Rattle.std.proofs.lemmas.Result.{IfOk-from_err}
 use Rattle.regalloc2_analysis.proofs.LiveRangesLemmas.Spread.{spread_length}
 use Rattle.regalloc2_analysis.proofs.live_ranges.walk.spread_out.Goals as goal
 
@@ -17,12 +16,6 @@ loop-number-preserved g c = pushed _ c.loop-number.number c.entry.result c.loop-
 
 pub loop-number-init : goal.loop-number-init
 loop-number-init g c = c.in_ok-ranges.ensures.items
-
-pub returns-in_err-ranges : goal.returns-in_err-ranges
-returns-in_err-ranges g c = IfOk-from_err c.from_residual.result _ c.from_residual.ensures.0
-
-pub returns-in_err-push : goal.returns-in_err-push
-returns-in_err-push g c = IfOk-from_err c.from_residual-in_err-push.result _ c.from_residual-in_err-push.ensures.0
 
 pub returns : goal.returns
 returns g c =

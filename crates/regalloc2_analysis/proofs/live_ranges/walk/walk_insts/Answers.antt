@@ -165,7 +165,7 @@ loop-block-preserved g c =
       );
     }
 
--- none that is left is at or after the block's first
+-- no listed instruction that is left is at or after the block's first
 pub returns-clause-listed : goal.returns-clause-listed
 returns-clause-listed g c =
     let f : FunctionValue = g.F.Function.function c.args.f.now in

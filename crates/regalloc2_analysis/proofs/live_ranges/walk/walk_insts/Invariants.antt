@@ -5,7 +5,7 @@ use Rattle.regalloc2_analysis.specs.LiveRanges.Slots.{spread}
 use Rattle.regalloc2_analysis.specs.LiveRanges.WalkInvariant.{AreRangesWalked, ListsAdding}
 use Rattle.regalloc2_analysis.proofs.live_ranges.walk.walk_insts.Given as goal
 
--- the instructions from some one of the block on are walked, and so many are left below it
+-- the instructions from some instruction of the block on are walked, and `left` listed ones are below it
 abbrev pub invariant-loop-block : goal.invariant-loop-block
 invariant-loop-block g l = record {
   first : l.first ≡ (block_at (g.F.Function.function l.f) l.block).range.first;

@@ -1,4 +1,3 @@
-use Rattle.std.proofs.lemmas.Result.{IfOk-from_err}
 use Rattle.std.proofs.Common.{ℕ, Bool, List, ◌≡◌, ◌<◌, false, length, slice_index_or, ap, sym, subst, ◌∙◌}
 use Rattle.std.specs.Prelude.{◌↔◌}
 use Rattle.std.proofs.lemmas.List.{with_items_is}
@@ -28,9 +27,3 @@ returns-clause-marks g c =
     subst (λ (ws : List Bool). (n : ℕ) → n < length ws → IsWanted ws n ↔ IsLabelled f n)
     (sym (with_items_is c.in_ok-wanted.wanted c.mark_labelled.new.wanted (c.mark_labelled.auto.wanted ∙ c.as_mut_slice.ensures.len)))
     (λ n lt. are n (subst (λ (m : ℕ). n < m) c.mark_labelled.auto.wanted lt))
-
-pub returns-in_err-wanted : goal.returns-in_err-wanted
-returns-in_err-wanted g c = record {
-  room = IfOk-from_err c.from_residual.result _ c.from_residual.ensures.0;
-  marks = IfOk-from_err c.from_residual.result _ c.from_residual.ensures.0;
-}

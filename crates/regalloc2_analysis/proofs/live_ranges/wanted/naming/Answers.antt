@@ -1,4 +1,3 @@
-use Rattle.std.proofs.lemmas.Result.{IfOk-from_err}
 use Rattle.std.proofs.Common.{ℕ, [], sym, subst, ◌≡◌, length, arith}
 use Rattle.regalloc2_index.proofs.Bools.{not_both}
 use Rattle.regalloc2_function.specs.FunctionValue.{FunctionValue}
@@ -22,9 +21,6 @@ loop-i-preserved g c =
       | else-not-names_none w ↦ rw w.named-is (named_same f W c.loop-i.named.items c.loop-i.i
           (subst (NamesNoAsked f W) c.new-inst.ensures (c.names_none.ensures.0 w.if-not-names_none.false)) c.loop-i.invariant)
     ]
-
-pub returns-in_err-push : goal.returns-in_err-push
-returns-in_err-push g c = IfOk-from_err c.from_residual.result _ c.from_residual.ensures.0
 
 pub names_none-requires : goal.names_none-requires
 names_none-requires g c = omega (arith, c.num_insts-i-end.ensures.count, c.new-inst.ensures)

@@ -1,4 +1,4 @@
-use Rattle.std.proofs.Common.{List, Bool, ◌≡◌, true, false, refl, sym, ap, ◌∙◌, arith, below_more, slice_index_or}
+use Rattle.std.proofs.Common.{List, Bool, ◌≡◌, false, refl, sym, ap, ◌∙◌, arith, below_more, slice_index_or}
 use Rattle.regalloc2_names.specs.Operand.{OperandValue}
 use Rattle.regalloc2_names.specs.Register.{VirtualRegister}
 use Rattle.regalloc2_function.specs.FunctionValue.{op_at}

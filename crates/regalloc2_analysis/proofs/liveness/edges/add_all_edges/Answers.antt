@@ -1,4 +1,3 @@
-use Rattle.std.proofs.lemmas.Result.{IfOk-from_err}
 use Rattle.std.proofs.Common.{◌∙◌, ap, arith}
 use Rattle.regalloc2_analysis.specs.Liveness.Edges.{names_block}
 use Rattle.regalloc2_analysis.proofs.LivenessLemmas.EdgeLists.{all_edges_end, all_edges_more, names_empty}
@@ -19,6 +18,3 @@ loop-b-preserved g c = record {
 
 pub returns : goal.returns
 returns g c = all_edges_end (g.F.Function.function c.args.f.now) c.loop-b.b c.loop-b.edges (omega (arith, c.loop-b.invariant.whole)) c.loop-b.invariant.so_far
-
-pub returns-in_err-add_edges : goal.returns-in_err-add_edges
-returns-in_err-add_edges g c = IfOk-from_err c.from_residual.result _ c.from_residual.ensures.0

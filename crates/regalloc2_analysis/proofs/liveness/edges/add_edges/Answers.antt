@@ -1,4 +1,3 @@
-use Rattle.std.proofs.lemmas.Result.{IfOk-from_err}
 use Rattle.std.proofs.Common.{ℕ, ◌≡◌, ◌<◌, ◌≤◌, List, length, nat_eq, subst, arith, rules}
 use Rattle.std.specs.Prelude.{◌&&◌, ◌||◌}
 use Rattle.std.proofs.lemmas.List.{take_all}
@@ -23,9 +22,6 @@ returns g c =
     subst (λ (xs : List ℕ). (n p : ℕ) → names_block (blocks_of c.loop-succ.edges n)
     p ≡ (names_block (blocks_of c.args.edges.now n) p || (nat_eq c.args.block p && names_block xs n)))
     (take_all c.loop-succ.succ-index c.args.succs.now all) c.loop-succ.invariant
-
-pub returns-in_err-push : goal.returns-in_err-push
-returns-in_err-push g c = IfOk-from_err c.from_residual.result _ c.from_residual.ensures.0
 
 pub bounds-edges-index : goal.bounds-edges-index
 bounds-edges-index g c =

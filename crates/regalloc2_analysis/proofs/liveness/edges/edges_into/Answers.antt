@@ -1,20 +1,7 @@
 use Rattle.std.proofs.Common.{List, Vec, ℕ, ◌∙◌, length, ap}
 use Rattle.std.proofs.lemmas.List.{with_items_is}
-use Rattle.std.proofs.lemmas.Result.{IfOk-from_err}
 use Rattle.regalloc2_analysis.specs.Liveness.Edges.{blocks_of, names_block}
 use Rattle.regalloc2_analysis.proofs.liveness.edges.edges_into.Goals as goal
-
-pub returns-in_err-edges-clause-len : goal.returns-in_err-edges-clause-len
-returns-in_err-edges-clause-len g c = IfOk-from_err c.from_residual.result _ c.from_residual.ensures.0
-
-pub returns-in_err-edges-clause-edges : goal.returns-in_err-edges-clause-edges
-returns-in_err-edges-clause-edges g c = IfOk-from_err c.from_residual.result _ c.from_residual.ensures.0
-
-pub returns-in_err-add_all_edges-clause-len : goal.returns-in_err-add_all_edges-clause-len
-returns-in_err-add_all_edges-clause-len g c = IfOk-from_err c.from_residual-in_err-add_all_edges.result _ c.from_residual-in_err-add_all_edges.ensures.0
-
-pub returns-in_err-add_all_edges-clause-edges : goal.returns-in_err-add_all_edges-clause-edges
-returns-in_err-add_all_edges-clause-edges g c = IfOk-from_err c.from_residual-in_err-add_all_edges.result _ c.from_residual-in_err-add_all_edges.ensures.0
 
 pub add_all_edges-requires : goal.add_all_edges-requires
 add_all_edges-requires g c = record {

@@ -1,4 +1,3 @@
-use Rattle.std.proofs.lemmas.Result.{IfOk-from_err}
 use Rattle.std.proofs.Common.{refl, arith}
 use Rattle.std.proofs.lemmas.List.{length_push}
 use Rattle.regalloc2_analysis.proofs.LivenessLemmas.EdgeLists.{empty_more}
@@ -11,16 +10,4 @@ pub loop-preserved : goal.loop-preserved
 loop-preserved g c = record {
   long = rw c.in_ok-push.ensures.items (omega (arith, length_push c.loop.edges.items c.new.result, c.loop.invariant.long));
   none = λ n. rw c.in_ok-push.ensures.items (empty_more c.loop.edges.items c.new.result n c.new.ensures.items c.loop.invariant.none);
-}
-
-pub returns-in_err-edges : goal.returns-in_err-edges
-returns-in_err-edges g c = record {
-  len = IfOk-from_err c.from_residual.result _ c.from_residual.ensures.0;
-  none = IfOk-from_err c.from_residual.result _ c.from_residual.ensures.0;
-}
-
-pub returns-in_err-push : goal.returns-in_err-push
-returns-in_err-push g c = record {
-  len = IfOk-from_err c.from_residual-in_err-push.result _ c.from_residual-in_err-push.ensures.0;
-  none = IfOk-from_err c.from_residual-in_err-push.result _ c.from_residual-in_err-push.ensures.0;
 }

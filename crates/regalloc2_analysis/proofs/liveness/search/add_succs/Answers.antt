@@ -1,8 +1,6 @@
 use Rattle.std.proofs.Common.{ℕ, ◌≡◌, ◌∙◌, eqb-true, subst, sym}
 use Rattle.std.specs.Prelude.{Contains}
-use Rattle.std.proofs.lemmas.Bool.{false≢true}
 use Rattle.std.proofs.lemmas.List.Elements.{All-push}
-use Rattle.std.proofs.lemmas.Result.{IfOk-from_err}
 use Rattle.regalloc2_index.proofs.Bools.{false_refutes}
 use Rattle.regalloc2_function.specs.FunctionValue.{FunctionValue}
 use Rattle.regalloc2_analysis.specs.Liveness.Search.{LeadsBack}
@@ -48,8 +46,8 @@ loop-succ-init g c = record { near = c.requires.near; far = c.requires.far }
 pub bounds-succ-items-succ-index : goal.bounds-succ-items-succ-index
 bounds-succ-items-succ-index g c = c.loop-succ-test.true
 
-pub loop-succ-preserved-then-is_on : goal.loop-succ-preserved-then-is_on
-loop-succ-preserved-then-is_on g c = c.loop-succ.invariant
+pub loop-succ-preserved-then-is_marked : goal.loop-succ-preserved-then-is_marked
+loop-succ-preserved-then-is_marked g c = c.loop-succ.invariant
 
 pub returns-then-eq-clause-near : goal.returns-then-eq-clause-near
 returns-then-eq-clause-near g c = c.loop-succ.invariant.near
@@ -57,29 +55,8 @@ returns-then-eq-clause-near g c = c.loop-succ.invariant.near
 pub returns-then-eq-clause-far : goal.returns-then-eq-clause-far
 returns-then-eq-clause-far g c = c.loop-succ.invariant.far
 
-pub returns-in_err-push-clause-near : goal.returns-in_err-push-clause-near
-returns-in_err-push-clause-near g c = IfOk-from_err c.from_residual.result _ c.from_residual.ensures.0
-
-pub returns-in_err-push-clause-far : goal.returns-in_err-push-clause-far
-returns-in_err-push-clause-far g c = IfOk-from_err c.from_residual.result _ c.from_residual.ensures.0
-
-pub returns-in_err-push-clause-found : goal.returns-in_err-push-clause-found
-returns-in_err-push-clause-found g c = IfOk-from_err c.from_residual.result _ c.from_residual.ensures.0
-
-pub returns-in_err-push-2-clause-near : goal.returns-in_err-push-2-clause-near
-returns-in_err-push-2-clause-near g c = IfOk-from_err c.from_residual-in_err-push-2.result _ c.from_residual-in_err-push-2.ensures.0
-
-pub returns-in_err-push-2-clause-far : goal.returns-in_err-push-2-clause-far
-returns-in_err-push-2-clause-far g c = IfOk-from_err c.from_residual-in_err-push-2.result _ c.from_residual-in_err-push-2.ensures.0
-
-pub returns-in_err-push-2-clause-found : goal.returns-in_err-push-2-clause-found
-returns-in_err-push-2-clause-found g c = IfOk-from_err c.from_residual-in_err-push-2.result _ c.from_residual-in_err-push-2.ensures.0
-
 pub returns-clause-near : goal.returns-clause-near
 returns-clause-near g c = c.loop-succ.invariant.near
 
 pub returns-clause-far : goal.returns-clause-far
 returns-clause-far g c = c.loop-succ.invariant.far
-
-pub returns-clause-found : goal.returns-clause-found
-returns-clause-found g c = λ yes. absurd (false≢true yes)

@@ -1,4 +1,3 @@
-use Rattle.std.proofs.lemmas.Result.{IfOk-from_err}
 use Rattle.regalloc2_function.specs.FunctionValue.{FunctionValue}
 use Rattle.std.proofs.lemmas.Bool.{false≢true}
 use Rattle.regalloc2_analysis.proofs.liveness.search.leads_on.Goals as goal
@@ -39,9 +38,6 @@ loop-preserved-then-not-is_unwritten g c =
 
 pub returns-then-branch : goal.returns-then-branch
 returns-then-branch g c = λ yes. c.in_ok-add_succs.ensures.found c.if-branch.true
-
-pub returns-in_err-add_succs : goal.returns-in_err-add_succs
-returns-in_err-add_succs g c = IfOk-from_err c.from_residual.result _ c.from_residual.ensures.0
 
 pub loop-init : goal.loop-init
 loop-init g c = record { near = c.requires.near; far = c.requires.far }

@@ -1,6 +1,6 @@
 use Rattle.std.proofs.Common.{ℕ, ◌≡◌, ◌∙◌, [], eqb-true, subst, sym}
 use Rattle.std.proofs.lemmas.List.Elements.{All-nil, All-push}
-use Rattle.std.proofs.lemmas.Result.{IfOk-weaker, IfOk-from_err}
+use Rattle.std.proofs.lemmas.Result.{IfOk-weaker}
 use Rattle.regalloc2_function.specs.FunctionValue.{FunctionValue}
 use Rattle.regalloc2_function.specs.Path.{first_of}
 use Rattle.regalloc2_analysis.specs.Liveness.LiveIn.{IsNeeded}
@@ -27,9 +27,3 @@ leads_on-requires-clause-framed g c = c.requires
 
 pub returns : goal.returns
 returns g c = IfOk-weaker c.leads_on.result _ _ (λ b leads yes. (leads yes).1 (c.is_asked.ensures c.if-not-is_asked.false)) c.leads_on.ensures
-
-pub returns-in_err-marked : goal.returns-in_err-marked
-returns-in_err-marked g c = IfOk-from_err c.from_residual.result _ c.from_residual.ensures.0
-
-pub returns-in_err-push : goal.returns-in_err-push
-returns-in_err-push g c = IfOk-from_err c.from_residual-in_err-push.result _ c.from_residual-in_err-push.ensures.0

@@ -1,4 +1,3 @@
-use Rattle.std.proofs.lemmas.Result.{IfOk-from_err}
 use Rattle.regalloc2_analysis.proofs.LivenessLemmas.LiveAtBlockBegin.{params_more, params_start}
 use Rattle.regalloc2_analysis.proofs.liveness.walk.all_params.Goals as goal
 
@@ -15,6 +14,3 @@ loop-b-preserved g c = record {
   so_far = params_more (g.F.Function.function c.args.f.now) c.loop-b.b c.loop-b.params c.note_params.new.noted c.loop-b.invariant.so_far
       (rw (c.block_params.ensures, c.new-block.ensures) at c.in_ok-note_params.ensures);
 }
-
-pub returns-in_err-note_params : goal.returns-in_err-note_params
-returns-in_err-note_params g c = IfOk-from_err c.from_residual.result _ c.from_residual.ensures.0

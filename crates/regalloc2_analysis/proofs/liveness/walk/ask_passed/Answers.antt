@@ -1,4 +1,3 @@
-use Rattle.std.proofs.lemmas.Result.{IfOk-from_err}
 use Rattle.std.proofs.Common.{ℕ, ◌≡◌, length, subst, arith, ◌<◌, ◌-◌, ◌∙◌, List, ap, sym, rules}
 use Rattle.regalloc2_function.specs.FunctionValue.{FunctionValue, block_at}
 use Rattle.regalloc2_analysis.specs.Liveness.BlockWalk.{PassesNeeds}
@@ -20,9 +19,6 @@ returns g c =
     let f : FunctionValue = g.F.Function.function c.args.f.now in
     let e : c.loop-k.k ≡ length (block_at f c.args.block).succs = omega (arith, c.loop-k.invariant.end) in
     subst (λ (n : ℕ). PassesNeeds f c.args.block n c.args.written.now c.args.needs.now c.loop-k.needs) e c.loop-k.invariant.so_far
-
-pub returns-in_err-ask_arguments : goal.returns-in_err-ask_arguments
-returns-in_err-ask_arguments g c = IfOk-from_err c.from_residual.result _ c.from_residual.ensures.0
 
 pub block_insns-requires : goal.block_insns-requires
 block_insns-requires g c = c.requires.block

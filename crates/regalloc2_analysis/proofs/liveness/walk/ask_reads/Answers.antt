@@ -1,12 +1,11 @@
-use Rattle.std.proofs.lemmas.Result.{IfOk-from_err}
 use Rattle.std.proofs.Common.{◌∙◌, ◌+◌, [], sym, take, List, length, ◌≤◌, subst, arith}
 use Rattle.std.proofs.lemmas.List.{take_all}
 use Rattle.std.specs.Prelude.{◌&&◌, not}
 use Rattle.regalloc2_names.specs.Register.{is_vreg}
 use Rattle.regalloc2_names.specs.Operand.{OperandValue}
-use Rattle.regalloc2_analysis_steps.specs.BlockVRegPairs.{Grows, holds}
+use Rattle.regalloc2_analysis.specs.Liveness.BlockVRegPairs.{Grows, holds}
 use Rattle.regalloc2_analysis.specs.Liveness.BlockWalk.{reads}
-use Rattle.regalloc2_analysis_steps.proofs.PairLists.{grows_more, grows_none, grows_same}
+use Rattle.regalloc2_analysis.proofs.LivenessLemmas.PairLists.{grows_more, grows_none, grows_same}
 use Rattle.regalloc2_analysis.proofs.LivenessLemmas.WalkSteps.{reads_no, reads_none, reads_yes}
 use Rattle.regalloc2_analysis.proofs.liveness.walk.ask_reads.Goals as goal
 use Rattle.regalloc2_analysis.proofs.liveness.walk.ask_reads.Goals.{then-reads_at+in_ok-ask, else-reads_at}
@@ -38,6 +37,3 @@ returns g c =
     let all : length c.args.operands.now ≤ c.loop-operand.operand-index = omega arith in
     subst (λ (xs : List OperandValue). Grows c.args.block (λ v. reads c.args.pos v xs && not (holds c.args.written.now (c.args.block, v))) c.args.needs.now
     c.loop-operand.needs) (take_all c.loop-operand.operand-index c.args.operands.now all) c.loop-operand.invariant
-
-pub returns-in_err-ask : goal.returns-in_err-ask
-returns-in_err-ask g c = IfOk-from_err c.from_residual.result _ c.from_residual.ensures.0

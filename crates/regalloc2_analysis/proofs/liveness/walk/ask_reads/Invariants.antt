@@ -1,6 +1,6 @@
 use Rattle.std.proofs.Common.{take}
 use Rattle.std.specs.Prelude.{◌&&◌, not}
-use Rattle.regalloc2_analysis_steps.specs.BlockVRegPairs.{Grows, holds}
+use Rattle.regalloc2_analysis.specs.Liveness.BlockVRegPairs.{Grows, holds}
 use Rattle.regalloc2_analysis.specs.Liveness.BlockWalk.{reads}
 use Rattle.regalloc2_analysis.proofs.liveness.walk.ask_reads.Given as goal
 

@@ -1,11 +1,10 @@
-use Rattle.std.proofs.lemmas.Result.{IfOk-from_err}
 use Rattle.std.proofs.Common.{◌+◌, [], take, List, length, ◌≤◌, subst, arith}
 use Rattle.std.proofs.lemmas.List.{take_all}
 use Rattle.regalloc2_names.specs.Register.{VirtualRegister, is_vreg}
 use Rattle.regalloc2_semantics.specs.Blocks.{names}
-use Rattle.regalloc2_analysis_steps.specs.BlockVRegPairs.{Gains, holds}
-use Rattle.regalloc2_analysis_steps.proofs.PairLists.{gains_more, gains_none}
-use Rattle.regalloc2_analysis_steps.proofs.Tests.{names_more, names_nothing}
+use Rattle.regalloc2_analysis.specs.Liveness.BlockVRegPairs.{Gains, holds}
+use Rattle.regalloc2_analysis.proofs.LivenessLemmas.PairLists.{gains_more, gains_none}
+use Rattle.regalloc2_analysis.proofs.LivenessLemmas.NamesAndDefinitions.{names_more, names_nothing}
 use Rattle.regalloc2_analysis.proofs.liveness.walk.note_params.Goals as goal
 
 pub loop-param-init : goal.loop-param-init
@@ -23,6 +22,3 @@ returns g c =
     let all : length c.args.params.now ≤ c.loop-param.param-index = omega arith in
     subst (λ (xs : List VirtualRegister). Gains c.args.block (λ v. names v xs) (holds c.args.noted.now) (holds c.loop-param.noted))
     (take_all c.loop-param.param-index c.args.params.now all) c.loop-param.invariant
-
-pub returns-in_err-add : goal.returns-in_err-add
-returns-in_err-add g c = IfOk-from_err c.from_residual.result _ c.from_residual.ensures.0

@@ -1,6 +1,6 @@
 use Rattle.std.proofs.Common.{take}
 use Rattle.regalloc2_semantics.specs.Blocks.{names}
-use Rattle.regalloc2_analysis_steps.specs.BlockVRegPairs.{Gains, holds}
+use Rattle.regalloc2_analysis.specs.Liveness.BlockVRegPairs.{Gains, holds}
 use Rattle.regalloc2_analysis.proofs.liveness.walk.note_params.Given as goal
 
 -- the parameters so far are noted

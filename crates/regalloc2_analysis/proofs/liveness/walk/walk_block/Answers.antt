@@ -1,4 +1,4 @@
-use Rattle.std.proofs.lemmas.Result.{on_ok_weaker, IfOk-from_err}
+use Rattle.std.proofs.lemmas.Result.{on_ok_weaker}
 use Rattle.regalloc2_function.specs.FunctionValue.{FunctionValue}
 use Rattle.regalloc2_analysis.proofs.LivenessLemmas.LiveAtBlockBegin.{walked_whole}
 use Rattle.regalloc2_analysis.proofs.liveness.walk.walk_block.Goals as goal
@@ -10,6 +10,3 @@ returns g c =
     (λ passes. walked_whole f c.args.block c.args.written.now c.args.needs.now c.walk_insts.new.written c.walk_insts.new.needs c.ask_passed.new.needs
     c.requires.block (c.requires.framed.follow c.args.block c.requires.block).0 c.in_ok-walk_insts.ensures passes)
     c.ask_passed.ensures
-
-pub returns-in_err-walk_insts : goal.returns-in_err-walk_insts
-returns-in_err-walk_insts g c = IfOk-from_err c.from_residual.result _ c.from_residual.ensures.0

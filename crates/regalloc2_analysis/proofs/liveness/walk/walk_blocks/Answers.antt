@@ -1,4 +1,3 @@
-use Rattle.std.proofs.lemmas.Result.{IfOk-from_err}
 use Rattle.std.proofs.Common.{refl}
 use Rattle.regalloc2_function.specs.FunctionValue.{FunctionValue}
 use Rattle.regalloc2_analysis.specs.Liveness.BlockWalk.{IsBlockWalked}
@@ -24,9 +23,3 @@ loop-b-preserved g c =
       written = writes_more f c.loop-b.b c.loop-b.written c.loop-b.needs c.walk_block.new.written c.walk_block.new.needs c.loop-b.invariant.written here;
       asked = asked_more f c.loop-b.b c.loop-b.written c.loop-b.needs c.walk_block.new.written c.walk_block.new.needs c.loop-b.invariant.asked here;
     }
-
-pub returns-in_err-walk_block : goal.returns-in_err-walk_block
-returns-in_err-walk_block g c = record {
-  written = IfOk-from_err c.from_residual.result _ c.from_residual.ensures.0;
-  needs = IfOk-from_err c.from_residual.result _ c.from_residual.ensures.0;
-}

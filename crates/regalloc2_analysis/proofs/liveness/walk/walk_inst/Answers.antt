@@ -1,4 +1,4 @@
-use Rattle.std.proofs.lemmas.Result.{on_ok_weaker, IfOk-from_err}
+use Rattle.std.proofs.lemmas.Result.{on_ok_weaker}
 use Rattle.regalloc2_analysis.proofs.LivenessLemmas.WalkSteps.{asks_twice}
 use Rattle.regalloc2_analysis.proofs.liveness.walk.walk_inst.Goals as goal
 
@@ -8,15 +8,3 @@ returns-clause-needs g c =
     (λ late. asks_twice c.args.operands.now c.args.written.now c.write_definitions.new.written c.args.block c.args.needs.now c.ask_reads.new.needs
     c.ask_reads-2.new.needs c.in_ok-write_definitions.ensures c.in_ok-ask_reads.ensures late)
     c.ask_reads-2.ensures
-
-pub returns-in_err-ask_reads : goal.returns-in_err-ask_reads
-returns-in_err-ask_reads g c = record {
-  written = IfOk-from_err c.from_residual.result _ c.from_residual.ensures.0;
-  needs = IfOk-from_err c.from_residual.result _ c.from_residual.ensures.0;
-}
-
-pub returns-in_err-write_definitions : goal.returns-in_err-write_definitions
-returns-in_err-write_definitions g c = record {
-  written = IfOk-from_err c.from_residual-in_err-write_definitions.result _ c.from_residual-in_err-write_definitions.ensures.0;
-  needs = IfOk-from_err c.from_residual-in_err-write_definitions.result _ c.from_residual-in_err-write_definitions.ensures.0;
-}

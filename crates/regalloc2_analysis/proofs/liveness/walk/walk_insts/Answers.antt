@@ -1,4 +1,3 @@
-use Rattle.std.proofs.lemmas.Result.{IfOk-from_err}
 use Rattle.std.proofs.Common.{ℕ, ◌≡◌, ◌<◌, ◌∙◌, ap, subst, arith}
 use Rattle.regalloc2_index.specs.Range.{Span}
 use Rattle.regalloc2_function.specs.FunctionValue.{FunctionValue, block_at}
@@ -44,6 +43,3 @@ returns g c =
     ∙ ap (λ (s : Span). s.first) c.block_insns-range.ensures in
     let e : c.loop-i.i ≡ (block_at f c.args.block).range.end = omega (arith, c.loop-i.invariant.end) in
     subst (λ (i : ℕ). IsBlockWalkedTo f c.args.block i c.args.written.now c.args.needs.now c.loop-i.written c.loop-i.needs) e c.loop-i.invariant.so_far
-
-pub returns-in_err-walk_inst : goal.returns-in_err-walk_inst
-returns-in_err-walk_inst g c = IfOk-from_err c.from_residual.result _ c.from_residual.ensures.0

@@ -1,12 +1,11 @@
-use Rattle.std.proofs.lemmas.Result.{IfOk-from_err}
 use Rattle.std.proofs.Common.{◌∙◌, ◌+◌, [], sym, take, List, length, ◌≤◌, subst, arith}
 use Rattle.std.proofs.lemmas.List.{take_all}
 use Rattle.regalloc2_names.specs.Register.{is_vreg}
 use Rattle.regalloc2_semantics.specs.Listing.{defines}
 use Rattle.regalloc2_names.specs.Operand.{OperandValue}
-use Rattle.regalloc2_analysis_steps.specs.BlockVRegPairs.{Gains, holds}
-use Rattle.regalloc2_analysis_steps.proofs.PairLists.{gains_more, gains_none, gains_same}
-use Rattle.regalloc2_analysis_steps.proofs.Tests.{defines_no, defines_nothing, defines_yes}
+use Rattle.regalloc2_analysis.specs.Liveness.BlockVRegPairs.{Gains, holds}
+use Rattle.regalloc2_analysis.proofs.LivenessLemmas.PairLists.{gains_more, gains_none, gains_same}
+use Rattle.regalloc2_analysis.proofs.LivenessLemmas.NamesAndDefinitions.{defines_no, defines_nothing, defines_yes}
 use Rattle.regalloc2_analysis.proofs.liveness.walk.write_definitions.Goals as goal
 use Rattle.regalloc2_analysis.proofs.liveness.walk.write_definitions.Goals.{then-is_def+in_ok-add, else-is_def}
 
@@ -34,6 +33,3 @@ returns g c =
     let all : length c.args.operands.now ≤ c.loop-operand.operand-index = omega arith in
     subst (λ (xs : List OperandValue). Gains c.args.block (λ v. defines v xs) (holds c.args.written.now) (holds c.loop-operand.written))
     (take_all c.loop-operand.operand-index c.args.operands.now all) c.loop-operand.invariant
-
-pub returns-in_err-add : goal.returns-in_err-add
-returns-in_err-add g c = IfOk-from_err c.from_residual.result _ c.from_residual.ensures.0

@@ -1,4 +1,6 @@
-use Rattle.std.proofs.Common.{◌≡◌, ◌∙◌, ap, inl, inr, refl, None, Some, [], ◌∷◌, List, Vec}
+use Rattle.std.proofs.Common.{◌≡◌, ◌∙◌, ap, sym, arith, eqb-true, eq-eqb, inl, inr, refl, length, None, Some, [], ◌∷◌, List}
+use Rattle.std.specs.Vec.{vec_len}
+use Rattle.std.proofs.lemmas.List.{nil_from_length}
 use Rattle.std.specs.Prelude.{Option, ◌⊎◌}
 use Rattle.std.specs.Option.{option_map}
 use Rattle.std.proofs.lemmas.Bool.{false≢true}
@@ -35,15 +37,15 @@ refused : {A : Type 0} (f : FunctionValue) (env : MachineValue) (o : OutputValue
 refused f env o es ok any (inl e) = inl e
 refused f env o es ok any (inr r) = inr (λ h. any ((report_verdict f env o es ok r).1 h), r)
 
-pub returns-in-Ok-clause-accepted : goal.returns-in-Ok-clause-accepted
-returns-in-Ok-clause-accepted g c =
-    accepted (g.F.Function.function c.args.self.f.now) (machine_of c.args.self.env.now) (option_map output_of c.args.self.prepared) c.found.result.items
-    c.args.self.framed c.found.ensures.unprepared c.found.ensures.prepared (c.in-Ok.ensures.yes.0 refl)
+pub returns-then-is_empty-clause-accepted : goal.returns-then-is_empty-clause-accepted
+returns-then-is_empty-clause-accepted g c =
+    let none : vec_len c.found-errors.result ≡ 0 = eqb-true _ _ (sym c.is_empty.ensures ∙ c.if-is_empty.true) in
+    accepted (g.F.Function.function c.args.self.f.now) (machine_of c.args.self.env.now) (option_map output_of c.args.self.prepared) c.found-errors.result.items
+    c.args.self.framed c.found-errors.ensures.unprepared c.found-errors.ensures.prepared (nil_from_length c.found-errors.result.items (omega (arith, none, c.found-errors.result.ok.0)))
 
-pub returns-in-Err-clause-unprepared : goal.returns-in-Err-clause-unprepared
-returns-in-Err-clause-unprepared g c = λ e. c.of.ensures ∙ ap (λ (v : Vec _ _). v.items) c.in-Err.ensures.no.0 ∙ c.found.ensures.unprepared e
-
-pub returns-in-Err-clause-refused : goal.returns-in-Err-clause-refused
-returns-in-Err-clause-refused g c = λ o e. rw (c.of.ensures, ap (λ (v : Vec _ _). v.items) c.in-Err.ensures.no.0)
-    (refused (g.F.Function.function c.args.self.f.now) (machine_of c.args.self.env.now) o c.found.result.items c.args.self.framed
-    (λ none. absurd (false≢true (c.in-Err.ensures.yes.1 none))) (c.found.ensures.prepared o e))
+pub returns-clause-refused : goal.returns-clause-refused
+returns-clause-refused g c = λ o e. rw c.of.ensures
+    (refused (g.F.Function.function c.args.self.f.now) (machine_of c.args.self.env.now) o c.found-errors.result.items c.args.self.framed
+    (λ h. let long : length c.found-errors.result.items ≡ 0 = ap (λ (xs : List _). length xs) h in
+    absurd (false≢true (sym c.if-is_empty.false ∙ c.is_empty.ensures ∙ eq-eqb (vec_len c.found-errors.result) 0 (omega (arith, long, c.found-errors.result.ok.0)))))
+    (c.found-errors.ensures.prepared o e))

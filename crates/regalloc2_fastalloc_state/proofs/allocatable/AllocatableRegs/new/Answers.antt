@@ -1,4 +1,3 @@
-use Rattle.std.proofs.lemmas.Result.{IfOk-from_err}
 use Rattle.std.proofs.Common.{ℕ, ◌≡◌, ◌<◌, inl, inr, rules, slice_index, List, Bool, true, ap, ◌∙◌, sym, subst}
 use Rattle.std.specs.Prelude.{◌||◌, ◌↔◌, Contains}
 use Rattle.regalloc2_names.specs.declared.RegClass.{RegClass}
@@ -88,21 +87,3 @@ returns-clause-fixed_stack g c = λ r.
 pub returns-clause-dedicated_scratch : goal.returns-clause-dedicated_scratch
 returns-clause-dedicated_scratch g c =
     three_items c.args.env.now.scratch_by_class c.index-env-0.result c.index-env-1.result c.index-env-2.result (search rules)
-
-pub returns-in_err-lrus-clause-ok : goal.returns-in_err-lrus-clause-ok
-returns-in_err-lrus-clause-ok g c = IfOk-from_err c.from_residual.result _ c.from_residual.ensures.0
-
-pub returns-in_err-lrus-clause-all : goal.returns-in_err-lrus-clause-all
-returns-in_err-lrus-clause-all g c = IfOk-from_err c.from_residual.result _ c.from_residual.ensures.0
-
-pub returns-in_err-lrus-clause-fixed_stack : goal.returns-in_err-lrus-clause-fixed_stack
-returns-in_err-lrus-clause-fixed_stack g c = IfOk-from_err c.from_residual.result _ c.from_residual.ensures.0
-
-pub returns-in_err-lrus-clause-dedicated_scratch : goal.returns-in_err-lrus-clause-dedicated_scratch
-returns-in_err-lrus-clause-dedicated_scratch g c = IfOk-from_err c.from_residual.result _ c.from_residual.ensures.0
-
-pub returns-in_err-lrus-clause-small : goal.returns-in_err-lrus-clause-small
-returns-in_err-lrus-clause-small g c = IfOk-from_err c.from_residual.result _ c.from_residual.ensures.0
-
-pub returns-in_err-lrus-clause-lrus : goal.returns-in_err-lrus-clause-lrus
-returns-in_err-lrus-clause-lrus g c = IfOk-from_err c.from_residual.result _ c.from_residual.ensures.0

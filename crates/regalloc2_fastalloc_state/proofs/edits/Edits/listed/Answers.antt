@@ -1,4 +1,3 @@
-use Rattle.std.proofs.lemmas.Result.{IfOk-from_err}
 use Rattle.std.proofs.Common.{◌≡◌, ◌∙◌, ap, arith, map, subst}
 use Rattle.regalloc2_function.specs.Views.{edit_of}
 use Rattle.regalloc2_fastalloc_state.specs.StateParts.{PointsDescend}
@@ -32,12 +31,6 @@ returns g c = record {
   falling = subst PointsDescend c.self.view_is c.self.invariant;
   err = tt;
 }
-
-pub returns-in_err-listed-clause-listed : goal.returns-in_err-listed-clause-listed
-returns-in_err-listed-clause-listed g c = IfOk-from_err c.from_residual.result _ c.from_residual.ensures.0
-
-pub returns-in_err-reserve_exact-clause-listed : goal.returns-in_err-reserve_exact-clause-listed
-returns-in_err-reserve_exact-clause-listed g c = IfOk-from_err c.from_residual-in_err-reserve_exact.result _ c.from_residual-in_err-reserve_exact.ensures.0
 
 pub returns-in_err-listed-clause-falling : goal.returns-in_err-listed-clause-falling
 returns-in_err-listed-clause-falling g c = subst PointsDescend c.self.view_is c.self.invariant

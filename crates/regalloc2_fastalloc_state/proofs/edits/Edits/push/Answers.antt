@@ -1,4 +1,3 @@
-use Rattle.std.proofs.lemmas.Result.{IfOk-from_err}
 use Rattle.std.proofs.Common.{ℕ, ◌≡◌, [], ◌∷◌, ◌++◌, ◌∙◌, flat_map, ap, map, sym, subst, arith}
 use Rattle.regalloc2_function.specs.OutputValue.{MoveValue}
 use Rattle.regalloc2_fastalloc_state.specs.StateParts.{PointsDescend, AllAtOrAfter, kept_move}
@@ -9,7 +8,7 @@ use Rattle.regalloc2_fastalloc_state.proofs.edits.Edits.push.Goals.{In_ok-push, 
 use Rattle.regalloc2_fastalloc_state.proofs.edits.Edits.push.Goals.{then-len-capacity+in_ok-begin_chunk, else-len-capacity}
 use Rattle.regalloc2_fastalloc_state.proofs.edits.Edits.push.Goals as goal
 
--- with a new chunk or without, there is one move more
+-- there is one move more, with a new chunk or without
 more : (g : Over) (c : In_ok-push g) →
     map kept_move (flat_map (λ chunk. chunk.items) c.if-len-capacity.self-inside.full.items ++ c.push.new.self.items)
     ≡ c.args.self.now ++ (c.args.point, record { from = c.args.from; to = c.args.to }) ∷ []
@@ -24,7 +23,7 @@ more g c =
     one_kept (flat_map (λ chunk. chunk.items) c.if-len-capacity.self-inside.full.items) c.if-len-capacity.self-inside.current.items
     c.push.new.self.items (c.args.point, c.args.from, c.args.to) c.args.self.now before c.in_ok-push.ensures.items
 
--- and where memory is out, none
+-- if memory runs out, the moves stay
 kept : (g : Over) (c : After-from_residual-in_err-push g) →
     map kept_move (flat_map (λ chunk. chunk.items) c.if-len-capacity.self-inside.full.items ++ c.push.new.self.items) ≡ c.args.self.now
 kept g c =
@@ -57,13 +56,7 @@ returns-clause-later g c =
 pub returns-in_err-push-clause-later : goal.returns-in_err-push-clause-later
 returns-in_err-push-clause-later g c = subst (AllAtOrAfter c.args.point) (sym (kept g c)) c.requires
 
-pub returns-in_err-begin_chunk-clause-ok : goal.returns-in_err-begin_chunk-clause-ok
-returns-in_err-begin_chunk-clause-ok g c = IfOk-from_err c.from_residual.result _ c.from_residual.ensures.0
-
-pub returns-in_err-push-clause-ok : goal.returns-in_err-push-clause-ok
-returns-in_err-push-clause-ok g c = IfOk-from_err c.from_residual-in_err-push.result _ c.from_residual-in_err-push.ensures.0
-
--- where no chunk is begun, the moves are those that were
+-- where no chunk is begun, the moves stay
 unbegun : (g : Over) (c : After-from_residual g) →
     map kept_move (flat_map (λ chunk. chunk.items) c.begin_chunk.new.full.items ++ c.begin_chunk.new.current.items) ≡ c.args.self.now
 unbegun g c =

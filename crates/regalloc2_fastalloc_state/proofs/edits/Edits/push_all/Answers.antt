@@ -1,4 +1,3 @@
-use Rattle.std.proofs.lemmas.Result.{IfOk-from_err}
 use Rattle.std.proofs.Common.{ℕ, ◌≡◌, ◌+◌, ◌-◌, ◌<◌, ◌∙◌, refl, ap, sym, arith, rules, length}
 use Rattle.std.specs.Prelude.{drop, ◌++◌}
 use Rattle.regalloc2_fastalloc_state.specs.ScratchPool.{pushed}
@@ -29,9 +28,3 @@ loop-k-preserved g c =
 pub returns-clause-ok : goal.returns-clause-ok
 returns-clause-ok g c = let none : 0 ≡ c.loop-k.k = omega (arith, c.loop-k-test.false) in c.loop-k.invariant.pushed_so
     ∙ ap (λ (n : ℕ). c.args.self.now ++ pushed c.args.point (drop n c.args.moves.now)) (sym none)
-
-pub returns-in_err-push-clause-ok : goal.returns-in_err-push-clause-ok
-returns-in_err-push-clause-ok g c = IfOk-from_err c.from_residual.result _ c.from_residual.ensures.0
-
-pub returns-in_err-push-clause-later : goal.returns-in_err-push-clause-later
-returns-in_err-push-clause-later g c = IfOk-from_err c.from_residual.result _ c.from_residual.ensures.0

@@ -1,4 +1,4 @@
--- The operands that aren't late are selected, and those are the early ones.
+-- The operands that aren't late, which are the early ones, are selected.
 use Rattle.std.proofs.Common.{◌<◌, ◌^◌, rules}
 use Rattle.regalloc2_parts.specs.Picked.{is_early_operand}
 use Rattle.regalloc2_fastalloc_state.proofs.MaskLemmas.{early_mask, mask_selects}

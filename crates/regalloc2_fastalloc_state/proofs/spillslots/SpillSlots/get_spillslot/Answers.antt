@@ -9,21 +9,21 @@ use Rattle.regalloc2_fastalloc_state.proofs.SpillSlotUnits.{full_slots, no_slot_
 use Rattle.regalloc2_fastalloc_state.proofs.spillslots.SpillSlots.get_spillslot.Given.{Over}
 use Rattle.regalloc2_fastalloc_state.proofs.spillslots.SpillSlots.get_spillslot.Goals as goal
 
-pub returns-then-units-clause-lack : goal.returns-then-units-clause-lack
-returns-then-units-clause-lack g c =
+pub returns-then-end-clause-lack : goal.returns-then-end-clause-lack
+returns-then-end-clause-lack g c =
     let n : ℕ = c.vreg-number.result in
     let items : List Place = c.self.inside.vreg_spillslots.items in
     let lt : n < length items = (let e = ap (λ (t : SpillSlotsValue). length t.vreg_spillslots) c.self.view_is in
     omega (arith, c.requires, c.vreg-number.ensures.number, e)) in
     let none : slice_index_or items n NoPlace ≡ NoPlace = no_slot_yet items n c.index-had.result.now c.is_some.result lt c.index-had.ensures c.is_some.ensures.1
     c.if-is_some.false in
-    subst SlotsExhausted c.self.view_is (full_slots _ c.code.result n c.after-units.result.start c.self.invariant c.code.ensures.small lt none
-    c.after-units.ensures.start (omega (arith, c.if-units.true, c.after-units.ensures.start, c.after-units.ensures.end)))
+    subst SlotsExhausted c.self.view_is (full_slots _ c.code.result n c.next_multiple_of-start.result c.self.invariant c.code.ensures.small lt none
+    c.next_multiple_of-start.ensures.value (omega (arith, c.if-end.true)))
 
 -- the slots with one more
 owned : (g : Over) (c : goal.After-self-2-1 g) → SlotsHaveOneOwner (record {
   vreg_spillslots = slice_set c.self.inside.vreg_spillslots.items c.vreg-number.result c.stack-slot.result;
-  count = c.after-units.result.end;
+  count = c.next_multiple_of-start.result + slice_index_or c.self.inside.sizes c.code.result 0;
   num_temp_slots = c.self.inside.num_temp_slots;
   sizes = c.self.inside.sizes;
   by_last = c.self.inside.by_last;
@@ -36,18 +36,17 @@ owned g c =
     omega (arith, c.requires, c.vreg-number.ensures.number, e)) in
     let none : slice_index_or items n NoPlace ≡ NoPlace = no_slot_yet items n c.index-had.result.now c.is_some.result lt c.index-had.ensures c.is_some.ensures.1
     c.if-is_some.false in
-    let P : Place → ℕ → Type 0 = λ p end. SlotsHaveOneOwner
+    let P : Place → Type 0 = λ p. SlotsHaveOneOwner
     (record {
       vreg_spillslots = slice_set items n p;
-      count = end;
+      count = c.next_multiple_of-start.result + size;
       num_temp_slots = c.self.inside.num_temp_slots;
       sizes = c.self.inside.sizes;
       by_last = c.self.inside.by_last;
     }) in
-    let ends : c.after-units.result.start + size ≡ c.after-units.result.end = omega (arith, c.after-units.ensures.start, c.after-units.ensures.end) in
-    let made = owned_more _ c.code.result n c.after-units.result.start c.self.invariant c.code.ensures.small lt none c.after-units.ensures.start
-    c.named_unit.result (omega (arith, ends, c.if-units.false)) c.named_unit.ensures.within.0 c.named_unit.ensures.within.1 in
-    subst (λ p. P p c.after-units.result.end) (sym (c.stack-slot.ensures ∙ ap InSlot c.new.ensures)) (subst (P (InSlot c.named_unit.result)) ends made)
+    let made = owned_more _ c.code.result n c.next_multiple_of-start.result c.self.invariant c.code.ensures.small lt none c.next_multiple_of-start.ensures.value
+    c.named_unit.result (omega (arith, c.if-end.false)) c.named_unit.ensures.within.0 c.named_unit.ensures.within.1 in
+    subst P (sym (c.stack-slot.ensures ∙ ap InSlot c.new.ensures)) made
 
 pub invariant_of-self : goal.invariant_of-self
 invariant_of-self g c = owned g c
@@ -81,13 +80,10 @@ returns-then-is_some g c =
       owned = subst SlotsHaveOneOwner c.self.view_is c.self.invariant;
     }
 
-pub after-units-requires : goal.after-units-requires
-after-units-requires g c = record { size = c.self.invariant.sizes c.code.result c.code.ensures.small; taken = c.self.invariant.few }
-
 pub named_unit-requires : goal.named_unit-requires
 named_unit-requires g c = record {
   size = (c.self.invariant.sizes c.code.result c.code.ensures.small).0;
-  few = omega (arith, c.if-units.false, c.after-units.ensures.start, c.after-units.ensures.end);
+  few = omega (arith, c.if-end.false);
 }
 
 pub index_mut-requires : goal.index_mut-requires
@@ -95,27 +91,29 @@ index_mut-requires g c =
     let e = ap (λ (t : SpillSlotsValue). length t.vreg_spillslots) c.self.view_is in
     omega (arith, c.requires, c.vreg-number.ensures.number, e, c.self.inside.vreg_spillslots.ok.0)
 
-pub returns-then-units-clause-ok : goal.returns-then-units-clause-ok
-returns-then-units-clause-ok g c = tt
+pub returns-then-end-clause-ok : goal.returns-then-end-clause-ok
+returns-then-end-clause-ok g c = tt
 
-pub returns-then-units-clause-full : goal.returns-then-units-clause-full
-returns-then-units-clause-full g c =
+pub returns-then-end-clause-full : goal.returns-then-end-clause-full
+returns-then-end-clause-full g c =
     let sizes : List ℕ = c.self.inside.sizes in
-    let e = c.after-units.ensures.end ∙ ap (λ i. next_multiple_of c.self.inside.count (slice_index_or sizes i 0) + slice_index_or sizes i 0)
-    (c.code.ensures.code ∙ ap class_code c.class.ensures) ∙ ap (λ (t : SpillSlotsValue). slot_end t c.args.vreg.class) c.self.view_is in
-    (refl, refl, omega (arith, e, c.if-units.true))
+    let size : ℕ = slice_index_or sizes c.code.result 0 in
+    let e : c.next_multiple_of-start.result + size ≡ slot_end c.args.self.now c.args.vreg.class = ap (λ n. n + size) c.next_multiple_of-start.ensures.value
+    ∙ ap (λ i. next_multiple_of c.self.inside.count (slice_index_or sizes i 0) + slice_index_or sizes i 0) (c.code.ensures.code ∙ ap class_code c.class.ensures)
+    ∙ ap (λ (t : SpillSlotsValue). slot_end t c.args.vreg.class) c.self.view_is in
+    (refl, refl, omega (arith, e, c.if-end.true))
 
-pub returns-then-units-clause-sizes : goal.returns-then-units-clause-sizes
-returns-then-units-clause-sizes g c = refl
+pub returns-then-end-clause-sizes : goal.returns-then-end-clause-sizes
+returns-then-end-clause-sizes g c = refl
 
-pub returns-then-units-clause-vregs : goal.returns-then-units-clause-vregs
-returns-then-units-clause-vregs g c = refl
+pub returns-then-end-clause-vregs : goal.returns-then-end-clause-vregs
+returns-then-end-clause-vregs g c = refl
 
-pub returns-then-units-clause-num_temp_slots : goal.returns-then-units-clause-num_temp_slots
-returns-then-units-clause-num_temp_slots g c = refl
+pub returns-then-end-clause-num_temp_slots : goal.returns-then-end-clause-num_temp_slots
+returns-then-end-clause-num_temp_slots g c = refl
 
-pub returns-then-units-clause-owned : goal.returns-then-units-clause-owned
-returns-then-units-clause-owned g c = subst SlotsHaveOneOwner c.self.view_is c.self.invariant
+pub returns-then-end-clause-owned : goal.returns-then-end-clause-owned
+returns-then-end-clause-owned g c = subst SlotsHaveOneOwner c.self.view_is c.self.invariant
 
 pub returns-clause-ok : goal.returns-clause-ok
 returns-clause-ok g c =
@@ -125,9 +123,10 @@ returns-clause-ok g c =
     omega (arith, c.requires, c.vreg-number.ensures.number, e)) in
     let none : slice_index_or items n NoPlace ≡ NoPlace = no_slot_yet items n c.index-had.result.now c.is_some.result lt c.index-had.ensures c.is_some.ensures.1
     c.if-is_some.false in
-    slot_made _ c.args.self.now c.args.vreg c.code.result n c.after-units.result.start c.after-units.result.end c.named_unit.result c.stack-slot.result
-    c.self.view_is c.vreg-number.ensures.number (c.code.ensures.code ∙ ap class_code c.class.ensures) lt none c.after-units.ensures.start
-    c.after-units.ensures.end c.named_unit.ensures.unit c.named_unit.ensures.within.1 (c.stack-slot.ensures ∙ ap InSlot c.new.ensures)
+    let size : ℕ = slice_index_or c.self.inside.sizes c.code.result 0 in
+    slot_made _ c.args.self.now c.args.vreg c.code.result n c.next_multiple_of-start.result (c.next_multiple_of-start.result + size) c.named_unit.result
+    c.stack-slot.result c.self.view_is c.vreg-number.ensures.number (c.code.ensures.code ∙ ap class_code c.class.ensures) lt none
+    c.next_multiple_of-start.ensures.value (ap (λ n. n + size) c.next_multiple_of-start.ensures.value) c.named_unit.ensures.unit c.named_unit.ensures.within.1 (c.stack-slot.ensures ∙ ap InSlot c.new.ensures)
 
 pub returns-clause-full : goal.returns-clause-full
 returns-clause-full g c = tt

@@ -1,16 +1,10 @@
 use Rattle.std.proofs.Common.{refl, inr, true}
-use Rattle.std.proofs.lemmas.Result.{IfOk-from_err, IfErr-weaker}
+use Rattle.std.proofs.lemmas.Result.{IfErr-weaker}
 use Rattle.regalloc2_fastalloc_state.proofs.ValidateLemmas.ValidatedProof.{on_ok_any, on_ok_if}
 use Rattle.regalloc2_fastalloc_state.proofs.validate.constraints.validate_fixed.Goals as goal
 
 pub returns-clause-reuses : goal.returns-clause-reuses
 returns-clause-reuses g c = on_ok_any c.validate_clobbers.result (c.in_ok-validate_reuses.ensures.ok.0 (refl {a = true}))
-
-pub returns-in_err-validate_reuses-clause-reuses : goal.returns-in_err-validate_reuses-clause-reuses
-returns-in_err-validate_reuses-clause-reuses g c = IfOk-from_err c.from_residual.result _ c.from_residual.ensures.0
-
-pub returns-in_err-validate_reuses-clause-fixed : goal.returns-in_err-validate_reuses-clause-fixed
-returns-in_err-validate_reuses-clause-fixed g c = IfOk-from_err c.from_residual.result _ c.from_residual.ensures.0
 
 pub returns-clause-fixed : goal.returns-clause-fixed
 returns-clause-fixed g c = on_ok_if c.validate_clobbers.result (c.validate_clobbers.ensures.ok.0)

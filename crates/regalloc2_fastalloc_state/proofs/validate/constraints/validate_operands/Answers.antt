@@ -1,5 +1,5 @@
 use Rattle.std.proofs.Common.{true, refl, inl, inr, ◌∙◌}
-use Rattle.std.proofs.lemmas.Result.{IfOk-from_err, err_from_is_err_and, IfErr-weaker}
+use Rattle.std.proofs.lemmas.Result.{err_from_is_err_and, IfErr-weaker}
 use Rattle.regalloc2_fastalloc_state.proofs.ValidateLemmas.ValidatedProof.{on_ok_any, on_ok_if}
 use Rattle.regalloc2_fastalloc_state.proofs.validate.constraints.validate_operands.Goals as goal
 
@@ -14,15 +14,6 @@ returns-then-all_pass_operand_tests-clause-branches g c = c.all_pass_operand_tes
 
 pub returns-then-all_pass_operand_tests-clause-refused : goal.returns-then-all_pass_operand_tests-clause-refused
 returns-then-all_pass_operand_tests-clause-refused g c = tt
-
-pub returns-in_err-validate_limits-clause-unlimited : goal.returns-in_err-validate_limits-clause-unlimited
-returns-in_err-validate_limits-clause-unlimited g c = IfOk-from_err c.from_residual.result _ c.from_residual.ensures.0
-
-pub returns-in_err-validate_limits-clause-taken : goal.returns-in_err-validate_limits-clause-taken
-returns-in_err-validate_limits-clause-taken g c = IfOk-from_err c.from_residual.result _ c.from_residual.ensures.0
-
-pub returns-in_err-validate_limits-clause-branches : goal.returns-in_err-validate_limits-clause-branches
-returns-in_err-validate_limits-clause-branches g c = IfOk-from_err c.from_residual.result _ c.from_residual.ensures.0
 
 pub returns-in_err-validate_limits-clause-refused : goal.returns-in_err-validate_limits-clause-refused
 returns-in_err-validate_limits-clause-refused g c =

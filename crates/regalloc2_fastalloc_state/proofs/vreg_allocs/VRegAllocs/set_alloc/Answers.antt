@@ -9,7 +9,7 @@ use Rattle.regalloc2_fastalloc_state.proofs.TakenOut.{all_other}
 use Rattle.std.specs.Prelude.{None, Some}
 use Rattle.regalloc2_names.specs.Place.{NoPlace}
 use Rattle.regalloc2_fastalloc_state.specs.StateParts.{VRegAllocsValue, SetsAlloc, vreg_of_preg, in_front_if, without}
-use Rattle.regalloc2_fastalloc_state.proofs.VRegInPRegInverse.{Marks, inverse_marked, listed_if, marked, sets_alloc_by_marks}
+use Rattle.regalloc2_fastalloc_state.proofs.VRegInPRegInverse.{OneLocationSet, inverse_marked, listed_if, marked, sets_alloc_by_marks}
 use Rattle.regalloc2_fastalloc_state.proofs.vreg_allocs.VRegAllocs.set_alloc.Given.{Over}
 use Rattle.regalloc2_fastalloc_state.proofs.vreg_allocs.VRegAllocs.set_alloc.Goals as goal
 
@@ -34,7 +34,7 @@ put_in_front-requires-clause-absent g c =
     (subst (λ (vs : List VirtualRegister). All (λ v. v.number ≢ c.vreg-number.result) vs) (sym out) (all_other c.vreg-number.result L))
 
 -- what is written
-abbrev marks : (g : Over) (c : goal.After-self-2-1 g) → Marks
+abbrev marks : (g : Over) (c : goal.After-self-2-1 g) → OneLocationSet
 marks g c =
     let known : c.vreg-number.result < length c.self.inside.vreg_allocs.items = (let e = ap (λ (t : VRegAllocsValue). length t.vreg_allocs) c.self.view_is in
     omega (arith, c.requires.vreg, c.vreg-number.ensures.number, e)) in

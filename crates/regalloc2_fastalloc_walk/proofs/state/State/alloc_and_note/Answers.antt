@@ -51,6 +51,3 @@ pub returns-in_err-passes-clause-step : goal.returns-in_err-passes-clause-step
 returns-in_err-passes-clause-step g c =
     let e = err_from_is_err_and c.from_residual.result c.from_residual.ensures.1 in
     rw (e.1, e.2) (record { machine = c.in_err-passes.ensures.step.machine; later = tt; long = tt; err = c.in_err-passes.ensures.step.err })
-
-pub returns-in_err-passes-clause-found : goal.returns-in_err-passes-clause-found
-returns-in_err-passes-clause-found g c = let e = err_from_is_err_and c.from_residual.result c.from_residual.ensures.1 in rw e.1 tt

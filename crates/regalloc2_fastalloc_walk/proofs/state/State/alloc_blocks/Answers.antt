@@ -196,7 +196,7 @@ returns-clause-machine g c =
     lends_then (6 * (length f.blocks - c.loop-b.b)) 0 (6 * length f.blocks) (tables_of c.args.self.now) t t (omega arith) c.loop-b.invariant.machine
     (none_lends 0 t)
 
--- where it stops
+-- where the walk stops
 pub returns-in_err-alloc_block-clause-outcome : goal.returns-in_err-alloc_block-clause-outcome
 returns-in_err-alloc_block-clause-outcome g c =
     let f : FunctionValue = g.F.Function.function c.args.f.now in

@@ -156,7 +156,7 @@ returns-clause-step g c =
       err = tt;
     }
 
--- where it stops
+-- where the walk stops
 pub returns-in_err-unlimited-clause-outcome : goal.returns-in_err-unlimited-clause-outcome
 returns-in_err-unlimited-clause-outcome g c =
     let f : FunctionValue = g.F.Function.function c.args.cx.now.f.now in

@@ -58,16 +58,16 @@ pub returns-clause-outcome : goal.returns-clause-outcome
 returns-clause-outcome g c =
     let old : StateValue = tables_of c.args.self.now in
     let new : StateValue = tables_of c.loop-preg.self in
-    let filled : PRegSet = c.filled-filled.result in
+    let filled : PRegSet = c.filled.result in
     let left : AreLeftOut c.args.point (has_register filled) old =
-    λ r lt out. no_some (vreg_of_preg old.places r) (λ v e. not_both ((c.filled-filled.ensures r lt).1 (v, e)) out) in
-    let all : EvictsEach c.args.point (registers_of c.held_clobbers-held.result) c.args.inst_regs.now old c.loop-preg.inst_regs new =
-    evicts_each_step c.args.point c.loop-preg.yielded c.loop-preg.preg-iterator (registers_of c.held_clobbers-held.result) c.args.inst_regs.now
+    λ r lt out. no_some (vreg_of_preg old.places r) (λ v e. not_both ((c.filled.ensures r lt).1 (v, e)) out) in
+    let all : EvictsEach c.args.point (registers_of c.bitand-held.result) c.args.inst_regs.now old c.loop-preg.inst_regs new =
+    evicts_each_step c.args.point c.loop-preg.yielded c.loop-preg.preg-iterator (registers_of c.bitand-held.result) c.args.inst_regs.now
     c.loop-preg.inst_regs old new c.in-None.ensures.steps.0 (c.loop-preg.invariant.left ∙ c.into_iter-preg-iterator.ensures.into_iter_gives.list)
     c.loop-preg.invariant.cleared in
     evicts_all c.args.point (has_register filled) (registers_of c.args.clobbers) c.args.inst_regs.now c.loop-preg.inst_regs old new
     (are_small c.args.clobbers) left (subst (λ (rs : List Register). EvictsEach c.args.point rs c.args.inst_regs.now old c.loop-preg.inst_regs new)
-    (shared_are c.held_clobbers-held.result c.args.clobbers filled c.held_clobbers-held.ensures) all)
+    (shared_are c.bitand-held.result c.args.clobbers filled c.bitand-held.ensures) all)
 
 pub returns-then-has_none-clause-step : goal.returns-then-has_none-clause-step
 returns-then-has_none-clause-step g c = step_none c.args.self.now c.requires

@@ -4,7 +4,7 @@ use Rattle.regalloc2_fastalloc_proofs.proofs.Moves.ParallelMovesOrdered.{found_o
 use Rattle.regalloc2_fastalloc_walk.proofs.Clashes.{none_is_nothing}
 use Rattle.regalloc2_fastalloc_walk.proofs.state.State.first_scratch.Goals as goal
 
--- the machine's own register
+-- the machine's dedicated scratch register
 pub returns-in-Some : goal.returns-in-Some
 returns-in-Some g c =
     let own = sym c.in-Some.is ∙ c.dedicated_scratch.ensures in

@@ -17,7 +17,7 @@ use Rattle.regalloc2_fastalloc_walk.proofs.state.State.gather_edge.Goals as goal
 
 pub loop-j-init : goal.loop-j-init
 loop-j-init g c =
-    let at : c.passing_point-point.result ≡ before c.args.own.now.branch = c.passing_point-point.ensures in
+    let at : c.before-point.result ≡ before c.args.own.now.branch = c.before-point.ensures.point (λ e. omega (arith, c.requires.inst)) in
     record {
       done = λ given is. (given, is, none_gathered);
       later = subst (λ (p : ℕ). AllAtOrAfter p c.args.self.now.edits) (sym at) c.requires.later;
@@ -47,7 +47,7 @@ gather_argument-requires g c =
       ),
     )
 
--- an argument that the branch doesn't define goes to its parameter, and one that it defines is passed over
+-- an argument that the branch doesn't define goes to its parameter, and an argument that it defines is passed over
 pub loop-j-preserved : goal.loop-j-preserved
 loop-j-preserved g c =
     let ps : List VirtualRegister = c.args.params.now in
@@ -72,7 +72,7 @@ loop-j-preserved g c =
                       (x.0 ++ one v ∷ [])) argument (y.3 x.0 x.1),
                   one_gathered j x.0 y.0 y.1 c.loop-j.inst_regs w.gather_argument.new.inst_regs m n o c.loop-j-test.true x.2
                       (subst (λ (v : VirtualRegister). GetsSpillSlot m.slots n.slots v y.0) param y.2.slot) y.2.places y.2.edits y.2.machine y.2.lrus
-                      (subst (λ (v : VirtualRegister). SpillsArgument c.passing_point-point.result v y.1 c.loop-j.inst_regs w.gather_argument.new.inst_regs n o)
+                      (subst (λ (v : VirtualRegister). SpillsArgument c.before-point.result v y.1 c.loop-j.inst_regs w.gather_argument.new.inst_regs n o)
                       argument y.2.spills)
                       (λ own. let has = c.has.ensures.1 (subst (λ (v : VirtualRegister). IsOwnBy c.args.own.now.defs.now c.args.own.now.branch v)
                       (sym argument) own) in
@@ -98,19 +98,19 @@ loop-j-preserved g c =
 
 pub returns-clause-outcome : goal.returns-clause-outcome
 returns-clause-outcome g c = λ given is.
-    let at : c.passing_point-point.result ≡ before c.args.own.now.branch = c.passing_point-point.ensures in
+    let at : c.before-point.result ≡ before c.args.own.now.branch = c.before-point.ensures.point (λ e. omega (arith, c.requires.inst)) in
     let e : c.loop-j.j ≡ length c.args.params.now = omega arith in
     let x = c.loop-j.invariant.done given is in
     let G : ℕ → ℕ → Type 0 = λ p k. GathersEdgeMoves (IsOwnBy c.args.own.now.defs.now c.args.own.now.branch) p c.args.params.now c.args.arguments.now
     c.args.inst_regs.now (tables_of c.args.self.now) given k c.loop-j.inst_regs (tables_of c.loop-j.self) x.0 in (
       x.0,
       x.1,
-      subst (λ (p : ℕ). G p (length c.args.params.now)) at (subst (G c.passing_point-point.result) e x.2),
+      subst (λ (p : ℕ). G p (length c.args.params.now)) at (subst (G c.before-point.result) e x.2),
     )
 
 pub returns-clause-step : goal.returns-clause-step
 returns-clause-step g c =
-    let at : c.passing_point-point.result ≡ before c.args.own.now.branch = c.passing_point-point.ensures in
+    let at : c.before-point.result ≡ before c.args.own.now.branch = c.before-point.ensures.point (λ e. omega (arith, c.requires.inst)) in
     record {
       machine = c.loop-j.invariant.machine;
       later = subst (λ (p : ℕ). AllAtOrAfter p c.loop-j.self.edits) at c.loop-j.invariant.later;
@@ -120,7 +120,7 @@ returns-clause-step g c =
 
 pub returns-in_err-gather_argument-clause-outcome : goal.returns-in_err-gather_argument-clause-outcome
 returns-in_err-gather_argument-clause-outcome g c =
-    let at : c.passing_point-point.result ≡ before c.args.own.now.branch = c.passing_point-point.ensures in
+    let at : c.before-point.result ≡ before c.args.own.now.branch = c.before-point.ensures.point (λ e. omega (arith, c.requires.inst)) in
     let vs : List VirtualRegister = c.args.arguments.now in
     let lt : c.loop-j.j < length vs = omega (arith, c.loop-j-test.true, c.requires.counted) in
     let argument : c.index-arguments-j.result ≡ slice_index_or vs c.loop-j.j no_vreg = get_or_read vs c.loop-j.j c.index-arguments-j.result lt
@@ -132,7 +132,7 @@ returns-in_err-gather_argument-clause-outcome g c =
     λ given is. rw e.1 (λ same.
     let x = c.loop-j.invariant.done given is in
     let f = c.in_err-gather_argument.ensures.outcome (sym e.2 ∙ same) in
-    let S : VirtualRegister → Type 0 = λ v. SpillArgument c.passing_point-point.result v c.loop-j.inst_regs f.0 no_register in
+    let S : VirtualRegister → Type 0 = λ v. SpillArgument c.before-point.result v c.loop-j.inst_regs f.0 no_register in
     subst (λ (p : ℕ). F p given) at (record {
       index = c.loop-j.j;
       given = (c.loop-j.inst_regs, x.0);

@@ -109,10 +109,6 @@ returns-in_err-stores-clause-err g c =
     let p = err_from_is_err_and c.from_residual.result c.from_residual.ensures.1 in
     rw (p.1 ∙ ap Err (p.2 ∙ c.in_err-stores.ensures.err)) refl
 
-pub returns-in_err-list_params-clause-ok : goal.returns-in_err-list_params-clause-ok
-returns-in_err-list_params-clause-ok g c =
-    let p = err_from_is_err_and c.from_residual-in_err-list_params.result c.from_residual-in_err-list_params.ensures.1 in rw p.1 tt
-
 pub returns-in_err-list_params-clause-err : goal.returns-in_err-list_params-clause-err
 returns-in_err-list_params-clause-err g c =
     let p = err_from_is_err_and c.from_residual-in_err-list_params.result c.from_residual-in_err-list_params.ensures.1 in
@@ -157,6 +153,3 @@ branch_blockparams-arguments-requires-clause-nonempty g c =
 
 pub branch_blockparams-arguments-requires-clause-position : goal.branch_blockparams-arguments-requires-clause-position
 branch_blockparams-arguments-requires-clause-position g c = c.requires.edge.1.edge.edge
-
-pub returns-in_err-stores-clause-ok : goal.returns-in_err-stores-clause-ok
-returns-in_err-stores-clause-ok g c = let p = err_from_is_err_and c.from_residual.result c.from_residual.ensures.1 in rw p.1 tt

@@ -44,7 +44,7 @@ loop-k-preserved-in-Continue-1 g c =
           c.in_ok-move_use.ensures.step.machine;
     }
 
--- one that doesn't is left alone
+-- a use that doesn't read is left alone
 pub loop-k-preserved : goal.loop-k-preserved
 loop-k-preserved g c = record {
   done = use_passed c.loop-k.invariant.done c.in-Some.ensures.steps (sym c.is_reading.ensures ∙ c.if-is_reading.false);

@@ -143,15 +143,8 @@ returns-in_err-resolved-clause-outcome g c =
     let p = err_from_is_err_and c.from_residual.result c.from_residual.ensures.1 in
     rw p.1 (λ lacks. no_lack p.2 (ap error_of c.in_err-resolved.ensures.memory) lacks)
 
-pub returns-in_err-resolved-clause-unchanged : goal.returns-in_err-resolved-clause-unchanged
-returns-in_err-resolved-clause-unchanged g c = let p = err_from_is_err_and c.from_residual.result c.from_residual.ensures.1 in rw p.1 refl
-
 pub returns-in_err-resolved-clause-err : goal.returns-in_err-resolved-clause-err
 returns-in_err-resolved-clause-err g c =
     let s = c.args.self.now.slots in
     let p = err_from_is_err_and c.from_residual.result c.from_residual.ensures.1 in
     rw p.1 (subst (IsResourceError (SlotsExhaustedWith s (s.num_temp_slots + 2))) (sym (p.2 ∙ ap error_of c.in_err-resolved.ensures.memory)) tt)
-
-pub returns-in_err-made-clause-unchanged : goal.returns-in_err-made-clause-unchanged
-returns-in_err-made-clause-unchanged g c =
-    let p = err_from_is_err_and c.from_residual-in_err-made.result c.from_residual-in_err-made.ensures.1 in rw p.1 refl

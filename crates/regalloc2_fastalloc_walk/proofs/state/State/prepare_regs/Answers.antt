@@ -1,5 +1,5 @@
 use Rattle.std.proofs.Common.{ℕ, ◌≡◌, List, length, sym, ap, ◌∙◌, subst, rules, arith, slice_index}
-use Rattle.std.proofs.lemmas.Result.{err_from_is_err_and, IfOk-from_err}
+use Rattle.std.proofs.lemmas.Result.{err_from_is_err_and}
 use Rattle.regalloc2_names.specs.Register.{class_code}
 use Rattle.regalloc2_names.specs.RegisterSet.{registers_of}
 use Rattle.regalloc2_names.specs.Point.{after}
@@ -130,13 +130,3 @@ evict_clobbers-requires g c = (search rules, c.in_ok-evict_fixed.ensures.step.la
 
 pub returns-clause-sorted : goal.returns-clause-sorted
 returns-clause-sorted g c = c.in_ok-sorted.ensures.sorted
-
-pub returns-in_err-sorted-clause-sorted : goal.returns-in_err-sorted-clause-sorted
-returns-in_err-sorted-clause-sorted g c = IfOk-from_err c.from_residual.result _ c.from_residual.ensures.0
-
-pub returns-in_err-evict_fixed-clause-sorted : goal.returns-in_err-evict_fixed-clause-sorted
-returns-in_err-evict_fixed-clause-sorted g c = IfOk-from_err c.from_residual-in_err-evict_fixed.result _ c.from_residual-in_err-evict_fixed.ensures.0
-
-pub returns-in_err-evict_clobbers-clause-sorted : goal.returns-in_err-evict_clobbers-clause-sorted
-returns-in_err-evict_clobbers-clause-sorted g c =
-    IfOk-from_err c.from_residual-in_err-evict_clobbers.result _ c.from_residual-in_err-evict_clobbers.ensures.0

@@ -34,7 +34,7 @@ returns-then-passes_nothing-clause-step g c = record {
 pub push_gathered-requires : goal.push_gathered-requires
 push_gathered-requires g c =
     let f = g.F.Function.function c.args.cx.now.f.now in
-    let at : c.passing_point-point.result ≡ before c.args.inst = c.passing_point-point.ensures in
+    let at : c.before-point.result ≡ before c.args.inst = c.before-point.ensures.point (λ e. omega (arith, c.requires.gathering.inst)) in
     let old : StateValue = tables_of c.args.self.now in
     let m : StateValue = tables_of c.gather.new.self in
     let x = c.in_ok-moves.ensures.outcome in
@@ -57,11 +57,11 @@ push_gathered-requires g c =
 
 pub returns-clause-outcome : goal.returns-clause-outcome
 returns-clause-outcome g c =
-    let at : c.passing_point-point.result ≡ before c.args.inst = c.passing_point-point.ensures in
+    let at : c.before-point.result ≡ before c.args.inst = c.before-point.ensures.point (λ e. omega (arith, c.requires.gathering.inst)) in
     let m : StateValue = tables_of c.gather.new.self in
     let x = c.in_ok-moves.ensures.outcome in
     let u = c.gather.new.inst_regs in
-    let p : ℕ = c.passing_point-point.result in
+    let p : ℕ = c.before-point.result in
     MatchResult-weaker c.push_gathered.result c.push_gathered.ensures.outcome
     (λ v y.
     record {
@@ -83,11 +83,11 @@ returns-clause-outcome g c =
 
 pub returns-clause-step : goal.returns-clause-step
 returns-clause-step g c =
-    let at : c.passing_point-point.result ≡ before c.args.inst = c.passing_point-point.ensures in
+    let at : c.before-point.result ≡ before c.args.inst = c.before-point.ensures.point (λ e. omega (arith, c.requires.gathering.inst)) in
     let old : StateValue = tables_of c.args.self.now in
     let b : StateValue = tables_of c.gather.new.self in
     let u = c.gather.new.inst_regs in
-    let p : ℕ = c.passing_point-point.result in
+    let p : ℕ = c.before-point.result in
     let Full : Type 0 = SlotsExhaustedWith old.slots (old.slots.num_temp_slots + 6) in
     let lends = lends_none old b c.gather.ensures.step.machine in
     record {
@@ -105,7 +105,7 @@ returns-clause-step g c =
           c.push_gathered.ensures.err;
     }
 
--- what is lacking, wherever it stops
+-- what is lacking, wherever the walk stops
 pub returns-in_err-moves-clause-step : goal.returns-in_err-moves-clause-step
 returns-in_err-moves-clause-step g c =
     let old : StateValue = tables_of c.args.self.now in

@@ -6,7 +6,7 @@ use Rattle.regalloc2_fastalloc_walk.specs.StateView.{tables_of}
 use Rattle.regalloc2_fastalloc_walk.proofs.OperandsProcessed.{AreProcessed}
 use Rattle.regalloc2_fastalloc_walk.proofs.state.State.process_operands_at.Given as goal
 
--- the operands before an index are processed, and those that are selected from it on are left
+-- the operands before an index are processed, and the selected operands from the index on are left
 abbrev pub invariant-loop-k : goal.invariant-loop-k
 invariant-loop-k g l = record {
   done : AreProcessed l.cx.inst l.cx.ends_block l.fn.pos l.cx.operands.now l.fn.allocs l.fn.inst_regs (tables_of l.fn.self) l.k-iterator l.allocs

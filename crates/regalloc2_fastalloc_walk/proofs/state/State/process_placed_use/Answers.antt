@@ -4,8 +4,8 @@ use Rattle.regalloc2_names.specs.Register.{Register, VirtualRegister}
 use Rattle.regalloc2_names.specs.Place.{Place, NoPlace, InRegister, InSlot}
 use Rattle.regalloc2_names.specs.Point.{after}
 use Rattle.regalloc2_names.specs.Operand.{OperandValue}
-use Rattle.regalloc2_steps.specs.Positions.{positions_of}
-use Rattle.regalloc2_steps.specs.declared.positions.Positions.{Positions}
+use Rattle.regalloc2_fastalloc_state.specs.Positions.{positions_of}
+use Rattle.regalloc2_fastalloc_state.specs.declared.positions.Positions.{Positions}
 use Rattle.regalloc2_fastalloc_state.specs.declared.request.Requirement.{Requirement}
 use Rattle.regalloc2_fastalloc_state.specs.declared.request.Requirement.TheVariants.{InPReg}
 use Rattle.regalloc2_fastalloc_state.specs.declared.request.OperandRequest.{OperandRequest}
@@ -44,7 +44,7 @@ returns-clause-outcome g c =
     a_use c.in_ok-allocs.field-0 c.requires.reading
     (subst (P (after c.args.cx.now.inst)) asked (subst (λ (n : ℕ). P n request) at c.in_ok-allocs.ensures.outcome)) refl
 
--- it gets no place
+-- the use gets no place
 pub returns-in_err-allocs-clause-outcome : goal.returns-in_err-allocs-clause-outcome
 returns-in_err-allocs-clause-outcome g c =
     let ops : List OperandValue = c.args.cx.now.operands.now in

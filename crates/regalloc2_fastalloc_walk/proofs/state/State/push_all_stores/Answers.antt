@@ -4,13 +4,13 @@ use Rattle.regalloc2_fastalloc_state.specs.StateParts.{NoneIsFrom}
 use Rattle.regalloc2_fastalloc_proofs.specs.InstSteps.{StateValue, SameMachine}
 use Rattle.regalloc2_fastalloc_walk.specs.BranchStores.{LacksStoreReg, PushesStores}
 use Rattle.regalloc2_fastalloc_walk.specs.StateView.{tables_of}
-use Rattle.regalloc2_steps.specs.declared.moved.PlaceMove.{PlaceMove}
+use Rattle.regalloc2_fastalloc_walk.specs.declared.store.StoreMove.{StoreMove}
 use Rattle.regalloc2_fastalloc_walk.proofs.Steps.{step_after}
 use Rattle.regalloc2_fastalloc_walk.proofs.StepsFail.{fails_as}
 use Rattle.regalloc2_fastalloc_walk.proofs.state.State.push_all_stores.Goals as goal
 
 -- a lack of registers in later tables
-lack_before : (t u : StateValue) → SameMachine t u → (ms : List PlaceMove) → LacksStoreReg u ms → LacksStoreReg t ms
+lack_before : (t u : StateValue) → SameMachine t u → (ms : List StoreMove) → LacksStoreReg u ms → LacksStoreReg t ms
 lack_before t u same ms h = (h.0, h.1, subst (λ set. NoneIsFrom set h.0.class 0) same.allocatable h.2)
 
 pub push_stores-requires : goal.push_stores-requires
@@ -23,16 +23,8 @@ pub returns-clause-outcome : goal.returns-clause-outcome
 returns-clause-outcome g c =
     let t : StateValue = tables_of c.args.self.now in
     let u : StateValue = tables_of c.push_stores.new.self in
-    let w : StateValue = tables_of c.push_stores-2.new.self in
-    let point : ℕ = c.args.point in
-    let ms : List PlaceMove = c.args.moves.now in
-    MatchResult-weaker c.push_stores-2.result c.push_stores-2.ensures.outcome
-    (λ v pushes. (
-      u,
-      subst (λ (turn : Bool × Bool). PushesStores point turn.0 ms t u) c.stack_in_turn-first.ensures c.in_ok-push_stores.ensures.outcome,
-      subst (λ (turn : Bool × Bool). PushesStores point turn.1 ms u w) c.stack_in_turn-first.ensures pushes,
-    ))
-    (λ e stops lacks. lack_before t u c.in_ok-push_stores.ensures.step.machine ms (stops lacks))
+    MatchResult-weaker c.push_stores-2.result c.push_stores-2.ensures.outcome (λ v pushes. (u, c.in_ok-push_stores.ensures.outcome, pushes))
+    (λ e stops lacks. lack_before t u c.in_ok-push_stores.ensures.step.machine c.args.moves.now (stops lacks))
 
 pub returns-clause-step : goal.returns-clause-step
 returns-clause-step g c = step_after c.push_stores-2.result c.args.self.now c.push_stores.new.self c.push_stores-2.new.self

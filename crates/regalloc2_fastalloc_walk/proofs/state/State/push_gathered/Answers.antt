@@ -81,7 +81,7 @@ returns-clause-outcome g c = MatchResult-weaker c.push_moves-3.result c.push_mov
     (λ e stops lacks. inr (inr (lacks_before Vector c.args.moves.vector (tables_of c.args.self.now) (tables_of c.push_moves-2.new.self)
     (c.push_moves-2.ensures.machine.allocatable ∙ c.push_moves.ensures.machine.allocatable) (stops lacks))))
 
--- what is lacking, wherever it stops
+-- what is lacking, wherever the walk stops
 pub returns-in_err-push_moves-clause-err : goal.returns-in_err-push_moves-clause-err
 returns-in_err-push_moves-clause-err g c =
     let old : StateValue = tables_of c.args.self.now in

@@ -15,9 +15,6 @@ returns-clause-later g c = c.push-2.ensures.later
 pub returns-clause-rest : goal.returns-clause-rest
 returns-clause-rest g c = refl
 
-pub returns-in_err-push-clause-ok : goal.returns-in_err-push-clause-ok
-returns-in_err-push-clause-ok g c = let e = err_from_is_err_and c.from_residual.result c.from_residual.ensures.1 in rw e.1 tt
-
 pub returns-in_err-push-clause-later : goal.returns-in_err-push-clause-later
 returns-in_err-push-clause-later g c = c.push.ensures.later
 

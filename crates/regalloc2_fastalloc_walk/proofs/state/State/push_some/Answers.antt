@@ -46,9 +46,6 @@ returns-in_err-made-clause-outcome g c =
     let e = err_from_is_err_and c.from_residual.result c.from_residual.ensures.1 in
     rw e.1 (λ lacks. c.in_err-made.ensures.outcome (sym e.2 ∙ lacks))
 
-pub returns-in_err-made-clause-later : goal.returns-in_err-made-clause-later
-returns-in_err-made-clause-later g c = let e = err_from_is_err_and c.from_residual.result c.from_residual.ensures.1 in rw e.1 tt
-
 pub returns-in_err-made-clause-machine : goal.returns-in_err-made-clause-machine
 returns-in_err-made-clause-machine g c =
     let t : StateValue = tables_of c.args.self.now in

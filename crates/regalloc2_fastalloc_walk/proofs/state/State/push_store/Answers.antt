@@ -45,11 +45,7 @@ returns-clause-outcome g c =
         };
       },
       ap (λ (es : List (ℕ × MoveValue)). record t { edits = es })
-          (c.in_ok-push-3.ensures.ok
-          ∙ ap (λ (w : (Place × Place) × (Place × Place)). c.push-2.new.self ++ (c.args.point, record { from = w.0.0; to = w.0.1 }) ∷ []) c.by_way_of.ensures
-          ∙ ap (λ (es : List (ℕ × MoveValue)). es ++ second ∷ [])
-          (c.in_ok-push-2.ensures.ok ∙ ap (λ (w : (Place × Place) × (Place × Place)). t.edits ++ (c.args.point, record { from = w.1.0; to = w.1.1 }) ∷ [])
-          c.by_way_of.ensures)
+          (c.in_ok-push-3.ensures.ok ∙ ap (λ (es : List (ℕ × MoveValue)). es ++ second ∷ []) c.in_ok-push-2.ensures.ok
           ∙ append_assoc t.edits (first ∷ []) (second ∷ [])),
     )
 

@@ -4,7 +4,7 @@ use Rattle.regalloc2_fastalloc_walk.specs.BranchStores.{PushesStores}
 use Rattle.regalloc2_fastalloc_walk.specs.StateView.{tables_of}
 use Rattle.regalloc2_fastalloc_walk.proofs.state.State.push_stores.Given as goal
 
--- those from an index on are pushed
+-- the stores of the kind from an index on are pushed
 abbrev pub invariant-loop-k : goal.invariant-loop-k
 invariant-loop-k g l = record {
   within : l.k ≤ length l.moves;

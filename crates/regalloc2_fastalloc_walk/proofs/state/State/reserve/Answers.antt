@@ -31,12 +31,6 @@ returns-clause-sorted g c = c.sort-sorted.ensures.sorted
 pub returns-in_err-reserve_each-clause-same : goal.returns-in_err-reserve_each-clause-same
 returns-in_err-reserve_each-clause-same g c = c.reserve_each.ensures.same
 
-pub returns-in_err-reserve_each-clause-unused : goal.returns-in_err-reserve_each-clause-unused
-returns-in_err-reserve_each-clause-unused g c = let e = err_from_is_err_and c.from_residual.result c.from_residual.ensures.1 in rw e.1 tt
-
-pub returns-in_err-reserve_each-clause-sorted : goal.returns-in_err-reserve_each-clause-sorted
-returns-in_err-reserve_each-clause-sorted g c = let e = err_from_is_err_and c.from_residual.result c.from_residual.ensures.1 in rw e.1 tt
-
 pub returns-in_err-reserve_each-clause-err : goal.returns-in_err-reserve_each-clause-err
 returns-in_err-reserve_each-clause-err g c =
     let e = err_from_is_err_and c.from_residual.result c.from_residual.ensures.1 in

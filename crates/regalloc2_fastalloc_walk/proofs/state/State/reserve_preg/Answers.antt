@@ -30,7 +30,7 @@ returns-clause-grows g c = c.reserve.ensures.grows
 pub returns-clause-only : goal.returns-clause-only
 returns-clause-only g c = c.reserve.ensures.only
 
--- it was claimed before
+-- the register was claimed before
 pub returns-in_err-reserve : goal.returns-in_err-reserve
 returns-in_err-reserve g c =
     let e = err_from_is_err_and c.from_residual.result c.from_residual.ensures.1 in
@@ -45,7 +45,7 @@ returns-in_err-reserve g c =
       stops = rw e.1 (λ lacks. inr c.in_err-reserve.ensures.claimed);
     }
 
--- it isn't one of the machine's
+-- the register is neither allocatable nor a fixed stack slot
 pub returns-then-not-is_of_machine : goal.returns-then-not-is_of_machine
 returns-then-not-is_of_machine g c = record {
   ok = tt;

@@ -5,7 +5,7 @@ use Rattle.regalloc2_names.specs.Place.{Place, InRegister}
 use Rattle.regalloc2_fastalloc_state.specs.InstRegs.{IsAvailableAt}
 use Rattle.regalloc2_fastalloc_state.specs.StateParts.{NoneIsIn}
 use Rattle.regalloc2_fastalloc_walk.specs.StateView.{tables_of}
-use Rattle.regalloc2_steps.specs.declared.positions.Positions.{Positions}
+use Rattle.regalloc2_fastalloc_state.specs.declared.positions.Positions.{Positions}
 use Rattle.regalloc2_fastalloc_proofs.proofs.Moves.ParallelMovesOrdered.{spare_of, differ_of}
 use Rattle.regalloc2_fastalloc_walk.proofs.AvailableCount.{only_first}
 use Rattle.regalloc2_fastalloc_walk.proofs.Clashes.{none_is_nothing, not_both}
@@ -57,7 +57,7 @@ returns-clause-differ g c =
       found = c.choose_register.ensures.found;
     })
 
--- the machine's own comes first
+-- the machine's dedicated scratch register comes first
 pub returns-in_default-clause-own : goal.returns-in_default-clause-own
 returns-in_default-clause-own g c = λ r e. none_is_nothing (c.in_default.ensures.own r e)
 
@@ -67,7 +67,7 @@ returns-clause-own g c = λ r e.
     let same : c.in-Some.first ≡ r = cc in
     ap (λ (p : Place). Some p) (c.reg.ensures ∙ ap (λ (q : Register). InRegister q) same)
 
--- a free register would be found, or is the one that was
+-- a free register would be found, or is the register that was found
 pub returns-in_default-clause-all : goal.returns-in_default-clause-all
 returns-in_default-clause-all g c = λ r small of_class held free. not_both
     (c.available_pregs-free.ensures.throughout r free) (c.in_default.ensures.none r small of_class held)
@@ -83,7 +83,7 @@ returns-clause-all g c = λ r small of_class held free. (
       ap (λ (p : Place). Some p) (c.reg.ensures ∙ ap (λ (q : Register). InRegister q) same),
 )
 
--- none are no two
+-- where there is no register, there aren't two
 pub returns-in_default-clause-scratch_reserve : goal.returns-in_default-clause-scratch_reserve
 returns-in_default-clause-scratch_reserve g c = λ p h. ⊎_elim (λ (e : None ≡ Some p). none_is_nothing e) (λ (e : None ≡ Some p). none_is_nothing e) h
 

@@ -20,14 +20,14 @@ use Rattle.regalloc2_fastalloc_proofs.proofs.Safety.StoredDefs.{concerned_made}
 use Rattle.regalloc2_fastalloc_proofs.proofs.Safety.StoresKeepSafe.{stored_concerned, stored_defines}
 use Rattle.regalloc2_fastalloc_walk.specs.BranchStores.{FindsStores, LacksStoreReg, PushesStores}
 use Rattle.regalloc2_fastalloc_walk.specs.StateView.{IsStepAt, tables_of}
-use Rattle.regalloc2_steps.specs.declared.moved.PlaceMove.{PlaceMove}
+use Rattle.regalloc2_fastalloc_walk.specs.declared.store.StoreMove.{StoreMove}
 use Rattle.regalloc2_fastalloc_walk.specs.declared.store.StoredDef.{StoredDef}
 use Rattle.regalloc2_fastalloc_walk.proofs.Steps.{fails_with, step_after}
 use Rattle.regalloc2_fastalloc_walk.proofs.StoresOnEdge.{edge_stores, stores_on, stores_lack}
 use Rattle.regalloc2_fastalloc_walk.proofs.StepsFail.{fails_for_memory, no_lack, same_machine}
 use Rattle.regalloc2_fastalloc_walk.proofs.state.State.store_branch_defs.Goals as goal
 
--- what is stored is of vregs of the function, and of operands of the branch
+-- the stores are for vregs of the function, and of operands of the branch
 module _ (f : FunctionValue) (well : MayBeAllocated f) (b e k : ℕ) (edge : IsEdgeInto f b e k) (slots : SpillSlotsValue) where
   number_small : (n : ℕ) → DefinesBelow f n → (j : ℕ) (v : VirtualRegister) → IsStoredFor f e k slots j v → v.number < n
   number_small n room j v is = made_below f n room v
@@ -113,10 +113,10 @@ push_all_stores-requires g c =
     )
 
 -- a lack of registers in later tables, for moves that are the same
-lack_before : (t u : StateValue) → SameMachine t u → (ms ns : List PlaceMove) → ns ≡ ms → LacksStoreReg u ns → LacksStoreReg t ms
+lack_before : (t u : StateValue) → SameMachine t u → (ms ns : List StoreMove) → ns ≡ ms → LacksStoreReg u ns → LacksStoreReg t ms
 lack_before t u same ms ns is h = (
   h.0,
-  subst (λ (l : List PlaceMove). Contains l h.0) is h.1,
+  subst (λ (l : List StoreMove). Contains l h.0) is h.1,
   subst (λ set. NoneIsFrom set h.0.class 0) same.allocatable h.2,
 )
 
@@ -128,7 +128,7 @@ returns-clause-outcome g c =
     let old : StateValue = tables_of c.args.self.now in
     let t : StateValue = tables_of c.store_moves.new.self in
     let ds : List StoredDef = c.in_ok-stores.stores.items in
-    let ms : List PlaceMove = c.in_ok-moves.moves.items in
+    let ms : List StoreMove = c.in_ok-moves.moves.items in
     let slots : SpillSlotsValue = c.store_moves.new.self.slots in
     let ops : c.inst_operands.result.now ≡ branch_operands f e = c.inst_operands.ensures ∙ ap (λ (n : ℕ). (inst_at f n).operands) ie.branch in
     let finds : FindsStores (branch_operands f e) ds old.slots (length ds) ms slots =
@@ -146,8 +146,8 @@ returns-clause-outcome g c =
     MatchResult-weaker c.push_all_stores.result c.push_all_stores.ensures.outcome
     (λ v pushes.
     let p : PushesStores point true ms (record old { slots = slots }) pushes.0 = subst (λ (x : StateValue). PushesStores point true ms x pushes.0) tables
-    (subst (λ (l : List PlaceMove). PushesStores point true l t pushes.0) same pushes.1) in
-    let q : PushesStores point false ms pushes.0 w = subst (λ (l : List PlaceMove). PushesStores point false l pushes.0 w) same pushes.2 in
+    (subst (λ (l : List StoreMove). PushesStores point true l t pushes.0) same pushes.1) in
+    let q : PushesStores point false ms pushes.0 w = subst (λ (l : List StoreMove). PushesStores point false l pushes.0 w) same pushes.2 in
     all_stored e k ie.edge (subst (λ (n : ℕ). StoresOn f e k n old w) at
     (stores_on stores (made_machine old t slots tables c.store_moves.ensures.step.machine) p q)))
     (λ d stops lacks. stores_lack stores (lack_before old t c.store_moves.ensures.step.machine ms c.deref-2.result.now same (stops lacks)))

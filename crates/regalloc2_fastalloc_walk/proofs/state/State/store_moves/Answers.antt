@@ -8,14 +8,14 @@ use Rattle.regalloc2_fastalloc_proofs.specs.InstSteps.{StateValue}
 use Rattle.regalloc2_fastalloc_proofs.proofs.Evictions.PushedAndRemoved.{same_then}
 use Rattle.regalloc2_fastalloc_walk.specs.BranchStores.{FindsStore, FindsStores, no_store, none_found, one_found}
 use Rattle.regalloc2_fastalloc_walk.specs.StateView.{tables_of}
-use Rattle.regalloc2_steps.specs.declared.moved.PlaceMove.{PlaceMove}
+use Rattle.regalloc2_fastalloc_walk.specs.declared.store.StoreMove.{StoreMove}
 use Rattle.regalloc2_fastalloc_walk.specs.declared.store.StoredDef.{StoredDef}
 use Rattle.std.proofs.lemmas.Result.{err_from_is_err_and}
 use Rattle.regalloc2_fastalloc_walk.proofs.state.State.store_moves.Goals as goal
 
 pub loop-store-init : goal.loop-store-init
 loop-store-init g c = record {
-  finds = subst (λ (ms : List PlaceMove). FindsStores c.args.operands.now c.args.stores.now c.args.self.now.slots 0 ms c.args.self.now.slots)
+  finds = subst (λ (ms : List StoreMove). FindsStores c.args.operands.now c.args.stores.now c.args.self.now.slots 0 ms c.args.self.now.slots)
       (sym c.new-moves.ensures.items) none_found;
   tables = refl;
   machine = record { allocatable = refl; fixed_stack = refl; dedicated_scratch = refl; sizes = refl; vregs = refl; num_temp_slots = refl };
@@ -63,7 +63,7 @@ loop-store-preserved g c =
     c.in_ok-m.ensures.ok in
     let t : StateValue = tables_of c.args.self.now in
     record {
-      finds = subst (λ (ms : List PlaceMove). FindsStores ops ds t.slots (k + 1) ms c.store_move.new.self.slots) (sym c.in_ok-push.ensures.items)
+      finds = subst (λ (ms : List StoreMove). FindsStores ops ds t.slots (k + 1) ms c.store_move.new.self.slots) (sym c.in_ok-push.ensures.items)
           (one_found k c.loop-store.moves.items c.in_ok-m.m c.loop-store.self.slots c.store_move.new.self.slots c.loop-store-test.true
           c.loop-store.invariant.finds (subst (λ (d : StoredDef). F (op_at ops d.index) d.to) item one));
       tables = c.store_move.ensures.step.tables ∙ ap (λ (x : StateValue). record x { slots = c.store_move.new.self.slots }) c.loop-store.invariant.tables;
@@ -79,10 +79,6 @@ returns-clause-ok g c =
 pub returns-clause-step : goal.returns-clause-step
 returns-clause-step g c = record { tables = c.loop-store.invariant.tables; machine = c.loop-store.invariant.machine; err = search rules }
 
--- slots, or memory for them, are out
-pub returns-in_err-m-clause-ok : goal.returns-in_err-m-clause-ok
-returns-in_err-m-clause-ok g c = let e = err_from_is_err_and c.from_residual.result c.from_residual.ensures.1 in rw e.1 tt
-
 pub returns-in_err-m-clause-step : goal.returns-in_err-m-clause-step
 returns-in_err-m-clause-step g c =
     let e = err_from_is_err_and c.from_residual.result c.from_residual.ensures.1 in
@@ -92,6 +88,3 @@ returns-in_err-m-clause-step g c =
       machine = same_then t (tables_of c.loop-store.self) (tables_of c.store_move.new.self) c.loop-store.invariant.machine c.store_move.ensures.step.machine;
       err = c.in_err-m.ensures.step.err;
     }))
-
-pub returns-in_err-push-clause-ok : goal.returns-in_err-push-clause-ok
-returns-in_err-push-clause-ok g c = let e = err_from_is_err_and c.from_residual-in_err-push.result c.from_residual-in_err-push.ensures.1 in rw e.1 tt

@@ -1,5 +1,4 @@
 use Rattle.std.proofs.Common.{arith}
-use Rattle.std.proofs.lemmas.Result.{err_from_is_err_and}
 use Rattle.regalloc2_function.proofs.ErrorOnlyOutOfMemory.{on_ok_both}
 use Rattle.regalloc2_function.proofs.cfg.CFGInfo.fill.Goals as goal
 
@@ -14,13 +13,6 @@ list_insts-requires-clause-follow g c = c.requires.shape.follow
 
 pub list_points-requires-clause-follow : goal.list_points-requires-clause-follow
 list_points-requires-clause-follow g c = c.requires.shape.follow
-
-pub returns-in_err-leave_order : goal.returns-in_err-leave_order
-returns-in_err-leave_order g c = let p = err_from_is_err_and c.from_residual.result c.from_residual.ensures.1 in rw p.1 tt
-
-pub returns-in_err-list_insts : goal.returns-in_err-list_insts
-returns-in_err-list_insts g c =
-    let p = err_from_is_err_and c.from_residual-in_err-list_insts.result c.from_residual-in_err-list_insts.ensures.1 in rw p.1 tt
 
 pub returns : goal.returns
 returns g c = on_ok_both c.list_points.result (λ entries exits. record {

@@ -1,9 +1,6 @@
 use Rattle.std.proofs.Common.{inl, refl}
-use Rattle.std.proofs.lemmas.Result.{IfOk-from_err, err_from_is_err_and}
+use Rattle.std.proofs.lemmas.Result.{err_from_is_err_and}
 use Rattle.regalloc2_function.proofs.cfg.CFGInfo.init.Goals as goal
-
-pub returns-in_err-test_shape-clause-ok : goal.returns-in_err-test_shape-clause-ok
-returns-in_err-test_shape-clause-ok g c = IfOk-from_err c.from_residual.result _ c.from_residual.ensures.0
 
 pub returns-in_err-test_shape-clause-refused : goal.returns-in_err-test_shape-clause-refused
 returns-in_err-test_shape-clause-refused g c =

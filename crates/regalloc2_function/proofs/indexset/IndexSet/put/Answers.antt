@@ -1,4 +1,4 @@
-use Rattle.std.proofs.lemmas.Result.{IfOk-from_err, err_from_is_err_and}
+use Rattle.std.proofs.lemmas.Result.{err_from_is_err_and}
 use Rattle.regalloc2_function.proofs.NumberSets.{whole_written, word_of-whole}
 use Rattle.regalloc2_function.proofs.indexset.IndexSet.put.Goals as goal
 
@@ -11,9 +11,6 @@ pub returns-in_err-write-clause-absent : goal.returns-in_err-write-clause-absent
 returns-in_err-write-clause-absent g c =
     let p = err_from_is_err_and c.from_residual.result c.from_residual.ensures.1 in
     rw (p.1, word_of-whole c.self.inside.few c.self.inside.many.entries c.args.self.now c.self.view_is c.args.key) c.in_err-write.ensures.absent
-
-pub returns-in_err-write-clause-written : goal.returns-in_err-write-clause-written
-returns-in_err-write-clause-written g c = IfOk-from_err c.from_residual.result _ c.from_residual.ensures.0
 
 pub returns-in_err-write-clause-refused : goal.returns-in_err-write-clause-refused
 returns-in_err-write-clause-refused g c = let p = err_from_is_err_and c.from_residual.result c.from_residual.ensures.1 in rw p.1 c.in_err-write.ensures.refused

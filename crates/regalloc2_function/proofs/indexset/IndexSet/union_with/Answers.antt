@@ -1,4 +1,4 @@
-use Rattle.std.proofs.Common.{◌≡◌, ◌<◌, ◌^◌, ◌∙◌, ◌||◌, sym, ap, refl, rules}
+use Rattle.std.proofs.Common.{◌<◌, ◌^◌, ◌∙◌, ◌||◌, sym, ap, refl, rules}
 use Rattle.std.proofs.lemmas.Result.{err_from_is_err_and}
 use Rattle.regalloc2_function.specs.Numbers.{word_of, has_number, in_some_word}
 use Rattle.regalloc2_function.proofs.NumberUnions.{start, one_on, all_given, some_has, has_joined, has_already, new_bit, joined_more, some_later}

@@ -1,6 +1,6 @@
 use Rattle.std.proofs.Common.{◌≡◌, refl, sym, ◌∙◌, inl, inr}
 use Rattle.std.proofs.lemmas.Bool.{false≢true}
-use Rattle.std.proofs.lemmas.Result.{IfOk-from_err, err_from_is_err_and}
+use Rattle.std.proofs.lemmas.Result.{err_from_is_err_and}
 use Rattle.regalloc2_function.specs.declared.serialize.StoredFault.{StoredFault}
 use Rattle.regalloc2_function.specs.declared.serialize.StoredFault.TheVariants.{Bits, Memory}
 use Rattle.regalloc2_function.proofs.listing.Output.from_stored.Goals as goal
@@ -33,12 +33,6 @@ places_from-requires g c = rw c.as_slice-2.ensures.value (c.names_values.ensures
 pub locations_from-requires : goal.locations_from-requires
 locations_from-requires g c = rw c.as_slice-4.ensures.value (c.names_values.ensures.0 c.if-not-names_values.false).2
 
-pub returns-in_err-edits-clause-output : goal.returns-in_err-edits-clause-output
-returns-in_err-edits-clause-output g c = IfOk-from_err c.from_residual.result _ c.from_residual.ensures.0
-
-pub returns-in_err-edits-clause-names : goal.returns-in_err-edits-clause-names
-returns-in_err-edits-clause-names g c = IfOk-from_err c.from_residual.result _ c.from_residual.ensures.0
-
 pub returns-in_err-edits-clause-bits : goal.returns-in_err-edits-clause-bits
 returns-in_err-edits-clause-bits g c =
     let p = err_from_is_err_and c.from_residual.result c.from_residual.ensures.1 in rw (p.1, p.2) (λ b _. not_both refl b)
@@ -50,12 +44,6 @@ returns-in_err-edits-clause-memory g c =
 pub returns-in_err-edits-clause-faults : goal.returns-in_err-edits-clause-faults
 returns-in_err-edits-clause-faults g c =
     let p = err_from_is_err_and c.from_residual.result c.from_residual.ensures.1 in rw (p.1, p.2) (inr refl)
-
-pub returns-in_err-allocs-clause-output : goal.returns-in_err-allocs-clause-output
-returns-in_err-allocs-clause-output g c = IfOk-from_err c.from_residual-in_err-allocs.result _ c.from_residual-in_err-allocs.ensures.0
-
-pub returns-in_err-allocs-clause-names : goal.returns-in_err-allocs-clause-names
-returns-in_err-allocs-clause-names g c = IfOk-from_err c.from_residual-in_err-allocs.result _ c.from_residual-in_err-allocs.ensures.0
 
 pub returns-in_err-allocs-clause-bits : goal.returns-in_err-allocs-clause-bits
 returns-in_err-allocs-clause-bits g c =
@@ -69,12 +57,6 @@ pub returns-in_err-allocs-clause-faults : goal.returns-in_err-allocs-clause-faul
 returns-in_err-allocs-clause-faults g c =
     let p = err_from_is_err_and c.from_residual-in_err-allocs.result c.from_residual-in_err-allocs.ensures.1 in rw (p.1, p.2) (inr refl)
 
-pub returns-in_err-inst_alloc_offsets-clause-output : goal.returns-in_err-inst_alloc_offsets-clause-output
-returns-in_err-inst_alloc_offsets-clause-output g c = IfOk-from_err c.from_residual-in_err-inst_alloc_offsets.result _ c.from_residual-in_err-inst_alloc_offsets.ensures.0
-
-pub returns-in_err-inst_alloc_offsets-clause-names : goal.returns-in_err-inst_alloc_offsets-clause-names
-returns-in_err-inst_alloc_offsets-clause-names g c = IfOk-from_err c.from_residual-in_err-inst_alloc_offsets.result _ c.from_residual-in_err-inst_alloc_offsets.ensures.0
-
 pub returns-in_err-inst_alloc_offsets-clause-bits : goal.returns-in_err-inst_alloc_offsets-clause-bits
 returns-in_err-inst_alloc_offsets-clause-bits g c =
     let p = err_from_is_err_and c.from_residual-in_err-inst_alloc_offsets.result c.from_residual-in_err-inst_alloc_offsets.ensures.1 in rw (p.1, p.2) (λ b _. not_both refl b)
@@ -86,12 +68,6 @@ returns-in_err-inst_alloc_offsets-clause-memory g c =
 pub returns-in_err-inst_alloc_offsets-clause-faults : goal.returns-in_err-inst_alloc_offsets-clause-faults
 returns-in_err-inst_alloc_offsets-clause-faults g c =
     let p = err_from_is_err_and c.from_residual-in_err-inst_alloc_offsets.result c.from_residual-in_err-inst_alloc_offsets.ensures.1 in rw (p.1, p.2) (inr refl)
-
-pub returns-in_err-debug_locations-clause-output : goal.returns-in_err-debug_locations-clause-output
-returns-in_err-debug_locations-clause-output g c = IfOk-from_err c.from_residual-in_err-debug_locations.result _ c.from_residual-in_err-debug_locations.ensures.0
-
-pub returns-in_err-debug_locations-clause-names : goal.returns-in_err-debug_locations-clause-names
-returns-in_err-debug_locations-clause-names g c = IfOk-from_err c.from_residual-in_err-debug_locations.result _ c.from_residual-in_err-debug_locations.ensures.0
 
 pub returns-in_err-debug_locations-clause-bits : goal.returns-in_err-debug_locations-clause-bits
 returns-in_err-debug_locations-clause-bits g c =

@@ -1,4 +1,4 @@
-use Rattle.std.proofs.lemmas.Result.{IfOk-from_err, err_from_is_err_and}
+use Rattle.std.proofs.lemmas.Result.{err_from_is_err_and}
 use Rattle.std.proofs.Common.{refl}
 use Rattle.regalloc2_function.proofs.listing.Output.stored.Goals as goal
 
@@ -15,38 +15,14 @@ returns-clause-output g c =
       c.as_slice-4.ensures.value,
     ) refl
 
-pub returns-in_err-edits-clause-output : goal.returns-in_err-edits-clause-output
-returns-in_err-edits-clause-output g c = IfOk-from_err c.from_residual.result _ c.from_residual.ensures.0
-
-pub returns-in_err-edits-clause-names : goal.returns-in_err-edits-clause-names
-returns-in_err-edits-clause-names g c = IfOk-from_err c.from_residual.result _ c.from_residual.ensures.0
-
 pub returns-in_err-edits-clause-memory : goal.returns-in_err-edits-clause-memory
 returns-in_err-edits-clause-memory g c = let p = err_from_is_err_and c.from_residual.result c.from_residual.ensures.1 in rw p.1 p.2
-
-pub returns-in_err-allocs-clause-output : goal.returns-in_err-allocs-clause-output
-returns-in_err-allocs-clause-output g c = IfOk-from_err c.from_residual-in_err-allocs.result _ c.from_residual-in_err-allocs.ensures.0
-
-pub returns-in_err-allocs-clause-names : goal.returns-in_err-allocs-clause-names
-returns-in_err-allocs-clause-names g c = IfOk-from_err c.from_residual-in_err-allocs.result _ c.from_residual-in_err-allocs.ensures.0
 
 pub returns-in_err-allocs-clause-memory : goal.returns-in_err-allocs-clause-memory
 returns-in_err-allocs-clause-memory g c = let p = err_from_is_err_and c.from_residual-in_err-allocs.result c.from_residual-in_err-allocs.ensures.1 in rw p.1 p.2
 
-pub returns-in_err-inst_alloc_offsets-clause-output : goal.returns-in_err-inst_alloc_offsets-clause-output
-returns-in_err-inst_alloc_offsets-clause-output g c = IfOk-from_err c.from_residual-in_err-inst_alloc_offsets.result _ c.from_residual-in_err-inst_alloc_offsets.ensures.0
-
-pub returns-in_err-inst_alloc_offsets-clause-names : goal.returns-in_err-inst_alloc_offsets-clause-names
-returns-in_err-inst_alloc_offsets-clause-names g c = IfOk-from_err c.from_residual-in_err-inst_alloc_offsets.result _ c.from_residual-in_err-inst_alloc_offsets.ensures.0
-
 pub returns-in_err-inst_alloc_offsets-clause-memory : goal.returns-in_err-inst_alloc_offsets-clause-memory
 returns-in_err-inst_alloc_offsets-clause-memory g c = let p = err_from_is_err_and c.from_residual-in_err-inst_alloc_offsets.result c.from_residual-in_err-inst_alloc_offsets.ensures.1 in rw p.1 p.2
-
-pub returns-in_err-debug_locations-clause-output : goal.returns-in_err-debug_locations-clause-output
-returns-in_err-debug_locations-clause-output g c = IfOk-from_err c.from_residual-in_err-debug_locations.result _ c.from_residual-in_err-debug_locations.ensures.0
-
-pub returns-in_err-debug_locations-clause-names : goal.returns-in_err-debug_locations-clause-names
-returns-in_err-debug_locations-clause-names g c = IfOk-from_err c.from_residual-in_err-debug_locations.result _ c.from_residual-in_err-debug_locations.ensures.0
 
 pub returns-in_err-debug_locations-clause-memory : goal.returns-in_err-debug_locations-clause-memory
 returns-in_err-debug_locations-clause-memory g c = let p = err_from_is_err_and c.from_residual-in_err-debug_locations.result c.from_residual-in_err-debug_locations.ensures.1 in rw p.1 p.2

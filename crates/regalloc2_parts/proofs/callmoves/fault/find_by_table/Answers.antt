@@ -2,7 +2,6 @@ use Rattle.std.proofs.Common.{ℕ, ◌≡◌, ◌⊎◌, ◌+◌, None, Some, na
 use Rattle.std.specs.HashMap.{get}
 use Rattle.regalloc2_parts.proofs.CallmovesLemmas.Tables.{IsTable, table_with}
 use Rattle.std.proofs.Common.{subst}
-use Rattle.std.proofs.lemmas.Result.{err_from_is_err_and}
 use Rattle.regalloc2_parts.specs.Callmoves.CallMoves.{HasNone, HasOtherSource}
 use Rattle.regalloc2_parts.proofs.CallmovesLemmas.Tables.{none_before, table_differs}
 use Rattle.std.proofs.Common.{arith, length}
@@ -21,9 +20,6 @@ loop-at-preserved g c =
       | in-Some+else-earlier-from w ↦ more (inr (sym c.in_ok-earlier.ensures.old ∙ w.in-Some.is ∙ ap Some w.if-earlier-from.false))
       | in_default w ↦ more (inl (sym c.in_ok-earlier.ensures.old ∙ w.in_default.is))
     ]
-
-pub returns-in_err-earlier : goal.returns-in_err-earlier
-returns-in_err-earlier g c = let p = err_from_is_err_and c.from_residual.result c.from_residual.ensures.1 in rw p.1 tt
 
 pub returns-then-earlier-from : goal.returns-then-earlier-from
 returns-then-earlier-from g c = (

@@ -1,5 +1,6 @@
 use Rattle.std.proofs.Common.{ap, ◌∙◌, inr, arith, inl}
 use Rattle.regalloc2_names.specs.Place.{InSlot, InRegister}
+use Rattle.regalloc2_parts.proofs.CallmovesLemmas.CallPlaces.{read_free}
 use Rattle.regalloc2_parts.proofs.callmoves.fault.find_in_use.Goals as goal
 
 pub returns-then-slot-frame : goal.returns-then-slot-frame
@@ -20,11 +21,13 @@ returns g c = record {
   slots = λ k lt. c.lowest_slot-slot.ensures.lower k (omega arith);
 }
 
-pub free_reg-requires : goal.free_reg-requires
-free_reg-requires g c = c.in-Some.ensures.0
-
 pub returns-in-Some : goal.returns-in-Some
-returns-in-Some g c = inl (c.in-Some.at, c.in-Some.ensures, c.reg.ensures ∙ ap InRegister c.free_reg.ensures)
+returns-in-Some g c = inl (
+  c.in-Some.at,
+  c.in-Some.ensures,
+  c.reg.ensures
+      ∙ ap InRegister (read_free c.args.frame.now c.in-Some.at c.index.result.now c.in-Some.ensures.0 c.index.ensures),
+)
 
 pub returns-then-is_borrowed_taken : goal.returns-then-is_borrowed_taken
 returns-then-is_borrowed_taken g c = inr (inl (c.in_default.ensures, c.is_borrowed_taken.ensures.yes c.if-is_borrowed_taken.true, c.reg-then-is_borrowed_taken.ensures))

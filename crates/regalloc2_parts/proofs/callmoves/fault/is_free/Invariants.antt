@@ -1,5 +1,5 @@
 use Rattle.std.proofs.Common.{◌≢◌, ℕ, ◌<◌}
-use Rattle.regalloc2_steps.specs.Frame.{free_at}
+use Rattle.regalloc2_parts.specs.Callmoves.Frame.{free_at}
 use Rattle.regalloc2_parts.proofs.callmoves.fault.is_free.Given as goal
 
 abbrev pub invariant-loop-at : goal.invariant-loop-at

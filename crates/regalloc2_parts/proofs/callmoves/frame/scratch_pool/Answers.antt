@@ -1,4 +1,5 @@
 use Rattle.std.proofs.Common.{refl}
+use Rattle.regalloc2_parts.proofs.CallmovesLemmas.CallSchedule.{lends_first}
 use Rattle.regalloc2_parts.proofs.callmoves.frame.scratch_pool.Goals as goal
 
 pub slot_at-requires-clause-range : goal.slot_at-requires-clause-range
@@ -14,11 +15,4 @@ pub slot_at-requires-2-clause-small : goal.slot_at-requires-2-clause-small
 slot_at-requires-2-clause-small g c = c.requires.small
 
 pub returns : goal.returns
-returns g c = record {
-  first_register = c.free_pair-first.ensures.first;
-  second_register = c.free_pair-first.ensures.second;
-  first_slot = c.slot_at.ensures;
-  second_slot = c.slot_at-2.ensures;
-  fixed_stack = refl;
-  borrowed = refl;
-}
+returns g c = lends_first c.args.frame.now _ c.register_at.ensures c.register_at-2.ensures c.slot_at.ensures c.slot_at-2.ensures refl refl

@@ -42,9 +42,6 @@ returns-clause-ring g c =
     ∙ ap (λ (n : ℕ). map (named c.args.regclass) (n ∷ map (λ (r : Register). r.number) c.next.new.self)) c.hw_enc-head.ensures.number ∙ m.named in
     subst (λ (l : List Register). IsNewRing c.args.regs.now l) (sym registers) m.ring
 
-pub returns-in_err-nodes-clause-ring : goal.returns-in_err-nodes-clause-ring
-returns-in_err-nodes-clause-ring g c = let p = err_from_is_err_and c.from_residual.result c.from_residual.ensures.1 in rw p.1 tt
-
 pub returns-in_err-nodes-clause-memory : goal.returns-in_err-nodes-clause-memory
 returns-in_err-nodes-clause-memory g c = let p = err_from_is_err_and c.from_residual.result c.from_residual.ensures.1 in rw p.1 p.2
 

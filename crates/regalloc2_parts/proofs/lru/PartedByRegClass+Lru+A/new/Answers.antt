@@ -2,47 +2,11 @@ use Rattle.std.proofs.Common.{◌∙◌, refl}
 use Rattle.std.proofs.lemmas.Result.{err_from_is_err_and}
 use Rattle.regalloc2_parts.proofs.lru.PartedByRegClass+Lru+A.new.Goals as goal
 
-pub returns-in_err-int-clause-three : goal.returns-in_err-int-clause-three
-returns-in_err-int-clause-three g c = let p = err_from_is_err_and c.from_residual.result c.from_residual.ensures.1 in rw p.1 tt
-
-pub returns-in_err-int-clause-int : goal.returns-in_err-int-clause-int
-returns-in_err-int-clause-int g c = let p = err_from_is_err_and c.from_residual.result c.from_residual.ensures.1 in rw p.1 tt
-
-pub returns-in_err-int-clause-float : goal.returns-in_err-int-clause-float
-returns-in_err-int-clause-float g c = let p = err_from_is_err_and c.from_residual.result c.from_residual.ensures.1 in rw p.1 tt
-
-pub returns-in_err-int-clause-vector : goal.returns-in_err-int-clause-vector
-returns-in_err-int-clause-vector g c = let p = err_from_is_err_and c.from_residual.result c.from_residual.ensures.1 in rw p.1 tt
-
 pub returns-in_err-int-clause-memory : goal.returns-in_err-int-clause-memory
 returns-in_err-int-clause-memory g c = let p = err_from_is_err_and c.from_residual.result c.from_residual.ensures.1 in rw p.1 (p.2 ∙ c.in_err-int.ensures.memory)
 
-pub returns-in_err-float-clause-three : goal.returns-in_err-float-clause-three
-returns-in_err-float-clause-three g c = let p = err_from_is_err_and c.from_residual-in_err-float.result c.from_residual-in_err-float.ensures.1 in rw p.1 tt
-
-pub returns-in_err-float-clause-int : goal.returns-in_err-float-clause-int
-returns-in_err-float-clause-int g c = let p = err_from_is_err_and c.from_residual-in_err-float.result c.from_residual-in_err-float.ensures.1 in rw p.1 tt
-
-pub returns-in_err-float-clause-float : goal.returns-in_err-float-clause-float
-returns-in_err-float-clause-float g c = let p = err_from_is_err_and c.from_residual-in_err-float.result c.from_residual-in_err-float.ensures.1 in rw p.1 tt
-
-pub returns-in_err-float-clause-vector : goal.returns-in_err-float-clause-vector
-returns-in_err-float-clause-vector g c = let p = err_from_is_err_and c.from_residual-in_err-float.result c.from_residual-in_err-float.ensures.1 in rw p.1 tt
-
 pub returns-in_err-float-clause-memory : goal.returns-in_err-float-clause-memory
 returns-in_err-float-clause-memory g c = let p = err_from_is_err_and c.from_residual-in_err-float.result c.from_residual-in_err-float.ensures.1 in rw p.1 (p.2 ∙ c.in_err-float.ensures.memory)
-
-pub returns-in_err-vector-clause-three : goal.returns-in_err-vector-clause-three
-returns-in_err-vector-clause-three g c = let p = err_from_is_err_and c.from_residual-in_err-vector.result c.from_residual-in_err-vector.ensures.1 in rw p.1 tt
-
-pub returns-in_err-vector-clause-int : goal.returns-in_err-vector-clause-int
-returns-in_err-vector-clause-int g c = let p = err_from_is_err_and c.from_residual-in_err-vector.result c.from_residual-in_err-vector.ensures.1 in rw p.1 tt
-
-pub returns-in_err-vector-clause-float : goal.returns-in_err-vector-clause-float
-returns-in_err-vector-clause-float g c = let p = err_from_is_err_and c.from_residual-in_err-vector.result c.from_residual-in_err-vector.ensures.1 in rw p.1 tt
-
-pub returns-in_err-vector-clause-vector : goal.returns-in_err-vector-clause-vector
-returns-in_err-vector-clause-vector g c = let p = err_from_is_err_and c.from_residual-in_err-vector.result c.from_residual-in_err-vector.ensures.1 in rw p.1 tt
 
 pub returns-in_err-vector-clause-memory : goal.returns-in_err-vector-clause-memory
 returns-in_err-vector-clause-memory g c = let p = err_from_is_err_and c.from_residual-in_err-vector.result c.from_residual-in_err-vector.ensures.1 in rw p.1 (p.2 ∙ c.in_err-vector.ensures.memory)

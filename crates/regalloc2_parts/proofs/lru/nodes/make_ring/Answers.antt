@@ -2,14 +2,14 @@ use Rattle.std.proofs.Common.{◌<◌, ◌∷◌, ◌++◌, ◌∙◌, ap, arith
 use Rattle.std.specs.Prelude.{map}
 use Rattle.regalloc2_names.specs.Register.{Register}
 use Rattle.regalloc2_parts.specs.RingNodes.{ring_numbers}
-use Rattle.regalloc2_parts.proofs.RingLinks.{absent_before, node_alone}
+use Rattle.regalloc2_parts.proofs.RingLinks.{absent_before, one_node_ring}
 use Rattle.regalloc2_parts.proofs.lru.nodes.make_ring.Goals as goal
 
 pub loop-preg-init : goal.loop-preg-init
 loop-preg-init c =
     let room = c.requires.room in
     let fits : c.args.head < length c.args.nodes.now = omega (arith, c.requires.below) in
-    let one = node_alone c.args.nodes.now c.link.new.nodes c.args.head fits c.link.ensures.nexts c.link.ensures.prevs in
+    let one = one_node_ring c.args.nodes.now c.link.new.nodes c.args.head fits c.link.ensures.nexts c.link.ensures.prevs in
     record {
       ring = one.ring;
       all = ap (λ l. l ++ map (λ (r : Register). r.number) c.into_iter-preg-iterator.result) one.are

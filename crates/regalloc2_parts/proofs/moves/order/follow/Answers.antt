@@ -1,6 +1,5 @@
 use Rattle.std.proofs.Common.{◌≡◌, ◌∷◌, ◌++◌, [], slice_set, arith, sym, ◌∙◌, subst}
 use Rattle.std.proofs.lemmas.List.{length-set}
-use Rattle.std.proofs.lemmas.Result.{err_from_is_err_and}
 use Rattle.regalloc2_parts.specs.declared.moves.order.State.TheVariants.{Todo, Pending}
 use Rattle.regalloc2_parts.specs.Giving.{state_at, number_at}
 use Rattle.regalloc2_parts.proofs.Following.{IsFollowing, todo_falls, follows_more, follows_none}
@@ -27,26 +26,8 @@ loop-at-preserved g c =
 pub loop-at-init : goal.loop-at-init
 loop-at-init g c = (
   c.requires.as_many,
-  follows_none c.args.nexts.now c.args.state.now c.args.chain.now.items c.args.start c.requires.empty c.requires.settled c.requires.as_many,
+  follows_none c.args.nexts.now c.args.state.now c.args.chain.now.items c.args.start c.requires.empty c.requires.none_pending c.requires.as_many,
 )
-
-pub returns-in_err-push-clause-chain : goal.returns-in_err-push-clause-chain
-returns-in_err-push-clause-chain g c = let p = err_from_is_err_and c.from_residual.result c.from_residual.ensures.1 in rw p.1 tt
-
-pub returns-in_err-push-clause-link : goal.returns-in_err-push-clause-link
-returns-in_err-push-clause-link g c = let p = err_from_is_err_and c.from_residual.result c.from_residual.ensures.1 in rw p.1 tt
-
-pub returns-in_err-push-clause-stops : goal.returns-in_err-push-clause-stops
-returns-in_err-push-clause-stops g c = let p = err_from_is_err_and c.from_residual.result c.from_residual.ensures.1 in rw p.1 tt
-
-pub returns-in_err-push-clause-same : goal.returns-in_err-push-clause-same
-returns-in_err-push-clause-same g c = let p = err_from_is_err_and c.from_residual.result c.from_residual.ensures.1 in rw p.1 tt
-
-pub returns-in_err-push-clause-goes_on : goal.returns-in_err-push-clause-goes_on
-returns-in_err-push-clause-goes_on g c = let p = err_from_is_err_and c.from_residual.result c.from_residual.ensures.1 in rw p.1 tt
-
-pub returns-in_err-push-clause-begun : goal.returns-in_err-push-clause-begun
-returns-in_err-push-clause-begun g c = let p = err_from_is_err_and c.from_residual.result c.from_residual.ensures.1 in rw p.1 tt
 
 pub bounds : goal.bounds
 bounds g c = omega (arith, c.loop-at-test.true, c.loop-at.invariant.0, c.requires.as_many)

@@ -7,7 +7,7 @@ use Rattle.regalloc2_parts.specs.declared.moves.order.State.TheVariants.{Done}
 use Rattle.regalloc2_parts.specs.AtOnce.{ends, ends_of, IsOfMoves}
 use Rattle.regalloc2_parts.specs.Giving.{IsGiving}
 use Rattle.regalloc2_parts.proofs.Lists.{length_ends, ends_push, read_to, read_from, read_in, of_itself, of_aside}
-use Rattle.regalloc2_parts.proofs.Chains.{last_within, goes_on, todo_done, ends_settled}
+use Rattle.regalloc2_parts.proofs.Chains.{last_within, goes_on, todo_done, ends_none_pending}
 use Rattle.regalloc2_parts.proofs.Rounds.{gives_plain, gives_first, cut_within, ends_whole}
 use Rattle.std.proofs.lemmas.Result.{err_from_is_err_and}
 use Rattle.regalloc2_parts.proofs.Chains.{length_push}
@@ -73,7 +73,7 @@ returns g c =
       given = record {
         had = ends_whole (ends_of c.args.moves.now) c.args.nexts.now c.loop-top.state c.loop-top.chain.items (ends_of c.loop-top.given.items) c.loop-top.cut
             c.loop-top.first c.loop-top.invariant.giving empty;
-        settled = ends_settled c.args.nexts.now c.loop-top.state c.loop-top.chain.items c.loop-top.invariant.giving.is_chain empty
+        none_pending = ends_none_pending c.args.nexts.now c.loop-top.state c.loop-top.chain.items c.loop-top.invariant.giving.is_chain empty
             (c.loop-top.invariant.as_many ∙ sym c.requires.indexed);
         empty = search rules;
         goes_on = c.loop-top.invariant.on;

@@ -1,4 +1,4 @@
-use Rattle.std.proofs.Common.{◌≡◌, ℕ, ◌<◌, length, replicate, rules, arith, lit<, sym, ap, ◌∙◌, subst}
+use Rattle.std.proofs.Common.{◌≡◌, ℕ, ◌<◌, length, replicate, rules, arith, sym, ap, ◌∙◌, subst}
 use borrow.Author.Count.{falls}
 use Rattle.std.specs.List.{All}
 use Rattle.std.proofs.lemmas.List.Elements.{All-nil}
@@ -38,7 +38,7 @@ give_from-requires g c =
           as_many = same;
           indexed = c.requires.indexed;
           had = was.had;
-          settled = was.settled;
+          none_pending = was.none_pending;
           empty = was.empty;
           start = todo;
           within = within;
@@ -56,7 +56,7 @@ loop-start-preserved g c =
           rw (w.state-is, w.given-is, w.chain-is) (record {
             given = given_more (ends_of c.args.moves.now) c.args.nexts.now c.loop-start.state w.give_from.new.state (ends_of c.loop-start.given.items)
                 w.give_from.new.chain.items c.loop-start.chain.items c.loop-start.start (ends_of w.give_from.new.given.items) c.loop-start.invariant.given whole
-                w.in_ok-give_from.ensures.given.0.had w.in_ok-give_from.ensures.given.0.settled w.in_ok-give_from.ensures.given.0.empty
+                w.in_ok-give_from.ensures.given.0.had w.in_ok-give_from.ensures.given.0.none_pending w.in_ok-give_from.ensures.given.0.empty
                 w.in_ok-give_from.ensures.given.0.goes_on w.in_ok-give_from.ensures.given.1;
             of_moves = w.in_ok-give_from.ensures.given.0.of_moves;
           })

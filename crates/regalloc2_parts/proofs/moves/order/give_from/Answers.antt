@@ -12,7 +12,7 @@ follow-requires g c = (
   lit< tt,
   record {
     as_many = c.requires.as_many ∙ sym c.requires.indexed;
-    settled = c.requires.settled;
+    none_pending = c.requires.none_pending;
     empty = c.requires.empty;
     start = c.requires.start;
     within = subst (λ (n : ℕ). c.args.start < n) (sym c.requires.indexed) c.requires.within;
@@ -34,7 +34,7 @@ open_ring-requires g c =
     whole_along (ends_of c.args.moves.now) c.args.nexts.now c.args.state.now st (ends_of given) c.requires.had c.in_ok-stop.ensures.same
     c.in_ok-stop.ensures.goes_on same in
     let rings : (had : HasRings c.args.nexts.now st (length (ends_of given))) × AreRingsDone st had.rings =
-    rings_follow c.args.nexts.now c.args.state.now st (length (ends_of given)) c.requires.had.rings c.requires.settled
+    rings_follow c.args.nexts.now c.args.state.now st (length (ends_of given)) c.requires.had.rings c.requires.none_pending
     (c.requires.as_many ∙ sym c.requires.indexed) c.in_ok-stop.ensures.same c.in_ok-stop.ensures.goes_on same in (
       lit< tt,
       (

@@ -65,7 +65,7 @@ returns g c =
     subst (λ x. LeadsTo c.args.nexts.now x c.args.stop) c.in-Some.ensures.items c.requires.link in
     let within : last < length c.args.nexts.now = last_within c.args.nexts.now c.args.state.now c.pop.new.self.items last chain in
     let many : length ms ≡ length c.args.moves.now = length_ends c.args.moves.now in
-    let m : Place × Place × g.row.T.Denot = c.opened.result in
+    let m : Place × Place × g.row.T.Denot = (c.none.result, c.index-moves-last.result.1, c.index-moves-last.result.2) in
     let e : ends_of c.push.new.self.items ≡ ends_of c.args.given.now.items ++ ends m ∷ [] = ap ends_of c.in_ok-push.ensures.ok
     ∙ ends_push c.args.given.now.items m in
     let rings : (had : HasRings c.args.nexts.now c.args.state.now (length (ends_of c.args.given.now.items))) × AreRingsDone c.args.state.now had.rings =
@@ -83,16 +83,14 @@ returns g c =
               next_pending = here.1;
             }) (c.requires.as_many ∙ sym many)
             (record {
-              from_is = ap (λ (x : Place × Place × g.row.T.Denot). x.0) c.opened.ensures;
-              to_is = ap (λ (x : Place × Place × g.row.T.Denot). x.1) c.opened.ensures
-                  ∙ read_to c.args.moves.now last c.index-moves-last.result (omega arith) c.index-moves-last.is;
+              from_is = c.none.ensures;
+              to_is = read_to c.args.moves.now last c.index-moves-last.result (omega arith) c.index-moves-last.is;
             })),
         goes_on c.args.state.now c.args.state.now last Done (λ d. todo_done Done d refl) (omega arith) (λ k n. n),
         subst (λ x. All (IsOfMoves c.args.moves.now) x) (sym c.in_ok-push.ensures.ok)
             (All-push (IsOfMoves c.args.moves.now) c.args.given.now.items m c.requires.of_moves
             (of_end c.args.moves.now m c.index-moves-last.result (read_in c.args.moves.now last c.index-moves-last.result (omega arith) c.index-moves-last.is)
-            (ap (λ (x : Place × Place × g.row.T.Denot). x.0) c.opened.ensures) (ap (λ (x : Place × Place × g.row.T.Denot). x.1) c.opened.ensures)
-            (ap (λ (x : Place × Place × g.row.T.Denot). x.2) c.opened.ensures))),
+            c.none.ensures refl refl)),
       );
     }
 

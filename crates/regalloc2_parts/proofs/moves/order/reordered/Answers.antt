@@ -1,5 +1,5 @@
 use Rattle.std.proofs.Common.{ℕ, List, rules, arith, sym, subst, ◌∙◌}
-use Rattle.std.proofs.lemmas.Result.{err_from_is_err_and, IfOk-weaker}
+use Rattle.std.proofs.lemmas.Result.{IfOk-weaker}
 use Rattle.regalloc2_parts.specs.AtOnce.{ends_of}
 use Rattle.regalloc2_parts.specs.Giving.{AreNexts}
 use Rattle.regalloc2_parts.proofs.Lists.{length_ends}
@@ -25,6 +25,3 @@ pub returns : goal.returns
 returns g c = IfOk-weaker c.in_turn_order.result _ _
     (λ r is. (c.in_ok-nexts.nexts.items, c.in_ok-nexts.ensures.ok, subst (λ (ks : List ℕ). IsReordered c.args.moves.now ks r) c.as_slice.ensures is))
     c.in_turn_order.ensures
-
-pub returns-in_err-nexts : goal.returns-in_err-nexts
-returns-in_err-nexts g c = let p = err_from_is_err_and c.from_residual.result c.from_residual.ensures.1 in rw p.1 tt

@@ -1,4 +1,4 @@
-use Rattle.std.proofs.Common.{true, false, refl}
+use Rattle.std.proofs.Common.{refl}
 use Rattle.regalloc2_parts.proofs.Tracking.{copies_pushed, copies_pushed_into, added_one}
 use Rattle.std.proofs.lemmas.Bool.{false≢true}
 use Rattle.regalloc2_parts.proofs.moves.passing.copy.Goals as goal

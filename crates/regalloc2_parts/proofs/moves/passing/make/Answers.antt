@@ -1,4 +1,4 @@
-use Rattle.std.proofs.Common.{true, false, inl, inr, sym, subst, ⊎_elim}
+use Rattle.std.proofs.Common.{inl, inr, sym, subst, ⊎_elim}
 use Rattle.std.proofs.lemmas.Result.{on_ok_weaker, IfOk-weaker}
 use Rattle.regalloc2_parts.specs.Tracking.{IsMadeFor}
 use Rattle.std.proofs.lemmas.Bool.{false≢true}

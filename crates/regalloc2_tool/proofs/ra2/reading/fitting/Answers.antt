@@ -7,8 +7,8 @@ use Rattle.regalloc2_tool.proofs.ra2.reading.fitting.Goals as goal
 pub returns-in-Err-clause-err : goal.returns-in-Err-clause-err
 returns-in-Err-clause-err g c = λ bytes text. (c.args.stored.now, text, c.in-Err.ensures.refused)
 
-pub returns-then-not-fits-clause-err : goal.returns-then-not-fits-clause-err
-returns-then-not-fits-clause-err g c = λ bytes text. (
+pub returns-then-not-machine_fits-clause-err : goal.returns-then-not-machine_fits-clause-err
+returns-then-not-machine_fits-clause-err g c = λ bytes text. (
   function_of_serializable c.in-Ok.f,
   machine_of c.in-Ok.f.machine,
   record {
@@ -18,7 +18,7 @@ returns-then-not-fits-clause-err g c = λ bytes text. (
     function = c.in-Ok.ensures.function;
     machine = c.in-Ok.ensures.machine;
   },
-  λ fits. let e : false ≡ true = c.if-not-fits.ensures.1 (subst (λ m. MachineFits (function_of_serializable c.in-Ok.f) m) (sym c.machine_env.ensures) fits) in
+  λ fits. let e : false ≡ true = c.if-not-machine_fits.ensures.1 (subst (λ m. MachineFits (function_of_serializable c.in-Ok.f) m) (sym c.machine_env.ensures) fits) in
       absurd cc,
 )
 
@@ -31,5 +31,5 @@ returns-clause-ok g c = λ bytes text. record {
     function = c.in-Ok.ensures.function;
     machine = c.in-Ok.ensures.machine;
   };
-  fits = subst (λ m. MachineFits (function_of_serializable c.in-Ok.f) m) c.machine_env.ensures (c.if-not-fits.ensures.0 refl);
+  fits = subst (λ m. MachineFits (function_of_serializable c.in-Ok.f) m) c.machine_env.ensures (c.if-not-machine_fits.ensures.0 refl);
 }

@@ -1,4 +1,4 @@
-use Rattle.std.proofs.Common.{true, false, inl, inr, sym, subst, ◌∙◌}
+use Rattle.std.proofs.Common.{inl, inr, sym, subst, ◌∙◌}
 use Rattle.std.proofs.lemmas.Bool.{false≢true}
 use Rattle.regalloc2_parts.proofs.moves.scratch.MoveAndScratchResolver.is_stack_to_stack.Goals as goal
 

@@ -1,5 +1,0 @@
-use Rattle.std.proofs.Common.{rules}
-use Rattle.regalloc2_analysis_steps.proofs.needs.Needs.none_at.Goals as goal
-
-pub returns : goal.returns
-returns g c = search rules

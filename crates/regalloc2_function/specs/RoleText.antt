@@ -1,0 +1,13 @@
+-- Parts of the texts of misfits: a register with its role for a class, as `p3f, the scratch register of the class Int, `.
+use Rattle.std.specs.Prelude.{ℕ, codes, List, ◌++◌}
+use Rattle.regalloc2_names.specs.declared.RegClass.{RegClass}
+use Rattle.regalloc2_names.specs.Register.{Register}
+use Rattle.regalloc2_names.specs.Text.{class_name, register_text}
+
+-- what is wrong with the scratch register of a class
+abbrev pub scratch_text : RegClass → Register → List ℕ → List ℕ
+scratch_text class r fault = register_text r ++ (codes ", the scratch register of the class " ++ (class_name class ++ (codes ", " ++ fault)))
+
+-- which other role for a class a fixed stack slot has
+abbrev pub slot_text : RegClass → Register → List ℕ → List ℕ
+slot_text class r role = register_text r ++ (codes ", a fixed stack slot, is " ++ (role ++ (codes " the class " ++ class_name class)))
