@@ -161,11 +161,14 @@ fn are_ranges(ranges: &[(u32, u32)], count: usize) -> bool
         .all(|range| range.0 <= range.1 && range.1 as usize <= count)
 }
 
-/// The number of the vreg with the word `word`: what is above the two bits of the class.
+/// The number of bits of the class in the word of a vreg, below the number.
+const CLASS_BITS: u32 = 2;
+
+/// The number of the vreg with the word `word`.
 pub(crate) fn vreg_number(word: u32) -> u32
     ensures { result ≡ word / 4 }
 {
-    word >> 2
+    word >> CLASS_BITS
 }
 
 /// Whether the number of each labelled vreg is below `num_vregs`.
