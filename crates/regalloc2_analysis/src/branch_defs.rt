@@ -9,7 +9,6 @@ mod sites;
 mod uses;
 
 ghost use Rattle.std.specs.Prelude.{◌≡◌, ◌≤◌, ◌<◌, ◌↔◌, ℕ, Some, length, IsTrue, IfOk, IfErr};
-ghost use Rattle.regalloc2_names.specs.Point.{before, inst_limit};
 ghost use Rattle.regalloc2_analysis.specs.BranchDefs.BranchDefs.{HasDefinitions, MayHaveTables};
 ghost use Rattle.regalloc2_analysis.specs.BranchDefs.BranchDefs.{fixed_definition as fixed_definition_of};
 ghost use Rattle.regalloc2_analysis.specs.BranchDefs.Tables.{AreBranchDefsOf, edge_of, site_of, stored_of};
@@ -18,7 +17,7 @@ use edges::{edges_into, some_branch_defines};
 use regalloc2_function::Function;
 use regalloc2_function::table_length::table_length;
 use regalloc2_index::{Block, Inst};
-use regalloc2_names::{Operand, OperandConstraint, PReg, PRegSet, ProgPoint, RegAllocError, VReg};
+use regalloc2_names::{Operand, OperandConstraint, PReg, PRegSet, RegAllocError, VReg};
 use sites::{branch_sites, site_in};
 use std::alloc::Allocator;
 use uses::used_elsewhere;
@@ -47,18 +46,6 @@ pub struct EdgeInto {
     pub first: usize,
     /// Where the branch's operands end in the list.
     pub end: usize,
-}
-
-impl EdgeInto {
-    /// The point at which the block that the edge leads to stores what the branch defines: its own
-    /// beginning, since nothing may follow the branch in its block.
-    #[inline(always)]
-    pub fn store_point(&self, first: Inst) -> ProgPoint
-        requires { first < inst_limit }
-        ensures { result ≡ before first }
-    {
-        ProgPoint::before(first)
-    }
 }
 
 /// What branches define.

@@ -306,7 +306,8 @@ impl<'a, A: Allocator> State<'a, A> {
         let moves = self.store_moves(alloc, f.inst_operands(edge.branch), &stores)?;
         // read for its contract: each slot has one owner
         let _count = self.slots.num_units();
-        let point = edge.store_point(f.block_insns(block).first());
+        // nothing may follow the branch in its own block
+        let point = ProgPoint::before(f.block_insns(block).first());
         self.push_all_stores(point, edge.held, &moves)
     }
 }

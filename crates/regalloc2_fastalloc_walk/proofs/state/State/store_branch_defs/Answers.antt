@@ -89,8 +89,8 @@ first-requires g c =
     let some = (c.requires.well_formed.1.follow c.args.block c.requires.block).0 in
     subst (λ (r : Span). r.first < r.end) (sym c.block_insns.ensures) some
 
-pub store_point-point-requires : goal.store_point-point-requires
-store_point-point-requires g c =
+pub before-point-requires : goal.before-point-requires
+before-point-requires g c =
     let f : FunctionValue = g.F.Function.function c.args.f.now in
     let first : c.first.result ≡ (block_at f c.args.block).range.first = c.first.ensures ∙ ap (λ (r : Span). r.first) c.block_insns.ensures in
     let some = (c.requires.well_formed.1.follow c.args.block c.requires.block).0 in
@@ -104,7 +104,7 @@ push_all_stores-requires g c =
     let some = (c.requires.well_formed.1.follow c.args.block c.requires.block).0 in
     let within = end_within f c.requires.well_formed.1.follow c.args.block c.requires.block in
     let few = (g.met.F.Function.limited c.args.f.now).insts in
-    let at : c.store_point-point.result ≡ before (block_at f c.args.block).range.first = c.store_point-point.ensures
+    let at : c.before-point.result ≡ before (block_at f c.args.block).range.first = c.before-point.ensures
     ∙ ap before first in (
       search rules,
       subst (λ (p : ℕ). AllAtOrAfter p c.store_moves.new.self.edits) (sym at)
@@ -136,13 +136,13 @@ returns-clause-outcome g c =
     (subst (λ (l : List StoredDef). FindsStores c.inst_operands.result.now l old.slots (length l) ms slots) c.deref.ensures.value c.in_ok-moves.ensures.ok) in
     let w : StateValue = tables_of c.push_all_stores.new.self in
     let k : ℕ = c.in-Some.edge.position in
-    let point : ℕ = c.store_point-point.result in
+    let point : ℕ = c.before-point.result in
     let tables : t ≡ record old { slots = slots } = c.store_moves.ensures.step.tables in
     let same : c.deref-2.result.now ≡ ms = c.deref-2.ensures.value in
     let stores = edge_stores f c.requires.well_formed c.args.block e k ie.edge old c.requires.apart ds c.in_ok-stores.ensures.ok ms slots finds
     c.num_units-count.ensures.owned.own in
     let first : c.first.result ≡ (block_at f c.args.block).range.first = c.first.ensures ∙ ap (λ (r : Span). r.first) c.block_insns.ensures in
-    let at : point ≡ before (block_at f c.args.block).range.first = c.store_point-point.ensures ∙ ap before first in
+    let at : point ≡ before (block_at f c.args.block).range.first = c.before-point.ensures ∙ ap before first in
     MatchResult-weaker c.push_all_stores.result c.push_all_stores.ensures.outcome
     (λ v pushes.
     let p : PushesStores point true ms (record old { slots = slots }) pushes.0 = subst (λ (x : StateValue). PushesStores point true ms x pushes.0) tables
@@ -159,7 +159,7 @@ returns-clause-step g c =
     let some = (c.requires.well_formed.1.follow c.args.block c.requires.block).0 in
     let within = end_within f c.requires.well_formed.1.follow c.args.block c.requires.block in
     let few = (g.met.F.Function.limited c.args.f.now).insts in
-    let at : c.store_point-point.result ≡ before (block_at f c.args.block).range.first = c.store_point-point.ensures
+    let at : c.before-point.result ≡ before (block_at f c.args.block).range.first = c.before-point.ensures
     ∙ ap before first in
     subst (λ (n : ℕ). IsStepAt n c.push_all_stores.result c.args.self.now c.push_all_stores.new.self) at
     (step_after c.push_all_stores.result c.args.self.now c.store_moves.new.self c.push_all_stores.new.self c.store_moves.ensures.step.machine
