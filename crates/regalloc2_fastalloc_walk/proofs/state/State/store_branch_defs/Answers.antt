@@ -104,8 +104,7 @@ push_all_stores-requires g c =
     let some = (c.requires.well_formed.1.follow c.args.block c.requires.block).0 in
     let within = end_within f c.requires.well_formed.1.follow c.args.block c.requires.block in
     let few = (g.met.F.Function.limited c.args.f.now).insts in
-    let at : c.before-point.result ≡ before (block_at f c.args.block).range.first = c.before-point.ensures
-    ∙ ap before first in (
+    let at : c.before-point.result ≡ before (block_at f c.args.block).range.first = c.before-point.ensures.point (λ e. omega (arith, first, some, within, few, e)) ∙ ap before first in (
       search rules,
       subst (λ (p : ℕ). AllAtOrAfter p c.store_moves.new.self.edits) (sym at)
           (subst (λ (es : List (ℕ × MoveValue)). AllAtOrAfter (before (block_at f c.args.block).range.first) es)
@@ -142,7 +141,10 @@ returns-clause-outcome g c =
     let stores = edge_stores f c.requires.well_formed c.args.block e k ie.edge old c.requires.apart ds c.in_ok-stores.ensures.ok ms slots finds
     c.num_units-count.ensures.owned.own in
     let first : c.first.result ≡ (block_at f c.args.block).range.first = c.first.ensures ∙ ap (λ (r : Span). r.first) c.block_insns.ensures in
-    let at : point ≡ before (block_at f c.args.block).range.first = c.before-point.ensures ∙ ap before first in
+    let some = (c.requires.well_formed.1.follow c.args.block c.requires.block).0 in
+    let within = end_within f c.requires.well_formed.1.follow c.args.block c.requires.block in
+    let few = (g.met.F.Function.limited c.args.f.now).insts in
+    let at : point ≡ before (block_at f c.args.block).range.first = c.before-point.ensures.point (λ e. omega (arith, first, some, within, few, e)) ∙ ap before first in
     MatchResult-weaker c.push_all_stores.result c.push_all_stores.ensures.outcome
     (λ v pushes.
     let p : PushesStores point true ms (record old { slots = slots }) pushes.0 = subst (λ (x : StateValue). PushesStores point true ms x pushes.0) tables
@@ -159,8 +161,7 @@ returns-clause-step g c =
     let some = (c.requires.well_formed.1.follow c.args.block c.requires.block).0 in
     let within = end_within f c.requires.well_formed.1.follow c.args.block c.requires.block in
     let few = (g.met.F.Function.limited c.args.f.now).insts in
-    let at : c.before-point.result ≡ before (block_at f c.args.block).range.first = c.before-point.ensures
-    ∙ ap before first in
+    let at : c.before-point.result ≡ before (block_at f c.args.block).range.first = c.before-point.ensures.point (λ e. omega (arith, first, some, within, few, e)) ∙ ap before first in
     subst (λ (n : ℕ). IsStepAt n c.push_all_stores.result c.args.self.now c.push_all_stores.new.self) at
     (step_after c.push_all_stores.result c.args.self.now c.store_moves.new.self c.push_all_stores.new.self c.store_moves.ensures.step.machine
     (ap (λ (x : StateValue). length x.places.vreg_allocs) c.store_moves.ensures.step.tables) c.push_all_stores.ensures.step)
