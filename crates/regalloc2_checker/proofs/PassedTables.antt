@@ -43,7 +43,6 @@ module _ (t : Holding) (s : List NumberSet) (h : List HomePlaces) (f : NumberCop
     (same : (i : ℕ) → i < length numbers → has_number changed i ≡ false → get_or numbers i 0 ≡ number_now t.entries i)
     (noted : (j i : ℕ) → j < length params → has_number changed i ≡ true → IsHome t.vregs h i (get_or params j 0)) (few : count ≤ length params)
     (w : AreWrittenTo numbers 0 (length numbers) t.entries f) where
-
   one : IsChanged t (record t { sets = s; homes = h }) (holds_now t)
   one = more-all t s h a m k
 
@@ -104,7 +103,7 @@ module _ (t : Holding) (s : List NumberSet) (h : List HomePlaces) (f : NumberCop
         ap (λ x. is_member s x y) (number i inside) ∙ (p.are i inside).members y;
   }
 
--- so does what is shown, where nothing is passed
+-- what is shown, too, where nothing is passed
 pub all-shown : (v w : Showing) (t u : Holding) (p : Option Passed) (s : List (Option Passed)) (read : ℕ → ℕ) → showing t p s ≡ w → w.passed ≡ None →
     IsBare v t → AreKeptTables t u → HoldsNow u (λ i y. holds_now t i (read y)) → ShowsNow (showing u p s) (λ i y. shows_now v i (read y))
 all-shown v w t u p s read e none b k h i y l =
@@ -153,12 +152,11 @@ taken-facts places shows read p a m n em en pp pa q v = by_position (place_in pl
 
 module _ (t u : Showing) (params arguments : List VirtualRegister) (pp : All (λ v. is_packed_vreg v ≡ true) params)
     (pa : All (λ v. is_packed_vreg v ≡ true) arguments) where
-
-  -- the bits that were shown where bits are once so many parameters took what their arguments had
+  -- the bits that were shown, where bits are once the first `k` parameters took what their arguments had
   abbrev pub read : ℕ → ℕ → ℕ
   read k y = taken_from (map bits_of_vreg params) (map bits_of_vreg arguments) k y
 
-  -- and what is shown then
+  -- what is shown once the first `k` parameters took what their arguments had
   abbrev pub after : ℕ → ℕ → ℕ → Bool
   after k i y = shows_now t i (read k y)
 

@@ -698,7 +698,7 @@ impl<A: Allocator + Copy> Tables<A> {
         Ok(())
     }
 
-    /// Whether vregs may, on average, be in a sixteenth of the places.
+    /// Whether vregs may, on average, be in a sixteenth of the places or more.
     pub fn have_many_homes(&self, vregs: &[VReg]) -> bool {
         let mut count: usize = 0;
         for k in 0..vregs.len() {
@@ -716,13 +716,7 @@ impl<A: Allocator + Copy> Tables<A> {
         ensures now { OnOk result (HoldsNow self.new (λ i y. holds_now self.old i
             (taken_from params.now arguments.now (min (length params.now) (length arguments.now)) y))) }
     {
-        let numbers = passed_numbers(
-            self.alloc,
-            &self.entries,
-            &mut self.sets,
-            params,
-            arguments,
-        )?;
+        let numbers = passed_numbers(self.alloc, &self.entries, &mut self.sets, params, arguments)?;
         let changed = changed_positions(self.alloc, &self.entries, &numbers)?;
         note_all_places(&self.vregs, &mut self.homes, params, &changed)?;
         self.entries.write_all(0, &numbers);

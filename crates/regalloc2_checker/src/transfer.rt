@@ -18,7 +18,7 @@ use regalloc2_function::Edit;
 use regalloc2_names::{Allocation, Operand, PRegSet, ProgPoint, VReg};
 use std::alloc::{AllocError, Allocator};
 
-/// So many parameters get their arguments' places one after another, without a step before.
+/// Up to this many parameters get their arguments' places one after another, without a step before.
 const FEW_PARAMS: usize = 8;
 
 /// Makes a move.
@@ -399,7 +399,7 @@ fn passes_one(is_entered_once: bool, params: &[VReg], arguments: &[VReg]) -> boo
 }
 
 /// Gives a block's parameters what its arguments had, all at once. One parameter alone of a block that is entered over one
-/// edge is passed as such.
+/// edge is passed as such. Arguments that may be in many places are passed by a walk over all places.
 pub fn take_arguments<A: Allocator + Copy>(
     alloc: A,
     values: &mut PassingTables<A>,

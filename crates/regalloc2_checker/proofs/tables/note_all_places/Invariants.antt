@@ -4,7 +4,7 @@ use Rattle.regalloc2_checker.specs.Holding.{IsHome}
 use Rattle.regalloc2_checker_sets.specs.Homes.{AreMoreHomes}
 use Rattle.regalloc2_checker.proofs.tables.note_all_places.Given as goal
 
--- so many vregs are noted
+-- the vregs before `k` are noted
 abbrev pub invariant-loop-k : goal.invariant-loop-k
 invariant-loop-k g l = record {
   more : AreMoreHomes l.fn.homes l.homes;

@@ -4,7 +4,7 @@ use Rattle.regalloc2_names.specs.RegisterBits.{bits_of_vreg}
 use Rattle.regalloc2_checker.specs.TableFacts.{is_packed_vreg}
 use Rattle.regalloc2_checker.proofs.transfer.bits_of_all.Given as goal
 
--- so many are listed
+-- the vregs before `k` are listed
 abbrev pub invariant-loop-k : goal.invariant-loop-k
 invariant-loop-k g l = record {
   bits : l.bits.items ≡ map bits_of_vreg (take l.k l.vregs);
