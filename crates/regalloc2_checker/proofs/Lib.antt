@@ -18,6 +18,7 @@ mod FixpointDecides
 mod Keys
 mod Positions
 mod TableSteps
+mod PassedTables
 mod VRegsInPlace
 mod RestOfList
 mod NamedBits

@@ -1,6 +1,7 @@
 //! Where places and vregs are listed.
 
 ghost use Rattle.std.specs.Prelude.{◌≡◌, true};
+ghost use Rattle.regalloc2_names.specs.RegisterBits.{bits_of_vreg};
 ghost use Rattle.regalloc2_function.specs.OutputValue.{place_at};
 ghost use Rattle.regalloc2_checker.specs.TableFacts.{is_packed, is_packed_vreg, place_in, vreg_in};
 
@@ -33,4 +34,12 @@ pub fn vreg_position<A: Allocator + Copy>(values: &PassingTables<A>, vreg: VReg)
     ensures packed { is_packed_vreg vreg ≡ true }
 {
     values.vreg(vreg.bits() as u32)
+}
+
+/// The bits of a vreg.
+pub fn bits_of(vreg: VReg) -> u32
+    ensures bits { result ≡ bits_of_vreg vreg }
+    ensures packed { is_packed_vreg vreg ≡ true }
+{
+    vreg.bits() as u32
 }

@@ -6,7 +6,9 @@
 //! written, or another edge is met in.
 
 ghost use Rattle.std.specs.Prelude.{◌≡◌, ◌<◌, ◌≢◌, ℕ, true, false, ◌==◌, ◌&&◌, ◌↔◌, nat_eq, nat_lt, if◌then◌else◌, length, get_or, None, Contains, IfOk, OnOk};
+ghost use Rattle.std.specs.Prelude.{min};
 ghost use Rattle.std.specs.Bool.{OnTrue, OnFalse};
+ghost use Rattle.regalloc2_checker_sets.specs.EntrySets.{taken_from};
 ghost use Rattle.std.specs.List.{position};
 ghost use Rattle.std.specs.List.Sorted.{IsStrictlyIncreasing};
 ghost use Rattle.regalloc2_names.specs.PlaceBits.{bits_of_place};
@@ -15,7 +17,7 @@ ghost use Rattle.regalloc2_checker.specs.Showing.{read_as, table_count, shows_no
 
 use crate::tables::Tables;
 use regalloc2_checker_sets::Positions;
-use regalloc2_names::Allocation;
+use regalloc2_names::{Allocation, VReg};
 use std::alloc::{AllocError, Allocator};
 use std::marker::Model;
 
@@ -329,6 +331,21 @@ impl<A: Allocator + Copy> PassingTables<A> {
             argument,
         });
         Ok(())
+    }
+
+    /// Whether vregs may, on average, be in a sixteenth of the places or more.
+    pub fn have_many_homes(&self, vregs: &[VReg]) -> bool {
+        self.tables.have_many_homes(vregs)
+    }
+
+    /// Gives parameters what their arguments have, all at once. Visits every place, but changes equal sets once.
+    pub fn pass_all(&mut self, params: &[u32], arguments: &[u32]) -> Result<(), AllocError>
+        ensures kept { AreTablesKept self.old self.new }
+        ensures now { OnOk result (ShowsNow self.new (λ i y. shows_now self.old i
+            (taken_from params.now arguments.now (min (length params.now) (length arguments.now)) y))) }
+    {
+        self.settle()?;
+        self.tables.pass_all(params, arguments)
     }
 
     /// How many words the tables take.

@@ -9,7 +9,8 @@ ghost use Rattle.std.specs.List.Sorted.{IsStrictlyIncreasing};
 ghost use Rattle.regalloc2_names.specs.PlaceBits.{bits_of_place};
 ghost use Rattle.regalloc2_function.specs.Numbers.{has_number, times_listed};
 ghost use Rattle.regalloc2_checker_sets.specs.SavedNumbers.{copy_count, saved_number};
-ghost use Rattle.regalloc2_checker_sets.specs.EntrySets.{is_member, IsSetOf};
+ghost use Rattle.std.specs.Prelude.{min};
+ghost use Rattle.regalloc2_checker_sets.specs.EntrySets.{is_member, taken_from, IsSetOf};
 ghost use Rattle.regalloc2_checker_sets.specs.Homes.{has_few, has_home};
 ghost use Rattle.regalloc2_checker.specs.Holding.{count_of, holds_now, holds_in};
 ghost use Rattle.regalloc2_checker_sets.specs.Held.{held, AreBelow, AreStill};
@@ -21,11 +22,12 @@ use crate::one_place::{drop_at, meet_at};
 use regalloc2_checker_sets::Positions;
 use regalloc2_checker_sets::entries::Entries;
 use regalloc2_checker_sets::homes::{Home, Homes};
+use regalloc2_checker_sets::passed_sets::{changed_positions, passed_numbers};
 use regalloc2_checker_sets::place_positions::PlacePositions;
 use regalloc2_checker_sets::sets::Sets;
 use regalloc2_checker_sets::unused_sets::drop_unused_sets;
 use regalloc2_function::indexset::IndexSet;
-use regalloc2_names::Allocation;
+use regalloc2_names::{Allocation, VReg};
 use std::alloc::{AllocError, Allocator};
 use std::marker::Model;
 
@@ -298,6 +300,42 @@ fn note_all<A: Allocator + Copy>(
 {
     for bits in members {
         note(vregs, homes, *bits, place)?;
+    }
+    Ok(())
+}
+
+/// Notes that a vreg may be at some places, if it is listed.
+fn note_places<A: Allocator + Copy>(
+    vregs: &Positions<A>,
+    homes: &mut Homes<A>,
+    bits: u32,
+    places: &IndexSet<A>,
+) -> Result<(), AllocError>
+    requires rising { IsStrictlyIncreasing vregs.now }
+    requires homes { length homes.old ≡ length vregs.now }
+    ensures more { AreMoreHomes homes.old homes.new }
+    ensures noted { OnOk result ((i : ℕ) → has_number places.now i ≡ true → IsHome vregs.now homes.new i bits) }
+{
+    let Some(vreg) = vregs.find(bits, bits as usize / 4) else {
+        return Ok(());
+    };
+    homes.add_all(vreg, places)
+}
+
+/// Notes that each of some vregs may be at some places.
+fn note_all_places<A: Allocator + Copy>(
+    vregs: &Positions<A>,
+    homes: &mut Homes<A>,
+    members: &[u32],
+    places: &IndexSet<A>,
+) -> Result<(), AllocError>
+    requires rising { IsStrictlyIncreasing vregs.now }
+    requires homes { length homes.old ≡ length vregs.now }
+    ensures more { AreMoreHomes homes.old homes.new }
+    ensures noted { OnOk result ((k i : ℕ) → k < length members.now → has_number places.now i ≡ true → IsHome vregs.now homes.new i (get_or members.now k 0)) }
+{
+    for k in 0..members.len() {
+        note_places(vregs, homes, members[k], places)?;
     }
     Ok(())
 }
@@ -657,6 +695,31 @@ impl<A: Allocator + Copy> Tables<A> {
         for place in places {
             self.add_at(*place, vreg)?;
         }
+        Ok(())
+    }
+
+    /// Whether vregs may, on average, be in a sixteenth of the places or more.
+    pub fn have_many_homes(&self, vregs: &[VReg]) -> bool {
+        let mut count: usize = 0;
+        for k in 0..vregs.len() {
+            let Some(vreg) = self.vreg(vregs[k].bits() as u32) else {
+                continue;
+            };
+            count = count.saturating_add(self.homes.at(vreg).other_count());
+        }
+        count.saturating_mul(16) >= self.entries.len().saturating_mul(vregs.len())
+    }
+
+    /// Gives parameters what their arguments have, all at once. Visits every place, but changes equal sets once.
+    pub fn pass_all(&mut self, params: &[u32], arguments: &[u32]) -> Result<(), AllocError>
+        ensures kept { AreKeptTables self.old self.new }
+        ensures now { OnOk result (HoldsNow self.new (λ i y. holds_now self.old i
+            (taken_from params.now arguments.now (min (length params.now) (length arguments.now)) y))) }
+    {
+        let numbers = passed_numbers(self.alloc, &self.entries, &mut self.sets, params, arguments)?;
+        let changed = changed_positions(self.alloc, &self.entries, &numbers)?;
+        note_all_places(&self.vregs, &mut self.homes, params, &changed)?;
+        self.entries.write_all(0, &numbers);
         Ok(())
     }
 

@@ -6,17 +6,18 @@ ghost use Rattle.regalloc2_function.specs.OutputValue.{place_at};
 ghost use Rattle.regalloc2_checker.specs.Holding.{is_in};
 ghost use Rattle.regalloc2_checker.specs.Showing.{shows_now, AreTablesKept};
 ghost use Rattle.regalloc2_checker.specs.Facts.{placed, defined, facts_after_moves, facts_after_early_defs, facts_after_defs, facts_after_clobbers};
-ghost use Rattle.regalloc2_checker.specs.TableFacts.{facts_now, IsMissingUnlisted, IsListed, IsListedVReg};
+ghost use Rattle.regalloc2_names.specs.RegisterBits.{bits_of_vreg};
+ghost use Rattle.regalloc2_checker.specs.TableFacts.{facts_now, is_packed_vreg, IsMissingUnlisted, IsListed, IsListedVReg};
 ghost use Rattle.regalloc2_checker.specs.Listing.{listed_move};
 ghost use Rattle.regalloc2_checker.specs.Renamed.{facts_renamed, HoldersAre, AreHoldersOf, AreOthersKept, given_to, facts_forgotten, facts_without};
 
 use crate::PassingTables;
-use crate::lookup::{place_at, position, vreg_position};
+use crate::lookup::{bits_of, place_at, position, vreg_position};
 use regalloc2_function::Edit;
 use regalloc2_names::{Allocation, Operand, PRegSet, ProgPoint, VReg};
 use std::alloc::{AllocError, Allocator};
 
-/// So many parameters get their arguments' places one after another, without a step before.
+/// Up to this many parameters get their arguments' places one after another, without a step before.
 const FEW_PARAMS: usize = 8;
 
 /// Makes a move.
@@ -332,6 +333,33 @@ fn assign_params<A: Allocator + Copy>(
     Ok(())
 }
 
+/// The bits of vregs.
+fn bits_of_all<A: Allocator + Copy>(alloc: A, vregs: &[VReg]) -> Result<Vec<u32, A>, AllocError>
+    ensures bits { IfOk result (λ bits. bits.items ≡ map bits_of_vreg vregs.now) }
+    ensures packed { IfOk result (λ bits. All (λ v. is_packed_vreg v ≡ true) vregs.now) }
+{
+    let mut bits = Vec::with_capacity(alloc, vregs.len())?;
+    for k in 0..vregs.len() {
+        bits.push(bits_of(vregs[k]))?;
+    }
+    Ok(bits)
+}
+
+/// Gives a block's parameters what its arguments had, all at once, by a walk over all places.
+fn pass_params<A: Allocator + Copy>(
+    alloc: A,
+    values: &mut PassingTables<A>,
+    params: &[VReg],
+    arguments: &[VReg],
+) -> Result<(), AllocError>
+    ensures kept { OnOk result (AreTablesKept values.old values.new) }
+    ensures now { OnOk result (facts_now values.new ≡ facts_renamed params.now arguments.now (facts_now values.old)) }
+{
+    let taken = bits_of_all(alloc, params)?;
+    let passed = bits_of_all(alloc, arguments)?;
+    values.pass_all(&taken, &passed)
+}
+
 /// Gives a block's one parameter what its argument has, without going over the places that hold it.
 fn pass_param<A: Allocator + Copy>(
     values: &mut PassingTables<A>,
@@ -367,7 +395,7 @@ fn passes_one(is_entered_once: bool, params: &[VReg], arguments: &[VReg]) -> boo
 }
 
 /// Gives a block's parameters what its arguments had, all at once. One parameter alone of a block that is entered over one
-/// edge is passed as such.
+/// edge is passed as such. Arguments that may be in many places are passed by a walk over all places.
 pub fn take_arguments<A: Allocator + Copy>(
     alloc: A,
     values: &mut PassingTables<A>,
@@ -382,6 +410,9 @@ pub fn take_arguments<A: Allocator + Copy>(
 {
     if passes_one(is_entered_once, params, arguments) {
         return pass_param(values, params[0], arguments[0]);
+    }
+    if params.len() > FEW_PARAMS && values.have_many_homes(arguments) {
+        return pass_params(alloc, values, params, arguments);
     }
     assign_params(alloc, values, params, arguments)
 }

@@ -67,7 +67,7 @@ places-set_same more k m less h e = entry-kept more (slice_set more k m) e (λ i
   | inr n ↦ ap (λ (p : MorePlaces). has_more p i) (get_or-set_other more k e.index m no_more n) ∙ is
 ])
 
--- or more places, which have those that were there
+-- more places are put at an index, with those that were there
 pub places-put : (more : List MorePlaces) (k : ℕ) (m : MorePlaces) → k < length more →
     ((i : ℕ) → has_more (get_or more k no_more) i ≡ true → has_more m i ≡ true) → AreMorePlaces more (slice_set more k m)
 places-put more k m less h e = entry-kept more (slice_set more k m) e (λ i is. elim (cases_eq e.index k) [
@@ -102,7 +102,7 @@ entry-set more k place m e less at h =
     ∙ h place ∙ ap (λ b. cond b true (has_more (get_or more k no_more) place)) (eq-eqb place place refl)
     )
 
--- so it is where it is one of those that were put at the home's index
+-- a place of the more places that were put at a home's index is one of the home
 pub entry-put : (more : List MorePlaces) (k place : ℕ) (m : MorePlaces) (e : HomeEntry) → k < length more → e.index ≡ k → has_more m place ≡ true →
     has_home (home_of (slice_set more k m) e) place ≡ true
 entry-put more k place m e less at h =

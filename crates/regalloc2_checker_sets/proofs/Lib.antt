@@ -13,7 +13,7 @@ pub mod HomeLaws
 mod HomeLists
 mod Lone
 mod Noted
-pub mod Passed
+mod Passed
 mod AllSets
 mod MovedDown
 mod Renumbered

@@ -68,12 +68,13 @@ pub record IsMeetOf (sets : List NumberSet) (set other number : ℕ) : Type 0 wh
   pub is : IsSetOf sets number (λ y. is_member sets set y && is_member sets other y)
   pub less : (number ≡ set → ⊥) → IsLess (is_member sets set) (is_member sets other)
 
--- which bits were a member before some first parameters took what their arguments had, where bits are one after; the last of equal parameters counts
+-- the bits that were a member before the first parameters, by their count, took what their arguments had, where bits are one after; the last of equal
+-- parameters counts
 unfoldable pub taken_from : List ℕ → List ℕ → ℕ → ℕ → ℕ
 taken_from params arguments zero y = y
 taken_from params arguments (suc k) y = if nat_eq y (get_or params k 0) then get_or arguments k 0 else taken_from params arguments k y
 
--- a set has the members of another one, once so many parameters took what their arguments had
+-- a set has the members of another one, once the first `count` parameters took what their arguments had
 pub record IsPassedOf (params arguments : List ℕ) (count : ℕ) (sets : List NumberSet) (set other number : ℕ) : Type 0 where
   pub below : set < length sets
   pub is : IsSetOf sets number (λ y. is_member sets set (taken_from params arguments count y))

@@ -701,12 +701,7 @@ impl<A: Allocator + Copy> Sets<A> {
     }
 
     /// The number of a set in which each parameter is a member if its argument is one of the set, and all else is as there.
-    pub fn passed(
-        &mut self,
-        set: u32,
-        params: &[u32],
-        arguments: &[u32],
-    ) -> Result<u32, AllocError>
+    pub fn passed(&mut self, set: u32, params: &[u32], arguments: &[u32]) -> Result<u32, AllocError>
         requires { set < length self.old }
         ensures more { AreMore self.old self.new }
         ensures found { IfOk result (λ n. IsSetOf self.new n

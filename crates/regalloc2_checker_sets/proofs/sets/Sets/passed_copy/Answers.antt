@@ -1,4 +1,4 @@
-use Rattle.std.proofs.Common.{◌≡◌, ◌<◌, arith, ap, sym, ◌∙◌, nat_eq, length, get_or}
+use Rattle.std.proofs.Common.{◌≡◌, arith, ap, sym, ◌∙◌, nat_eq, length, get_or}
 use Rattle.std.specs.Prelude.{if◌then◌else◌, min}
 use Rattle.regalloc2_checker_sets.specs.EntrySets.{has_bits, is_member, taken_from}
 use Rattle.regalloc2_checker_sets.proofs.Bits.{changed-is}
