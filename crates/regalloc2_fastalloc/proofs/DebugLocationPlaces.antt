@@ -29,7 +29,7 @@ use Rattle.regalloc2_fastalloc_proofs.specs.Debug.ShownPlace.{shown_place}
 use Rattle.regalloc2_fastalloc_proofs.specs.Safety.{MayBeLocatedAt}
 use Rattle.regalloc2_fastalloc_proofs.specs.InstSteps.{StateValue}
 use Rattle.regalloc2_fastalloc_proofs.specs.BlockSteps.{offset_of}
-use Rattle.regalloc2_fastalloc_proofs.proofs.Safety.OutputOfWalk.{IsMade, IsOfLabel, place_is, proper_place, slots_below}
+use Rattle.regalloc2_fastalloc_proofs.proofs.Safety.OutputOfWalk.{IsOutputOfWalk, IsOfLabel, place_is, proper_place, slots_below}
 use Rattle.regalloc2_fastalloc_proofs.proofs.Slots.ApartSlotsAreOwned.{OwnsSlots}
 use Rattle.regalloc2_fastalloc_proofs.proofs.Safety.InstsKeepSafe.{WalkKept, place_of}
 use Rattle.regalloc2_fastalloc.specs.DebugLocations.{AreLocated, location_shown, operand_place, place_by, place_shown}
@@ -83,7 +83,7 @@ module _ (env : MachineValue) (f : FunctionValue) (limited : IsLimited f) (ok : 
       each k (j, l, lt, there, (is, range)) = (j, l, lt, there, (sym is, range.kept, pointed_made f l.vreg range.kept.0, range_stands l k range))
 
 module _ (env : MachineValue) (f : FunctionValue) (limited : IsLimited f) (ok : IsWellFormed env f) (May : ℕ → Type 0) (t : StateValue) (out : OutputValue)
-    (m : IsMade f env (Made f) May t out)
+    (m : IsOutputOfWalk f env (Made f) May t out)
     (handed : (v : VirtualRegister) (i : ℕ) → PassesAt f v i → slot_name t.slots v.number ≢ NoPlace) (owns : OwnsSlots (Made f) f t.slots out) where
   -- the place that shows v is one of v's
   place_is_own : (v : VirtualRegister) → Made f v → (p : Place) → slot_name t.slots v.number ≡ p → (by : Option InstOperand) → IsShownBy f v by →
@@ -105,7 +105,7 @@ module _ (env : MachineValue) (f : FunctionValue) (limited : IsLimited f) (ok : 
   place_is_own v made (InSlot n) is by shown =
       inr (n, refl, owns.vregs v n made is)
 
-  -- it is the same in the list of all places and in those of the operand's instruction
+  -- an operand's place is the same in the list of all places and in the list of its instruction's places
   place_is_shown : (v : VirtualRegister) (p : Place) (by : Option InstOperand) → IsShownBy f v by →
       shown_place out p by ≡ (if is_no_place p then place_by out.offsets out.allocs by else p)
   place_is_shown v NoPlace None shown = refl

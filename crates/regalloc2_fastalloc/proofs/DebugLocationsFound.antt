@@ -26,33 +26,33 @@ use Rattle.regalloc2_fastalloc_proofs.proofs.Safety.StateKept.{made_below}
 use Rattle.regalloc2_fastalloc.specs.DebugLocations.{HasPlace}
 
 -- a debug location's parts, and the test by which two of them are sorted
-abbrev pub Parts : Type 0
-Parts = ℕ × ℕ × ℕ × Place
+abbrev pub LocationParts : Type 0
+LocationParts = ℕ × ℕ × ℕ × Place
 
-abbrev parts_of : DebugLocation → Parts
+abbrev parts_of : DebugLocation → LocationParts
 parts_of d = (d.label, d.start, d.end, d.place)
 
 abbrev tie_with : ℕ → ℕ → Bool
 tie_with m n = ties (λ (x y : ℕ). is_lt (nat_cmp x y)) m n
 
-picked : (b : Bool) (x : Parts) (xs : List Parts) (ds : List DebugLocation) → ds ≡ map location_of xs →
+located_if : (b : Bool) (x : LocationParts) (xs : List LocationParts) (ds : List DebugLocation) → ds ≡ map location_of xs →
     cond b (location_of x ∷ ds) ds ≡ map location_of (cond b (x ∷ xs) xs)
-picked true x xs ds same = ap (λ (es : List DebugLocation). location_of x ∷ es) same
-picked false x xs ds same = same
+located_if true x xs ds same = ap (λ (es : List DebugLocation). location_of x ∷ es) same
+located_if false x xs ds same = same
 
-filter_located : (m : ℕ) (xs : List Parts) → filter (λ (d : DebugLocation). tie_with m d.label) (map location_of xs) ≡ map location_of
-    (filter (λ (x : Parts). tie_with m x.0) xs)
+filter_located : (m : ℕ) (xs : List LocationParts) → filter (λ (d : DebugLocation). tie_with m d.label) (map location_of xs) ≡ map location_of
+    (filter (λ (x : LocationParts). tie_with m x.0) xs)
 filter_located m [] = refl
-filter_located m (x ∷ xs) = picked (tie_with m x.0) x (filter (λ (y : Parts). tie_with m y.0) xs)
+filter_located m (x ∷ xs) = located_if (tie_with m x.0) x (filter (λ (y : LocationParts). tie_with m y.0) xs)
     (filter (λ (d : DebugLocation). tie_with m d.label) (map location_of xs)) (filter_located m xs)
 
 -- a stable sort by label stays one where its items are seen as debug locations
-pub stable_located : (xs ys : List Parts) → IsStableByKey (λ (x : Parts). x.0) nat_cmp xs ys →
+pub stable_located : (xs ys : List LocationParts) → IsStableByKey (λ (x : LocationParts). x.0) nat_cmp xs ys →
     IsStableByKey (λ (d : DebugLocation). d.label) nat_cmp (map location_of xs) (map location_of ys)
 stable_located xs ys stable d = filter_located d.label ys ∙ ap (map location_of) (stable (parts_of d)) ∙ sym (filter_located d.label xs)
 
 -- a list that is sorted by label stays so where its items are seen as debug locations
-pub rising_located : (xs : List Parts) → IsNonDecreasingBy (λ (x : Parts). x.0) xs → IsNonDecreasingBy (λ (d : DebugLocation). d.label) (map location_of xs)
+pub rising_located : (xs : List LocationParts) → IsNonDecreasingBy (λ (x : LocationParts). x.0) xs → IsNonDecreasingBy (λ (d : DebugLocation). d.label) (map location_of xs)
 rising_located xs up i j d le lt =
     let same = length-map xs location_of in
     let small : j < length xs = omega (arith, lt, same) in

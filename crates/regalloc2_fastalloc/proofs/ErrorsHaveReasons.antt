@@ -30,7 +30,7 @@ shape_of f env w = record {
   no_operands_into_joins = w.no_operands_into_joins;
 }
 
--- those of the entry, terminators, arguments, definitions and uses
+-- the errors of the entry, terminators, arguments, definitions and uses are reasons
 no_soundness_fault : (f : FunctionValue) (env : MachineValue) {e : RegAllocError} → IsWellFormed env f → IsSoundnessFault f e → ⊥
 no_soundness_fault f env w (elsewhere h) = h w.entry.0
 no_soundness_fault f env w (livein z h) = h w.entry.1
@@ -39,7 +39,7 @@ no_soundness_fault f env w (arguments b entry end h) = h.1 (w.classes b h.0)
 no_soundness_fault f env w (definitions v i entry end fit h) =
     let e : SSA v i ≡ Memory = only_memory f w.follow (omega (arith, w.successors.0)) w.defined_once w.uses_defined (SSA v i) h in absurd cc
 
--- and those of reuses and fixed registers
+-- the errors of reuses and fixed registers are reasons
 no_fixed_fault : (f : FunctionValue) (env : MachineValue) {e : RegAllocError} → IsWellFormed env f → IsFixedFault f env e → ⊥
 no_fixed_fault f env w (i, is, inl first) = first.fails (All-get_or (ReusesAreSound env) f.insts i no_inst first.there w.reuses)
 no_fixed_fault f env w (i, is, inr (sound, first)) = first.fails (All-get_or FixedAvoidClobbers f.insts i no_inst first.there w.fixed)
@@ -85,7 +85,7 @@ lacks_where R P Q more TooManyLiveRegs h where_it = where_it refl
 lacks_where R P Q more TooManySpillSlots h where_it = more h
 lacks_where R P Q more e h where_it = h
 
--- and what may be lacking is one, after all tests
+-- what may be lacking is a reason, after all tests
 pub lack_is_a_reason : (f : FunctionValue) (env : MachineValue) (asked : Bool) → PassesAllChecks f env asked → (e : RegAllocError) →
     Lacks (SomeDoesNotFit f env) (2 ^ 24 < units_at_most f) e → IsReason f env asked e
 lack_is_a_reason f env asked p TooManyLiveRegs h = (p, h)
@@ -102,7 +102,7 @@ pub passed_not_refused : (f : FunctionValue) (e : RegAllocError) → AllPassTest
 passed_not_refused f e all (i, is, inl limited) = limited.fails (passed_unlimited f all i limited.there)
 passed_not_refused f e all (i, is, inr (unlimited, branch)) = branch.fails (all i branch.there).branch
 
--- then what may be lacking is a reason; and else the refusal is
+-- what may be lacking is a reason if all operands pass their tests; else the refusal is
 pub allocation_reason : (f : FunctionValue) (env : MachineValue) (asked : Bool) → HasFewOperands f → IsValidIfChecked f env asked → (error e : RegAllocError) →
     LacksIfPassed f env error → IsRefusal f e ⊎ ((e ≡ error) × AllPassTests f) → IsReason f env asked e
 allocation_reason f env asked few owed error e lacks (inl r) = subst (IsReason f env asked) (sym r.1) (inr (few, owed, r.2))

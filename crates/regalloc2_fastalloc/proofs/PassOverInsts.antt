@@ -13,7 +13,7 @@ use Rattle.regalloc2_fastalloc.specs.ErrorReason.{IsReason}
 use Rattle.regalloc2_fastalloc.specs.Survey.{IsSurveyError}
 use Rattle.regalloc2_fastalloc.specs.Survey.IsSurveyError.{out_of_memory, uncounted}
 
--- the places of one instruction more begin where those of the one before end
+-- the places of an instruction begin where the places of the instruction before it end
 pub offset_more : (f : FunctionValue) (i total n : ℕ) → i < length f.insts → total ≡ offset_of f i → n ≡ length (inst_at f i).operands →
     total + n ≡ offset_of f (i + 1)
 offset_more f i total n lt so here =
@@ -35,7 +35,7 @@ pub survey_reason : (f : FunctionValue) (env : MachineValue) (asked : Bool) {e :
 survey_reason f env asked (out_of_memory few) = few
 survey_reason f env asked (uncounted many) = many
 
--- and it is `TooManyOperands` where they are too many
+-- the error is `TooManyOperands` where there are too many operands
 pub survey_counted : {T : Type 0} (f : FunctionValue) (r : Result T RegAllocError) (e : RegAllocError) → r ≡ Err e → IsSurveyError f e →
     (r ≡ Err TooManyOperands) ↔ (2 ^ 32 ≤ operand_count f)
 survey_counted f r e is (out_of_memory few) = (λ h. absurd (let x = sym is ∙ h in cc), λ many. absurd (omega (arith, few, many)))

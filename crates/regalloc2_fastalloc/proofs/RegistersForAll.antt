@@ -57,7 +57,7 @@ asks_for_registers f env h = record {
   no_clobbers = h.no_clobbers;
 }
 
--- of the vregs that such a function names each class has no more than allocatable registers
+-- a function with registers for all names no more vregs of a class than registers of it are allocatable
 pub are_few : (f : FunctionValue) (env : MachineValue) (allocatable : PRegSet) → HasRegistersForAll f env →
     ((r : Register) → is_allocatable env r.class r ≡ true → has_register allocatable r ≡ true) → FitInRegs (names_in f.insts) allocatable
 unfolding allocatable_count

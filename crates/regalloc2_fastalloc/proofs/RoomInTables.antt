@@ -33,6 +33,6 @@ defined_small_by f once v point (inr o) =
       number = ap (λ (x : OperandValue). x.vreg.number) (sym same) ∙ ap (λ (w : VirtualRegister). w.number) o.6;
     })
 
--- so a table that has room for the numbers below the count has room for all that are defined
+-- a table that has room for the numbers below the count has room for all numbers that are defined
 pub has_room : (f : FunctionValue) → DefinedOnce f → (n : ℕ) → HasRoom f n → DefinesBelow f n
 has_room f once n room v point defined = room v point defined (defined_small_by f once v point defined)

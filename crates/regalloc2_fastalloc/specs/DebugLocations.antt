@@ -1,5 +1,5 @@
 -- The debug locations of a function, by the places that the walk leaves.
--- The labels that are kept, and the operand whose place shows a vreg, are those of regalloc2_analysis/specs/LiveRanges/LiveRanges.antt.
+-- regalloc2_analysis/specs/LiveRanges/LiveRanges.antt defines the labels that are kept, and the operand whose place shows a vreg.
 use Rattle.std.specs.Prelude.{ℕ, ◌≡◌, ◌+◌, ◌<◌, List, length, map, slice_index, slice_index_or, Option, None, Some, if◌then◌else◌, IsPermutation}
 use Rattle.std.specs.Ordering.{nat_cmp}
 use Rattle.std.specs.List.Sorted.{IsNonDecreasingBy, IsStableByKey}
@@ -12,16 +12,16 @@ use Rattle.regalloc2_analysis.specs.declared.live_ranges.LiveRange.{LiveRange}
 use Rattle.regalloc2_analysis.specs.declared.live_ranges.KeptLabel.{KeptLabel}
 use Rattle.regalloc2_analysis.specs.LiveRanges.LiveRanges.{AreKeptLabels}
 
--- the place of an operand, among those of all operands
+-- the place of an operand, in the list of the places of all operands
 abbrev pub operand_place : List ℕ → List Place → InstOperand → Place
 operand_place offsets allocs o = slice_index_or allocs (slice_index offsets o.inst + o.index) NoPlace
 
--- or none, where there is no operand
+-- the place of an operand, or none if there is no operand
 abbrev pub place_by : List ℕ → List Place → Option InstOperand → Place
 place_by offsets allocs None = NoPlace
 place_by offsets allocs (Some o) = operand_place offsets allocs o
 
--- The place that shows a live range's vreg: its slot where it has one, else that of the operand which the range names.
+-- The place that shows a live range's vreg: its slot if it has one, else the place of the operand that the range names.
 abbrev pub place_shown : SpillSlotsValue → List ℕ → List Place → LiveRange → Place
 place_shown slots offsets allocs r = if is_no_place (slot_name slots r.vreg.number) then place_by offsets allocs r.by else slot_name slots r.vreg.number
 
@@ -29,7 +29,7 @@ place_shown slots offsets allocs r = if is_no_place (slot_name slots r.vreg.numb
 abbrev pub location_shown : SpillSlotsValue → List ℕ → List Place → KeptLabel → DebugLocation
 location_shown slots offsets allocs k = record { label = k.label; start = k.range.first; end = k.range.last; place = place_shown slots offsets allocs k.range }
 
--- The debug locations of a function: those of the labels that are kept, by rising label, and as listed where labels are equal.
+-- The debug locations of a function: one for each label that is kept, by rising label, and as listed where labels are equal.
 pub record AreLocated (f : FunctionValue) (slots : SpillSlotsValue) (offsets : List ℕ) (allocs : List Place) (ds : List DebugLocation) : Type 0 where
   pub kept : List KeptLabel
   pub are : AreKeptLabels f f.labels kept

@@ -18,7 +18,7 @@ use Rattle.regalloc2_fastalloc_state.specs.Validate.Validated.{IsFunctionFault}
 abbrev pub HasFewOperands : FunctionValue → Type 0
 HasFewOperands f = operand_count f < 2 ^ 32
 
--- then those of a well-formed function, if they are required
+-- the function is well-formed, if that is to be tested
 abbrev pub IsValidIfChecked : FunctionValue → MachineValue → Bool → Type 0
 IsValidIfChecked f env asked = asked ≡ true → IsWellFormed env f
 
@@ -29,7 +29,7 @@ pub record PassesAllChecks (f : FunctionValue) (env : MachineValue) (asked : Boo
   pub unlimited : (i : ℕ) → i < length f.insts → AreUnlimited (inst_at f i)
   pub branches : (i : ℕ) → i < length f.insts → BranchDefinesInPlace (inst_at f i)
 
--- that is tested, and the function isn't well-formed: the first test that fails, and where it fails first
+-- the function is tested and isn't well-formed: the first test that fails, and where it fails first
 abbrev pub FailsValidation : FunctionValue → MachineValue → Bool → RegAllocError → Type 0
 FailsValidation f env asked e = HasFewOperands f × (asked ≡ true) × (IsWellFormed env f → ⊥) × IsFunctionFault f env e
 

@@ -1,5 +1,5 @@
 -- How the loan of an output ends: what `Ctx::run` leaves in its context.
--- This project's: upstream's signature says nothing of the context after the call.
+-- The definition is this project's own: upstream's signature says nothing of the context after the call.
 use Rattle.std.specs.Prelude.{◌≡◌, Result}
 use Rattle.std.specs.Borrow.{LendsSoOk, Fml, RattleType, MutBor}
 use Rattle.std.specs.declared.alloc.Allocator.{Ghosts}

@@ -57,8 +57,7 @@ pub data ArrivesAt (f : FunctionValue) (out : OutputValue) (slot : VirtualRegist
       DefinesNumber (last_operands f e) (argument_for f e k n).number j → ⊥) → ArrivesAt f out slot b v (InSlot (slot v))
 
 -- Between blocks values are on the stack, but for what the branch between them defines: each vreg has one slot, which is that of its operands in slots;
--- and on every path, where it comes to a block, each vreg that is live there owns its slot, and its place holds its value, also those of the block's
--- parameters.
+-- on every path, where it comes to a block, each vreg that is live there owns its slot, and its place holds its value; so do the block's parameters.
 pub record LiveInSlots (f : FunctionValue) (out : OutputValue) (owner : ℕ → Owner) : Type 0 where
   pub slot : VirtualRegister → ℕ
   pub operands : (v : VirtualRegister) (n : ℕ) → StandsInSlot f out v n → slot v ≡ n
@@ -91,7 +90,7 @@ IsPlaceOfOperand f out v p = (i k : ℕ) × (d : OperandValue) × (i < length f.
 abbrev pub IsPlaceOf : FunctionValue → OutputValue → (ℕ → Owner) → VirtualRegister → Place → Type 0
 IsPlaceOf f out owner v p = IsPlaceOfOperand f out v p ⊎ ((n : ℕ) × (p ≡ InSlot n) × (owner n ≡ OfVReg v))
 
--- The debug locations are those of the labels that are kept, each from its vreg's first point to its last one, by rising label, and as listed where
+-- There is a debug location for each label that is kept, each from its vreg's first point to its last one, by rising label, and as listed where
 -- labels are equal. Each place is valid, and one of that vreg; and if no path from the entry reads or passes a vreg before writing it, it holds that
 -- vreg's value.
 abbrev pub ShowsLabels : FunctionValue → MachineValue → OutputValue → (ℕ → Owner) → Type 0
@@ -128,7 +127,7 @@ pub record HasRegistersForAll (f : FunctionValue) (env : MachineValue) : Type 0 
 --     slots               slots take few units
 --     unspilled           where each vreg can have a register of its own, there are no moves and no slots
 --     branch_slots        a branch owns two slots for a class at most, and only moves at the point before it name them
---     labels              debug locations are those of the labels that are kept, and name places of their vregs, which hold their values
+--     labels              there is a debug location for each label that is kept; it names a place of its vreg, which holds the vreg's value
 pub record IsAllocation (f : FunctionValue) (env : MachineValue) (out : OutputValue) : Type 0 where
   pub in_order : IsInOrder f out
   pub constraints : (i : ℕ) → i < length f.insts → ConstraintsMet f env out i

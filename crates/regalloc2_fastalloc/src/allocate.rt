@@ -28,8 +28,8 @@ struct Rest<A: Allocator> {
     debug_locations: Vec<(u32, ProgPoint, ProgPoint, Allocation), A>,
 }
 
-/// Walks from a fresh state and fills in the place of each operand. Returns the rest of a whole
-/// output.
+/// Walks from a fresh state and fills in the place of each operand in `allocs`. Returns the rest of
+/// the output.
 fn fill_places<A: Allocator + Copy, F: Function, B: Allocator>(
     alloc: A,
     f: &F,
@@ -53,7 +53,7 @@ fn fill_places<A: Allocator + Copy, F: Function, B: Allocator>(
     let vregs = table_length(f);
     let mut state = State::new(&alloc, f, env, vregs, wanted)?;
     let mut found = state.alloc_blocks(alloc, f, offsets, allocs)?;
-    // what only the walk needs is freed first: locating labels takes tables by vreg, too
+    // the walk's tables are freed first, because locating labels takes tables by vreg, too
     drop(state.places);
     drop(state.registers);
     validate_unless_passed(f, found.passes)?;
@@ -70,7 +70,7 @@ fn fill_places<A: Allocator + Copy, F: Function, B: Allocator>(
     )?;
     let num_spillslots = state.slots.num_units();
     drop(found);
-    // and so are the slots, since a move that is listed takes more than one that is kept
+    // the slots are freed before the moves are listed: a listed move takes more memory than a kept one
     drop(state.slots);
     let edits = state.edits.listed(alloc)?;
     // a lemma, which the contract needs: the call does nothing
@@ -82,8 +82,8 @@ fn fill_places<A: Allocator + Copy, F: Function, B: Allocator>(
     })
 }
 
-/// Allocates registers to the operands of a well-formed function, after the pass over it. If some
-/// instruction fails an operand test, an error is returned, which may be of another reason.
+/// Allocates registers to the operands of a well-formed function, of which `found` is the survey. Returns an
+/// error if some instruction fails an operand test, though perhaps another error than that test's.
 pub fn allocate<A: Allocator + Copy, F: Function, B: Allocator>(
     alloc: A,
     f: &F,

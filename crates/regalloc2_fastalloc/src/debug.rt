@@ -11,8 +11,8 @@ use regalloc2_function::Function;
 use regalloc2_names::{Allocation, ProgPoint, RegAllocError};
 use std::alloc::Allocator;
 
-/// The place that shows a vreg's value over its live range: its slot where it has one, else that of the operand which the
-/// range names.
+/// Returns the place that shows a vreg's value over `range`: the vreg's slot if it has one, else the place of the operand that
+/// `range` names.
 fn place_of<B: Allocator>(
     range: LiveRange,
     slots: &SpillSlots<B>,
@@ -29,7 +29,7 @@ fn place_of<B: Allocator>(
     }
 }
 
-/// The debug location of a label that is kept.
+/// Returns the debug location of the label `kept`.
 fn location<B: Allocator>(
     kept: KeptLabel,
     slots: &SpillSlots<B>,
@@ -43,7 +43,7 @@ fn location<B: Allocator>(
     (kept.label, kept.range.first, kept.range.last, place)
 }
 
-/// The debug locations of labels that are kept, in their order.
+/// Returns the debug locations of the labels `kept`, in their order.
 fn locate<A: Allocator, B: Allocator>(
     alloc: A,
     kept: &[KeptLabel],
@@ -62,7 +62,7 @@ fn locate<A: Allocator, B: Allocator>(
     Ok(locations)
 }
 
-/// The debug locations of a function whose walk left these slots and places: those of the labels that are kept, by rising
+/// Returns the debug locations of a function whose walk left `slots` and the places `allocs`: one for each kept label, by rising
 /// label, and as listed where labels are equal.
 pub fn locations<A: Allocator + Copy, F: Function, B: Allocator>(
     alloc: A,

@@ -63,7 +63,7 @@ impl<A: Allocator + Copy> Ctx<A> {
 
     /// Allocates registers to a function, puts the output into `self.output` and lends it.
     ///
-    /// Preconditions, output and errors are those of [`run`]. After the loan, `self.output` holds what the borrower left in the lent output.
+    /// Has the preconditions, output and errors of [`run`]. After the loan, `self.output` holds what the borrower left in the lent output.
     /// After an error, `self.output` holds the output that it held at the call.
     ///
     /// Upstream: no such method. Spec: `LendsOutput` in `specs/Lending.antt`.
@@ -100,7 +100,7 @@ impl<A: Allocator + Copy> Ctx<A> {
 /// branch owns at most two slots for each class, and only moves at the point before the branch name
 /// them. Each slot takes as many units as its owner's class requires, aligned to that number, below
 /// the count, and no other slot has one of them. Both ends of a move are of one class. The debug
-/// locations are those of the labels that are kept, by rising label. Each is from the first point
+/// locations are one for each kept label, by rising label. Each is from the first point
 /// of its vreg to the last one, in a valid place: that of an operand of the vreg, or the slot that
 /// it owns. One record contains all that is guaranteed of an output: `IsAllocation`, in
 /// `specs/Promise.antt`.
@@ -119,7 +119,7 @@ impl<A: Allocator + Copy> Ctx<A> {
 ///
 /// - `TooManyOperands`: 2^32 operands or more.
 /// - If `options.validate_ssa` is true, first the errors of `CFGInfo::init` in blocks and edges,
-///   then those of `validate_ssa` in the entry, terminators, arguments, definitions or uses, and
+///   then the errors of `validate_ssa` in the entry, terminators, arguments, definitions or uses, and
 ///   then `Unsupported` with the first instruction whose reuses aren't sound, or if there is none,
 ///   the first whose fixed registers clash with clobbers.
 /// - `Unsupported` with the first instruction that has an operand under `Limit`, or if there is
@@ -172,7 +172,7 @@ pub fn run<A: Allocator + Copy, F: Function, B: Allocator>(
 
 /// Allocates registers to a function, and puts the output into `ctx.output`.
 ///
-/// Preconditions, output and errors are those of [`run`]. An error leaves `ctx.output` unchanged.
+/// Has the preconditions, output and errors of [`run`]. An error leaves `ctx.output` unchanged.
 /// After a call that returns no error, `&ctx.output` is the output. Upstream has this within
 /// `run_with_ctx`.
 pub fn run_into_ctx<A: Allocator + Copy, F: Function, B: Allocator>(

@@ -27,14 +27,14 @@ pub struct Survey<A: Allocator> {
     pub wanted: Vec<bool, A>,
 }
 
-/// Adds an instruction's operands to a count, if they are fewer than 2^32 in all.
+/// Adds `operands` to `total`, if the sum is below 2^32.
 fn add_operands(total: u32, operands: usize) -> Option<u32>
     ensures { SomeIff result (total + operands < 2 ^ 32) (total + operands) }
 {
     total.checked_add(u32::try_from(operands).ok()?)
 }
 
-/// The pass. It stops if memory runs out or there are 2^32 operands, and doesn't tell which.
+/// Makes the pass. Stops if memory runs out or there are 2^32 operands; the error doesn't tell which.
 fn survey_once<A: Allocator + Copy, F: Function>(
     alloc: A,
     f: &F,
@@ -90,8 +90,8 @@ pub fn validate_unless_passed<F: Function>(f: &F, passes: bool) -> Result<(), Re
     validate_operands(f)
 }
 
-/// The error of an allocation that failed: if some instruction fails an operand test, that comes
-/// before what the walk lacked.
+/// Returns the error of an allocation that failed with `error`: the refusal of an instruction that fails an
+/// operand test comes before what the walk lacked.
 pub fn first_error<F: Function>(f: &F, error: RegAllocError) -> RegAllocError
     ensures { IsRefusal (F.function f.now) result ⊎ ((result ≡ error) × AllPassTests (F.function f.now)) }
 {

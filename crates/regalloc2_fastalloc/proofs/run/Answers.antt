@@ -62,27 +62,6 @@ returns-in-Err-clause-refused g c =
     allocation_reason (g.F.Function.function c.args.f.now) (machine_of c.args.env.now) c.args.options.now.validate_ssa c.in_ok-found.ensures.ok.few owed
     c.in-Err.error c.first_error.result c.in-Err.ensures.err c.first_error.ensures
 
-pub returns-in_err-found-clause-allocation : goal.returns-in_err-found-clause-allocation
-returns-in_err-found-clause-allocation g c = let p = err_from_is_err_and c.from_residual.result c.from_residual.ensures.1 in rw p.1 tt
-
-pub returns-in_err-found-clause-tested : goal.returns-in_err-found-clause-tested
-returns-in_err-found-clause-tested g c = let p = err_from_is_err_and c.from_residual.result c.from_residual.ensures.1 in rw p.1 tt
-
-pub returns-in_err-found-clause-passes_checks : goal.returns-in_err-found-clause-passes_checks
-returns-in_err-found-clause-passes_checks g c = let p = err_from_is_err_and c.from_residual.result c.from_residual.ensures.1 in rw p.1 tt
-
-pub returns-in_err-validate_function-clause-allocation : goal.returns-in_err-validate_function-clause-allocation
-returns-in_err-validate_function-clause-allocation g c =
-    let p = err_from_is_err_and c.from_residual-in_err-validate_function.result c.from_residual-in_err-validate_function.ensures.1 in rw p.1 tt
-
-pub returns-in_err-validate_function-clause-tested : goal.returns-in_err-validate_function-clause-tested
-returns-in_err-validate_function-clause-tested g c =
-    let p = err_from_is_err_and c.from_residual-in_err-validate_function.result c.from_residual-in_err-validate_function.ensures.1 in rw p.1 tt
-
-pub returns-in_err-validate_function-clause-passes_checks : goal.returns-in_err-validate_function-clause-passes_checks
-returns-in_err-validate_function-clause-passes_checks g c =
-    let p = err_from_is_err_and c.from_residual-in_err-validate_function.result c.from_residual-in_err-validate_function.ensures.1 in rw p.1 tt
-
 pub allocate-requires : goal.allocate-requires
 allocate-requires g c =
     let valid : IsWellFormed (machine_of c.args.env.now) (g.F.Function.function c.args.f.now) = elim c.if-options.branch [

@@ -31,8 +31,8 @@ use Rattle.regalloc2_fastalloc.proofs.DebugLocationPlaces.{locations_stand, show
 use Rattle.regalloc2_fastalloc.proofs.BranchSlots.{branch_slots_serve}
 use Rattle.regalloc2_fastalloc_proofs.proofs.Walk.BlocksCarryFromFreshState.{passed_slots}
 use Rattle.regalloc2_fastalloc_proofs.proofs.Safety.InitialState.{begun_machine}
-use Rattle.regalloc2_fastalloc_proofs.proofs.Safety.OutputOfWalk.{IsMade, made_in_order, made_constraints, made_proper, made_in_registers}
-use Rattle.regalloc2_fastalloc_proofs.proofs.Safety.WellFormedKeepsSafe.{tame_at}
+use Rattle.regalloc2_fastalloc_proofs.proofs.Safety.OutputOfWalk.{IsOutputOfWalk, made_in_order, made_constraints, made_proper, made_in_registers}
+use Rattle.regalloc2_fastalloc_proofs.proofs.Safety.WellFormedKeepsSafe.{sound_ops_at}
 use Rattle.regalloc2_fastalloc_proofs.proofs.Safety.StateKept.{none_lends}
 use Rattle.regalloc2_fastalloc_proofs.proofs.Walk.UsesReadOwnDefs.{fresh_blank, some_units, fresh_fit}
 use Rattle.regalloc2_fastalloc_proofs.proofs.Safety.MachineRegs.{fit_apart}
@@ -56,7 +56,7 @@ use Rattle.regalloc2_fastalloc_proofs.proofs.Moves.ScratchRegTaken.{Fit}
 use Rattle.regalloc2_fastalloc_proofs.proofs.Safety.BranchArgsKeepState.{processes_branch_between}
 use Rattle.regalloc2_fastalloc_proofs.proofs.Safety.InstsKeepSafe.{WalkKept}
 use Rattle.regalloc2_fastalloc_proofs.proofs.Unspilled.BlockSpillFree.{begins_uncrowded}
-use Rattle.regalloc2_fastalloc_proofs.proofs.Unspilled.OneBlock.{unspilled}
+use Rattle.regalloc2_fastalloc_proofs.proofs.Unspilled.OneBlock.{walk_spills_nothing}
 use Rattle.regalloc2_fastalloc.proofs.RoomInTables.{has_room}
 use Rattle.regalloc2_fastalloc.proofs.RegistersForAll.{are_few, asks_for_registers, names_in}
 use Rattle.regalloc2_fastalloc.proofs.allocate.fill_places.Given.{Over}
@@ -189,7 +189,7 @@ abbrev whole_is : (g : Over) (c : goal.After-reads_the_same_numbers g) → Whole
 whole_is g c = whole_walk (machine_of c.args.env.now) (g.F.Function.function c.args.f.now) (g.met.F.Function.limited c.args.f.now) c.requires.well_formed
     c.args.allocs.now (begun g c) (left g c) (out_of g c) (blank_is g c) (fit_is g c) c.in_ok-found.ensures.outcome
 
--- and from which tables it began
+-- the tables from which the walk began
 abbrev fresh_is : (g : Over) (c : goal.After-reads_the_same_numbers g) → FreshWalk
 fresh_is g c = record {
   env = machine_of c.args.env.now;
@@ -216,12 +216,12 @@ fresh_is g c = record {
 }
 
 -- what the walk left
-walked : (g : Over) (c : goal.After-reads_the_same_numbers g) →
+walk_keeps : (g : Over) (c : goal.After-reads_the_same_numbers g) →
     WalkKept (machine_of c.args.env.now) (Made (g.F.Function.function c.args.f.now)) (g.F.Function.function c.args.f.now)
     (MayInBlocks (g.F.Function.function c.args.f.now)) c.alloc_blocks.new.allocs 0 0 c.alloc_blocks.new.allocs (left g c)
-walked g c = walk_kept_through (fresh_is g c) (blank_is g c) (fit_is g c)
+walk_keeps g c = walk_kept_through (fresh_is g c) (blank_is g c) (fit_is g c)
 
--- and at each of its instructions
+-- the states of the walk are safe at each instruction of a block
 safe_is : (g : Over) (c : goal.After-reads_the_same_numbers g) →
     SafeWithin (machine_of c.args.env.now) (g.F.Function.function c.args.f.now) c.args.allocs.now (begun g c) c.alloc_blocks.new.allocs
 safe_is g c = walk_safe_through (fresh_is g c) (blank_is g c) (fit_is g c)
@@ -234,7 +234,7 @@ handed_is g c v i p =
     passed_slots (whole_is g c) (processes_branch_between f) v i p
 
 made : (g : Over) (c : goal.After-reads_the_same_numbers g) →
-    IsMade (g.F.Function.function c.args.f.now) (machine_of c.args.env.now) (Made (g.F.Function.function c.args.f.now))
+    IsOutputOfWalk (g.F.Function.function c.args.f.now) (machine_of c.args.env.now) (Made (g.F.Function.function c.args.f.now))
     (MayInBlocks (g.F.Function.function c.args.f.now)) (left g c) (out_of g c)
 made g c =
     let f : FunctionValue = g.F.Function.function c.args.f.now in
@@ -248,8 +248,8 @@ made g c =
       allocs_long = c.alloc_blocks.auto.allocs ∙ c.requires.allocs_long;
       debug = locations_stand env f (g.met.F.Function.limited c.args.f.now) c.requires.well_formed (MayInBlocks f) (left g c) c.args.offsets.now
           c.alloc_blocks.new.allocs (λ i lt. c.requires.offsets i lt)
-          (walked g c) (handed_is g c) (map location_of c.in_ok-debug_locations.debug_locations.items) c.in_ok-debug_locations.ensures.ok;
-      kept = walked g c;
+          (walk_keeps g c) (handed_is g c) (map location_of c.in_ok-debug_locations.debug_locations.items) c.in_ok-debug_locations.ensures.ok;
+      kept = walk_keeps g c;
     }
 
 -- where no path reads or passes a vreg before writing it, the output is faithful
@@ -258,7 +258,7 @@ faithful_is : (g : Over) (c : goal.After-reads_the_same_numbers g) → IsWritten
 faithful_is g c = λ written.
     let f : FunctionValue = g.F.Function.function c.args.f.now in
     let env : MachineValue = machine_of c.args.env.now in
-    let m : IsMade f env (Made f) (MayInBlocks f) (left g c) (out_of g c) = made g c in
+    let m : IsOutputOfWalk f env (Made f) (MayInBlocks f) (left g c) (out_of g c) = made g c in
     faithful f env (out_of g c) (made_constraints f env (Made f) (MayInBlocks f) (left g c) (out_of g c) m)
     (made_in_registers f env (Made f) (MayInBlocks f) (left g c) (out_of g c) m)
     (made_blocks_agree (whole_is g c) (taken_is g c) (branches_are g c) (safe_is g c) m written)
@@ -277,7 +277,7 @@ slots_owned_are g c =
     let classed = walk_classed (fits_keeps f env c.requires.machine) limited c.requires.well_formed (taken_is g c) {begin = begin} {last = last} n n
     (sizes_of f) e.places e.slots e.edits (units_are g c) (machine_is g c) c.in_ok-found.ensures.outcome in
     made_slots_owned f env (Made f) (MayInBlocks f) last (out_of g c) (made g c) c.num_units-num_spillslots.ensures.owned
-    (tame_at env f limited c.requires.well_formed (taken_is g c)) f.named_by_last_slot (BranchesFrom f 0) classed
+    (sound_ops_at env f limited c.requires.well_formed (taken_is g c)) f.named_by_last_slot (BranchesFrom f 0) classed
     (sizes_agree f last.slots (sizes_kept f begin last n f.named_by_last_slot _ e.slots c.alloc_blocks.ensures.machine)) refl (λ i class m. (m.1, m.2))
 
 -- values that are live between blocks are in slots of their vregs
@@ -287,19 +287,19 @@ live_is g c =
     let f : FunctionValue = g.F.Function.function c.args.f.now in
     let env : MachineValue = machine_of c.args.env.now in
     made_in_slots (whole_is g c) (taken_is g c) (branches_are g c) (safe_is g c) (made g c) (slots_owned_are g c)
-    c.num_units-num_spillslots.ensures.owned (tame_at env f (g.met.F.Function.limited c.args.f.now) c.requires.well_formed (taken_is g c))
+    c.num_units-num_spillslots.ensures.owned (sound_ops_at env f (g.met.F.Function.limited c.args.f.now) c.requires.well_formed (taken_is g c))
 
--- and debug locations name places of their vregs, which hold their values
+-- debug locations name places of their vregs, which hold their values
 labels_are : (g : Over) (c : goal.After-reads_the_same_numbers g) → ShowsLabels (g.F.Function.function c.args.f.now) (machine_of c.args.env.now) (out_of g c)
     (slots_owned_are g c).owned.owner
 labels_are g c =
     let f : FunctionValue = g.F.Function.function c.args.f.now in
     let env : MachineValue = machine_of c.args.env.now in
     let limited : IsLimited f = g.met.F.Function.limited c.args.f.now in
-    let tame = tame_at env f limited c.requires.well_formed (taken_is g c) in
+    let sound_ops = sound_ops_at env f limited c.requires.well_formed (taken_is g c) in
     shows_labels env f limited c.requires.well_formed (MayInBlocks f) (left g c) (out_of g c) (made g c) (handed_is g c) (slots_owned_are g c)
     (made_label_shown (whole_is g c) (taken_is g c) (branches_are g c) (safe_is g c) (made g c)
-    c.requires.machine c.num_units-num_spillslots.ensures.owned tame) c.in_ok-debug_locations.ensures.ok
+    c.requires.machine c.num_units-num_spillslots.ensures.owned sound_ops) c.in_ok-debug_locations.ensures.ok
 
 -- there are few temporary slots
 few_lent : (f : FunctionValue) (begun left : StateValue) (n : ℕ) (by_last : Bool) (most : ℕ) → begun.slots ≡ no_slots n (sizes_of f) by_last →
@@ -329,7 +329,7 @@ unspilled_is g c = λ h.
     let begin : StateValue = tables_of c.in_ok-state.state in
     let e = c.in_ok-state.ensures in
     let b = blank_is g c in
-    let none = unspilled f (machine_of c.args.env.now) c.requires.well_formed (names_in f.insts) (asks_for_registers f (machine_of c.args.env.now) h) 0
+    let none = walk_spills_nothing f (machine_of c.args.env.now) c.requires.well_formed (names_in f.insts) (asks_for_registers f (machine_of c.args.env.now) h) 0
     c.args.allocs.now c.alloc_blocks.new.allocs begin (left g c) refl (are_few f (machine_of c.args.env.now) begin.allocatable h e.all)
     (begins_uncrowded f (names_in f.insts) begin b.nowhere b.no_move b.no_slot (ap (λ (s : SpillSlotsValue). s.count) e.slots)
     (blank_whole begin b) (fit_apart begin (fit_is g c)) e.lrus) c.in_ok-found.ensures.outcome in
@@ -339,7 +339,7 @@ pub returns-clause-allocation : goal.returns-clause-allocation
 returns-clause-allocation g c =
     let f : FunctionValue = g.F.Function.function c.args.f.now in
     let env : MachineValue = machine_of c.args.env.now in
-    let m : IsMade f env (Made f) (MayInBlocks f) (left g c) (out_of g c) = made g c in
+    let m : IsOutputOfWalk f env (Made f) (MayInBlocks f) (left g c) (out_of g c) = made g c in
     record {
       in_order = made_in_order _ _ _ _ _ _ m;
       constraints = made_constraints _ _ _ _ _ _ m;
@@ -353,7 +353,7 @@ returns-clause-allocation g c =
       };
       live = live_is g c;
       slots = slots_are g c;
-      unspilled = unspilled_is g c;
+      walk_spills_nothing = unspilled_is g c;
       owners = (slots_owned_are g c).owned;
       branch_slots = branch_slots_serve (Made f) f (left g c).slots (out_of g c) (slots_owned_are g c);
       labels = labels_are g c;

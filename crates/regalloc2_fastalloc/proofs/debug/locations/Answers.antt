@@ -10,7 +10,7 @@ use Rattle.regalloc2_function.specs.Stored.{location_of}
 use Rattle.regalloc2_analysis.specs.declared.live_ranges.KeptLabel.{KeptLabel}
 use Rattle.regalloc2_analysis.proofs.LiveRangesLemmas.KeptLabels.{IsOneOf, kept_from}
 use Rattle.regalloc2_fastalloc.specs.DebugLocations.{HasPlace, location_shown}
-use Rattle.regalloc2_fastalloc.proofs.DebugLocationsFound.{Parts, has_place, rising_located, stable_located}
+use Rattle.regalloc2_fastalloc.proofs.DebugLocationsFound.{LocationParts, has_place, rising_located, stable_located}
 use Rattle.regalloc2_fastalloc.proofs.debug.locations.Goals as goal
 
 pub locate-requires : goal.locate-requires
@@ -25,7 +25,7 @@ locate-requires g c =
 pub returns-clause-ok : goal.returns-clause-ok
 returns-clause-ok g c =
     let show : KeptLabel → DebugLocation = location_shown c.args.slots.now c.args.offsets.now c.args.allocs.now in
-    let items : List Parts = c.sort_by_key.new.self.items in
+    let items : List LocationParts = c.sort_by_key.new.self.items in
     let keys = answers_always _ _ _ (λ f a r next called. search rules) in
     let listed : map location_of c.in_ok-locations.locations.items ≡ map show c.in_ok-kept.kept.items = c.in_ok-locations.ensures.ok
     ∙ ap (map show) c.deref.ensures.value in
@@ -34,7 +34,7 @@ returns-clause-ok g c =
       are = c.in_ok-kept.ensures.ok;
       same = subst (λ (ds : List DebugLocation). IsPermutation ds (map location_of items)) listed
           (IsPermutation-map location_of _ _ c.sort_by_key.ensures.permutation);
-      rising = rising_located items (IsNonDecreasingBy-from_sort (λ (x : Parts). x.0) _ (c.in_ok-sort_by_key.ensures.sorted (λ x. x.0) keys));
+      rising = rising_located items (IsNonDecreasingBy-from_sort (λ (x : LocationParts). x.0) _ (c.in_ok-sort_by_key.ensures.sorted (λ x. x.0) keys));
       stable = subst (λ (ds : List DebugLocation). IsStableByKey (λ (d : DebugLocation). d.label) nat_cmp ds (map location_of items)) listed
           (stable_located _ items (c.sort_by_key.ensures.stable (λ x. x.0) keys));
     }
