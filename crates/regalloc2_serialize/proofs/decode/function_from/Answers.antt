@@ -1,7 +1,6 @@
 use Rattle.std.proofs.Common.{refl, arith, ap, sym, subst, length, get_or, map, ◌≡◌, ◌<◌, ◌∙◌}
 use Rattle.std.specs.List.{AllZip}
 use Rattle.std.specs.Prelude.{All}
-use Rattle.std.proofs.lemmas.Result.{IfOk-from_err, err_from_is_err_and}
 use Rattle.regalloc2_names.specs.Packing.{IsVRegBits}
 use Rattle.regalloc2_function.specs.FunctionValue.{IsSlotSize, label_of}
 use Rattle.regalloc2_serialize.specs.Validity.{NamesOperands}
@@ -15,54 +14,14 @@ use Rattle.regalloc2_serialize.proofs.decode.function_from.Goals as goal
 pub machine_from-requires : goal.machine_from-requires
 machine_from-requires g c = record { three = c.requires.lengths.machine; registers = c.requires.names.machine }
 
-pub returns-in_err-machine : goal.returns-in_err-machine
-returns-in_err-machine g c =
-    let r = c.from_residual.result in
-    let p = err_from_is_err_and r c.from_residual.ensures.1 in
-    record {
-      function = IfOk-from_err r _ c.from_residual.ensures.0;
-      machine = IfOk-from_err r _ c.from_residual.ensures.0;
-      memory = rw p.1 p.2;
-    }
-
 pub tables_from-requires : goal.tables_from-requires
 tables_from-requires g c = c.requires
-
-pub returns-in_err-blocks : goal.returns-in_err-blocks
-returns-in_err-blocks g c =
-    let r = c.from_residual-in_err-blocks.result in
-    let p = err_from_is_err_and r c.from_residual-in_err-blocks.ensures.1 in
-    record {
-      function = IfOk-from_err r _ c.from_residual-in_err-blocks.ensures.0;
-      machine = IfOk-from_err r _ c.from_residual-in_err-blocks.ensures.0;
-      memory = rw p.1 p.2;
-    }
 
 pub insts_from-requires : goal.insts_from-requires
 insts_from-requires g c = subst (All (λ i. NamesOperands i)) (sym c.as_slice.ensures.value) c.requires.names.insts
 
-pub returns-in_err-insts : goal.returns-in_err-insts
-returns-in_err-insts g c =
-    let r = c.from_residual-in_err-insts.result in
-    let p = err_from_is_err_and r c.from_residual-in_err-insts.ensures.1 in
-    record {
-      function = IfOk-from_err r _ c.from_residual-in_err-insts.ensures.0;
-      machine = IfOk-from_err r _ c.from_residual-in_err-insts.ensures.0;
-      memory = rw p.1 p.2;
-    }
-
 pub labels_from-requires : goal.labels_from-requires
 labels_from-requires g c = subst (All (λ l. IsVRegBits l.0)) (sym c.as_slice-2.ensures.value) c.requires.names.vregs.labels
-
-pub returns-in_err-labels : goal.returns-in_err-labels
-returns-in_err-labels g c =
-    let r = c.from_residual-in_err-labels.result in
-    let p = err_from_is_err_and r c.from_residual-in_err-labels.ensures.1 in
-    record {
-      function = IfOk-from_err r _ c.from_residual-in_err-labels.ensures.0;
-      machine = IfOk-from_err r _ c.from_residual-in_err-labels.ensures.0;
-      memory = rw p.1 p.2;
-    }
 
 pub sizes_from-requires : goal.sizes_from-requires
 sizes_from-requires g c = record {

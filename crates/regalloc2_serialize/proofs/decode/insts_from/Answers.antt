@@ -1,4 +1,3 @@
-use Rattle.std.proofs.lemmas.Result.{IfOk-from_err}
 use Rattle.std.proofs.Common.{refl, ◌+◌, ◌≡◌, ◌∷◌, [], ◌++◌, subst, sym, map, take, arith}
 use Rattle.std.proofs.lemmas.List.{take_all}
 use Rattle.std.proofs.lemmas.List.{length-append}
@@ -25,21 +24,3 @@ loop-inst-preserved g c =
 
 pub returns-clause-insts : goal.returns-clause-insts
 returns-clause-insts g c = rw (take_all c.loop-inst.inst-index c.args.stored.now (omega (arith, c.loop-inst-test.false))) at c.loop-inst.invariant.pairs
-
-pub returns-in_err-insts : goal.returns-in_err-insts
-returns-in_err-insts g c = record {
-  insts = IfOk-from_err c.from_residual.result _ c.from_residual.ensures.0;
-  count = IfOk-from_err c.from_residual.result _ c.from_residual.ensures.0;
-}
-
-pub returns-in_err-table : goal.returns-in_err-table
-returns-in_err-table g c = record {
-  insts = IfOk-from_err c.from_residual-in_err-table.result _ c.from_residual-in_err-table.ensures.0;
-  count = IfOk-from_err c.from_residual-in_err-table.result _ c.from_residual-in_err-table.ensures.0;
-}
-
-pub returns-in_err-push : goal.returns-in_err-push
-returns-in_err-push g c = record {
-  insts = IfOk-from_err c.from_residual-in_err-push.result _ c.from_residual-in_err-push.ensures.0;
-  count = IfOk-from_err c.from_residual-in_err-push.result _ c.from_residual-in_err-push.ensures.0;
-}

@@ -1,4 +1,3 @@
-use Rattle.std.proofs.lemmas.Result.{IfOk-from_err}
 use Rattle.std.proofs.Common.{arith, refl, ◌≡◌, ◌∷◌, [], ◌++◌, ℕ, ◌<◌, ◌≤◌, ◌∙◌, length}
 use Rattle.std.proofs.lemmas.List.{map-append, length-append}
 use Rattle.std.proofs.lemmas.List.FromFn.{map-range_with_len_more}
@@ -25,24 +24,6 @@ loop-block-preserved g c =
       ) refl;
       count = rw (e, length-append, c.loop-block.invariant.count) refl;
     }
-
-pub returns-in_err-tables : goal.returns-in_err-tables
-returns-in_err-tables g c = record {
-  count = IfOk-from_err c.from_residual.result _ c.from_residual.ensures.0;
-  blocks = IfOk-from_err c.from_residual.result _ c.from_residual.ensures.0;
-}
-
-pub returns-in_err-table : goal.returns-in_err-table
-returns-in_err-table g c = record {
-  count = IfOk-from_err c.from_residual-in_err-table.result _ c.from_residual-in_err-table.ensures.0;
-  blocks = IfOk-from_err c.from_residual-in_err-table.result _ c.from_residual-in_err-table.ensures.0;
-}
-
-pub returns-in_err-push : goal.returns-in_err-push
-returns-in_err-push g c = record {
-  count = IfOk-from_err c.from_residual-in_err-push.result _ c.from_residual-in_err-push.ensures.0;
-  blocks = IfOk-from_err c.from_residual-in_err-push.result _ c.from_residual-in_err-push.ensures.0;
-}
 
 pub loop-block-init : goal.loop-block-init
 loop-block-init g c = record { blocks = rw c.in_ok-tables.ensures.items refl; count = rw c.in_ok-tables.ensures.items refl }

@@ -4,7 +4,6 @@ use Rattle.std.proofs.lemmas.List.{append-nil}
 use Rattle.regalloc2_names.specs.Register.{Register}
 use Rattle.regalloc2_names.specs.RegisterSet.{has_register}
 use Rattle.std.proofs.lemmas.List.Elements.{All-nil, All-push}
-use Rattle.std.proofs.lemmas.Result.{IfOk-from_err}
 use Rattle.regalloc2_names.specs.Packing.{IsRegisterIndex, register_of_bits}
 use Rattle.regalloc2_serialize.proofs.Lists.{walked-more}
 use Rattle.regalloc2_serialize.proofs.encode.indexes_of.Goals as goal
@@ -35,12 +34,6 @@ loop-reg-preserved g c =
           c.into_iter-reg-iterator.result c.in-Some.ensures.steps (search rules) c.loop-reg.invariant.same);
       names = rw c.in_ok-push.ensures.items (All-push IsRegisterIndex done one c.loop-reg.invariant.names (search rules));
     }
-
-pub returns-in_err-push : goal.returns-in_err-push
-returns-in_err-push g c = record {
-  set = IfOk-from_err c.from_residual.result _ c.from_residual.ensures.0;
-  names = IfOk-from_err c.from_residual.result _ c.from_residual.ensures.0;
-}
 
 pub returns-clause-names : goal.returns-clause-names
 returns-clause-names g c = c.loop-reg.invariant.names

@@ -1,7 +1,6 @@
 use Rattle.std.proofs.Common.{◌≡◌, ◌∙◌, [], ◌∷◌, ℕ, List, Option, length, map, get_or, refl, sym, ap, subst, arith}
 use Rattle.std.specs.Prelude.{All, IfSome}
 use Rattle.std.proofs.lemmas.List.Elements.{All-nil, All-cons}
-use Rattle.std.proofs.lemmas.Result.{IfOk-from_err}
 use Rattle.std.specs.Option.{option_map}
 use Rattle.regalloc2_names.specs.Packing.{IsRegisterIndex, register_of_bits}
 use Rattle.regalloc2_serialize.proofs.encode.indexes_of_scratch.Goals as goal
@@ -14,13 +13,6 @@ image-of f (x ∷ []) a b c p q r three of_p of_q of_r = absurd (omega arith)
 image-of f (x ∷ y ∷ []) a b c p q r three of_p of_q of_r = absurd (omega arith)
 image-of f (x ∷ y ∷ z ∷ []) a b c p q r three of_p of_q of_r = rw (of_p, of_q, of_r) refl
 image-of f (x ∷ y ∷ z ∷ w ∷ xs) a b c p q r three of_p of_q of_r = absurd (omega arith)
-
-pub returns-in_err-from_array : goal.returns-in_err-from_array
-returns-in_err-from_array g c = record {
-  registers = IfOk-from_err c.from_residual.result _ c.from_residual.ensures.0;
-  three = IfOk-from_err c.from_residual.result _ c.from_residual.ensures.0;
-  names = IfOk-from_err c.from_residual.result _ c.from_residual.ensures.0;
-}
 
 pub returns-clause-registers : goal.returns-clause-registers
 returns-clause-registers g c =

@@ -1,4 +1,3 @@
-use Rattle.std.proofs.lemmas.Result.{IfOk-from_err}
 use Rattle.std.proofs.Common.{rules, arith, ◌≡◌, ◌∙◌, ◌∷◌, [], ◌++◌, ◌+◌, ◌<◌, ap, sym, subst, length, take, get_or}
 use Rattle.std.specs.List.{AllZip}
 use Rattle.std.specs.Prelude.{All}
@@ -34,27 +33,6 @@ returns-clause-three g c =
     let three : length c.args.sets.now ≡ 3 = search rules in
     sym (AllZip-long (λ v set. HasIndexes v.items set) c.loop-set.lists.items (take c.loop-set.set-index c.args.sets.now) c.loop-set.invariant.same)
     ∙ ap length all ∙ three
-
-pub returns-in_err-lists : goal.returns-in_err-lists
-returns-in_err-lists g c = record {
-  sets = IfOk-from_err c.from_residual.result _ c.from_residual.ensures.0;
-  three = IfOk-from_err c.from_residual.result _ c.from_residual.ensures.0;
-  names = IfOk-from_err c.from_residual.result _ c.from_residual.ensures.0;
-}
-
-pub returns-in_err-indexes : goal.returns-in_err-indexes
-returns-in_err-indexes g c = record {
-  sets = IfOk-from_err c.from_residual-in_err-indexes.result _ c.from_residual-in_err-indexes.ensures.0;
-  three = IfOk-from_err c.from_residual-in_err-indexes.result _ c.from_residual-in_err-indexes.ensures.0;
-  names = IfOk-from_err c.from_residual-in_err-indexes.result _ c.from_residual-in_err-indexes.ensures.0;
-}
-
-pub returns-in_err-push : goal.returns-in_err-push
-returns-in_err-push g c = record {
-  sets = IfOk-from_err c.from_residual-in_err-push.result _ c.from_residual-in_err-push.ensures.0;
-  three = IfOk-from_err c.from_residual-in_err-push.result _ c.from_residual-in_err-push.ensures.0;
-  names = IfOk-from_err c.from_residual-in_err-push.result _ c.from_residual-in_err-push.ensures.0;
-}
 
 pub returns-clause-names : goal.returns-clause-names
 returns-clause-names g c = c.loop-set.invariant.names

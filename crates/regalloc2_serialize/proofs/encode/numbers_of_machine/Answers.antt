@@ -1,4 +1,3 @@
-use Rattle.std.proofs.lemmas.Result.{IfOk-from_err}
 use Rattle.std.proofs.Common.{sym, ◌∙◌}
 use Rattle.regalloc2_serialize.proofs.encode.numbers_of_machine.Goals as goal
 
@@ -23,32 +22,4 @@ returns-clause-three g c = record {
   preferred = c.in_ok-preferred.ensures.three;
   non_preferred = c.in_ok-non_preferred.ensures.three;
   scratch = c.in_ok-scratch_by_class.ensures.three;
-}
-
-pub returns-in_err-preferred : goal.returns-in_err-preferred
-returns-in_err-preferred g c = record {
-  machine = IfOk-from_err c.from_residual.result _ c.from_residual.ensures.0;
-  three = IfOk-from_err c.from_residual.result _ c.from_residual.ensures.0;
-  names = IfOk-from_err c.from_residual.result _ c.from_residual.ensures.0;
-}
-
-pub returns-in_err-non_preferred : goal.returns-in_err-non_preferred
-returns-in_err-non_preferred g c = record {
-  machine = IfOk-from_err c.from_residual-in_err-non_preferred.result _ c.from_residual-in_err-non_preferred.ensures.0;
-  three = IfOk-from_err c.from_residual-in_err-non_preferred.result _ c.from_residual-in_err-non_preferred.ensures.0;
-  names = IfOk-from_err c.from_residual-in_err-non_preferred.result _ c.from_residual-in_err-non_preferred.ensures.0;
-}
-
-pub returns-in_err-scratch_by_class : goal.returns-in_err-scratch_by_class
-returns-in_err-scratch_by_class g c = record {
-  machine = IfOk-from_err c.from_residual-in_err-scratch_by_class.result _ c.from_residual-in_err-scratch_by_class.ensures.0;
-  three = IfOk-from_err c.from_residual-in_err-scratch_by_class.result _ c.from_residual-in_err-scratch_by_class.ensures.0;
-  names = IfOk-from_err c.from_residual-in_err-scratch_by_class.result _ c.from_residual-in_err-scratch_by_class.ensures.0;
-}
-
-pub returns-in_err-fixed_stack_slots : goal.returns-in_err-fixed_stack_slots
-returns-in_err-fixed_stack_slots g c = record {
-  machine = IfOk-from_err c.from_residual-in_err-fixed_stack_slots.result _ c.from_residual-in_err-fixed_stack_slots.ensures.0;
-  three = IfOk-from_err c.from_residual-in_err-fixed_stack_slots.result _ c.from_residual-in_err-fixed_stack_slots.ensures.0;
-  names = IfOk-from_err c.from_residual-in_err-fixed_stack_slots.result _ c.from_residual-in_err-fixed_stack_slots.ensures.0;
 }

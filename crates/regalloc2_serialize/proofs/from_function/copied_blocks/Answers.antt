@@ -1,4 +1,3 @@
-use Rattle.std.proofs.lemmas.Result.{IfOk-from_err}
 use Rattle.std.proofs.Common.{rules, refl, ◌≡◌, ◌∙◌, ◌∷◌, [], ◌++◌, ◌+◌, ℕ, ◌<◌, length, ap, sym, subst, map}
 use Rattle.std.specs.List.{range_with_len}
 use Rattle.std.proofs.lemmas.List.{length-append}
@@ -38,24 +37,6 @@ copied_block-requires-clause-nonempty g c =
     let f : FunctionValue = g.F.Function.function c.args.f.now in
     let less : c.loop-block.block < length f.blocks = search rules in
     rw c.new.ensures (c.requires c.loop-block.block less).0
-
-pub returns-in_err-tables : goal.returns-in_err-tables
-returns-in_err-tables g c = record {
-  blocks = IfOk-from_err c.from_residual.result _ c.from_residual.ensures.0;
-  count = IfOk-from_err c.from_residual.result _ c.from_residual.ensures.0;
-}
-
-pub returns-in_err-copy : goal.returns-in_err-copy
-returns-in_err-copy g c = record {
-  blocks = IfOk-from_err c.from_residual-in_err-copy.result _ c.from_residual-in_err-copy.ensures.0;
-  count = IfOk-from_err c.from_residual-in_err-copy.result _ c.from_residual-in_err-copy.ensures.0;
-}
-
-pub returns-in_err-push : goal.returns-in_err-push
-returns-in_err-push g c = record {
-  blocks = IfOk-from_err c.from_residual-in_err-push.result _ c.from_residual-in_err-push.ensures.0;
-  count = IfOk-from_err c.from_residual-in_err-push.result _ c.from_residual-in_err-push.ensures.0;
-}
 
 pub loop-block-init : goal.loop-block-init
 loop-block-init g c = record { blocks = rw c.in_ok-tables.ensures.items refl; count = rw c.in_ok-tables.ensures.items refl }

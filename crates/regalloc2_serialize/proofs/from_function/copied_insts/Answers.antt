@@ -1,4 +1,3 @@
-use Rattle.std.proofs.lemmas.Result.{IfOk-from_err}
 use Rattle.std.proofs.Common.{rules, refl, ◌≡◌, ◌∙◌, ◌∷◌, [], ◌++◌, ◌+◌, ℕ, length, ap, sym, subst, map}
 use Rattle.std.specs.List.{range_with_len}
 use Rattle.std.proofs.lemmas.List.{length-append}
@@ -32,24 +31,6 @@ returns-clause-count g c =
     let f : FunctionValue = g.F.Function.function c.args.f.now in
     let n : c.loop-inst.inst ≡ length f.insts = search rules in
     c.loop-inst.invariant.count ∙ n
-
-pub returns-in_err-tables : goal.returns-in_err-tables
-returns-in_err-tables g c = record {
-  insts = IfOk-from_err c.from_residual.result _ c.from_residual.ensures.0;
-  count = IfOk-from_err c.from_residual.result _ c.from_residual.ensures.0;
-}
-
-pub returns-in_err-copy : goal.returns-in_err-copy
-returns-in_err-copy g c = record {
-  insts = IfOk-from_err c.from_residual-in_err-copy.result _ c.from_residual-in_err-copy.ensures.0;
-  count = IfOk-from_err c.from_residual-in_err-copy.result _ c.from_residual-in_err-copy.ensures.0;
-}
-
-pub returns-in_err-push : goal.returns-in_err-push
-returns-in_err-push g c = record {
-  insts = IfOk-from_err c.from_residual-in_err-push.result _ c.from_residual-in_err-push.ensures.0;
-  count = IfOk-from_err c.from_residual-in_err-push.result _ c.from_residual-in_err-push.ensures.0;
-}
 
 pub loop-inst-init : goal.loop-inst-init
 loop-inst-init g c = record { insts = rw c.in_ok-tables.ensures.items refl; count = rw c.in_ok-tables.ensures.items refl }

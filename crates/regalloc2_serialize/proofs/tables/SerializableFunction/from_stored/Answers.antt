@@ -4,9 +4,9 @@ use Rattle.std.proofs.lemmas.Result.{IfOk-from_err, IfErr-weaker, err_from_is_er
 use Rattle.regalloc2_serialize.specs.Validity.{IsFaultOf}
 use Rattle.regalloc2_serialize.proofs.tables.SerializableFunction.from_stored.Goals as goal
 
-known : {T E P : Type 0} (r : Result T E) → P → IfOk r (λ _. P)
-known (Ok _) p = p
-known (Err _) p = tt
+if-ok-holds : {T E P : Type 0} (r : Result T E) → P → IfOk r (λ _. P)
+if-ok-holds (Ok _) p = p
+if-ok-holds (Err _) p = tt
 
 pub function_from-requires : goal.function_from-requires
 function_from-requires g c = c.in_ok-test.ensures.ok
@@ -18,7 +18,7 @@ returns g c =
     record {
       function = c.function_from.ensures.function;
       machine = c.function_from.ensures.machine;
-      sound = known r sound;
+      sound = if-ok-holds r sound;
       refused = IfErr-weaker r _ _ (λ e is. subst (IsFaultOf c.args.stored.now) (sym is) sound) c.function_from.ensures.memory;
     }
 

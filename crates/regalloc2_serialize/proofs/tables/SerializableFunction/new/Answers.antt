@@ -1,4 +1,3 @@
-use Rattle.std.proofs.lemmas.Result.{IfOk-from_err}
 use Rattle.std.proofs.Common.{rules, arith, ◌≡◌, ◌∙◌, ◌<◌, get_or, subst, sym, map, refl}
 use Rattle.std.specs.Prelude.{All}
 use Rattle.std.proofs.lemmas.List.{length-map, map-id}
@@ -66,12 +65,3 @@ returns-clause-machine g c = refl
 
 pub copied_blocks-requires : goal.copied_blocks-requires
 copied_blocks-requires g c = c.requires
-
-pub returns-in_err-blocks-clause-whole : goal.returns-in_err-blocks-clause-whole
-returns-in_err-blocks-clause-whole g c = λ _. IfOk-from_err c.from_residual.result _ c.from_residual.ensures.0
-
-pub returns-in_err-insts-clause-whole : goal.returns-in_err-insts-clause-whole
-returns-in_err-insts-clause-whole g c = λ _. IfOk-from_err c.from_residual-in_err-insts.result _ c.from_residual-in_err-insts.ensures.0
-
-pub returns-in_err-labels-clause-whole : goal.returns-in_err-labels-clause-whole
-returns-in_err-labels-clause-whole g c = λ _. IfOk-from_err c.from_residual-in_err-labels.result _ c.from_residual-in_err-labels.ensures.0

@@ -8,9 +8,9 @@ use Rattle.regalloc2_serialize.specs.Flat.Columns.Sound.{AreSoundColumns, IsColu
 use Rattle.regalloc2_serialize.specs.Flat.Columns.Value.{IsLaidOutAs, IsMachineOf}
 use Rattle.regalloc2_serialize.proofs.flat.columns.FlatFunction.read.Goals as goal
 
-known : {T E P : Type 0} (r : Result T E) → P → IfOk r (λ _. P)
-known (Ok _) p = p
-known (Err _) p = tt
+if-ok-holds : {T E P : Type 0} (r : Result T E) → P → IfOk r (λ _. P)
+if-ok-holds (Ok _) p = p
+if-ok-holds (Err _) p = tt
 
 pub test-requires : goal.test-requires
 test-requires g c = subst AreInColumns (sym c.in-Some.ensures.1) c.in-Some.ensures.0
@@ -26,7 +26,7 @@ returns g c =
     record {
       function = subst (λ ws. IfOk r (λ f. IsLaidOutAs ws (function_of_flat f))) same c.function_from.ensures.function;
       machine = subst (λ ws. IfOk r (λ f. IsMachineOf ws (machine_of f.machine))) same c.function_from.ensures.machine;
-      sound = known r sound;
+      sound = if-ok-holds r sound;
       refused = IfErr-weaker r _ _ (λ e is. subst (IsColumnsFault c.args.words.now) (sym is) sound) c.function_from.ensures.memory;
     }
 

@@ -3,7 +3,6 @@ use Rattle.std.specs.Prelude.{All, nat_eq, nat_lt, slice_index}
 use Rattle.std.specs.List.{range_with_len}
 use Rattle.std.proofs.lemmas.List.Elements.{All-weaker}
 use Rattle.std.proofs.lemmas.Bool.{ltb-true}
-use Rattle.std.proofs.lemmas.Result.{IfOk-from_err, err_from_is_err_and}
 use Rattle.regalloc2_function.specs.FunctionValue.{label_of}
 use Rattle.regalloc2_serialize.specs.Flat.Columns.Layout.{AreInColumns, column, header_of, kind_words, inst_ends, widths}
 use Rattle.regalloc2_serialize.specs.Flat.Columns.Layout.{label_words}
@@ -118,56 +117,6 @@ returns-clause-function g c =
           (c.in_ok-labels.ensures ∙ ap (λ ws. map (label_at ws) (range_with_len 0 c.header-header.result.labels)) c.column-2.ensures.column
           ∙ ap (λ h. map (label_at (label_words words)) (range_with_len 0 h.labels)) head)
           (ap (λ h. nat_eq (h.flags / 2) 1) head);
-    }
-
-pub returns-in_err-inst_bounds : goal.returns-in_err-inst_bounds
-returns-in_err-inst_bounds g c =
-    let r = c.from_residual.result in
-    let p = err_from_is_err_and r c.from_residual.ensures.1 in
-    record {
-      function = IfOk-from_err r _ c.from_residual.ensures.0;
-      machine = IfOk-from_err r _ c.from_residual.ensures.0;
-      memory = rw p.1 p.2;
-    }
-
-pub returns-in_err-labels : goal.returns-in_err-labels
-returns-in_err-labels g c =
-    let r = c.from_residual-in_err-labels.result in
-    let p = err_from_is_err_and r c.from_residual-in_err-labels.ensures.1 in
-    record {
-      function = IfOk-from_err r _ c.from_residual-in_err-labels.ensures.0;
-      machine = IfOk-from_err r _ c.from_residual-in_err-labels.ensures.0;
-      memory = rw p.1 p.2;
-    }
-
-pub returns-in_err-machine : goal.returns-in_err-machine
-returns-in_err-machine g c =
-    let r = c.from_residual-in_err-machine.result in
-    let p = err_from_is_err_and r c.from_residual-in_err-machine.ensures.1 in
-    record {
-      function = IfOk-from_err r _ c.from_residual-in_err-machine.ensures.0;
-      machine = IfOk-from_err r _ c.from_residual-in_err-machine.ensures.0;
-      memory = rw p.1 p.2;
-    }
-
-pub returns-in_err-insts : goal.returns-in_err-insts
-returns-in_err-insts g c =
-    let r = c.from_residual-in_err-insts.result in
-    let p = err_from_is_err_and r c.from_residual-in_err-insts.ensures.1 in
-    record {
-      function = IfOk-from_err r _ c.from_residual-in_err-insts.ensures.0;
-      machine = IfOk-from_err r _ c.from_residual-in_err-insts.ensures.0;
-      memory = rw p.1 p.2;
-    }
-
-pub returns-in_err-edges : goal.returns-in_err-edges
-returns-in_err-edges g c =
-    let r = c.from_residual-in_err-edges.result in
-    let p = err_from_is_err_and r c.from_residual-in_err-edges.ensures.1 in
-    record {
-      function = IfOk-from_err r _ c.from_residual-in_err-edges.ensures.0;
-      machine = IfOk-from_err r _ c.from_residual-in_err-edges.ensures.0;
-      memory = rw p.1 p.2;
     }
 
 pub returns-clause-memory : goal.returns-clause-memory

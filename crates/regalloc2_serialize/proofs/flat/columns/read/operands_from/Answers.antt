@@ -1,4 +1,3 @@
-use Rattle.std.proofs.lemmas.Result.{IfOk-from_err}
 use Rattle.std.proofs.Common.{arith, ◌≡◌, ◌∙◌, ◌∷◌, ◌*◌, refl, ap, sym, length, map}
 use Rattle.std.proofs.lemmas.Result.{IfOk-weaker}
 use Rattle.regalloc2_names.specs.Packing.{operand_of_bits}
@@ -35,9 +34,3 @@ returns-clause-items g c =
 
 pub returns-clause-bounds : goal.returns-clause-bounds
 returns-clause-bounds g c = IfOk-weaker c.pieces_of.result _ _ (λ p h. h.1 ∙ ap (λ l. 0 ∷ l) c.column-2.ensures.column) c.pieces_of.ensures
-
-pub returns-in_err-items : goal.returns-in_err-items
-returns-in_err-items g c = record {
-  items = IfOk-from_err c.from_residual.result _ c.from_residual.ensures.0;
-  bounds = IfOk-from_err c.from_residual.result _ c.from_residual.ensures.0;
-}

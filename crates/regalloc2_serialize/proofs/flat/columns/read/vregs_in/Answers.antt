@@ -1,6 +1,6 @@
 use Rattle.std.proofs.Common.{arith, ◌∙◌, ap, length, refl}
 use Rattle.std.proofs.lemmas.List.{length-map}
-use Rattle.std.proofs.lemmas.Result.{IfOk-from_err, IfOk-weaker}
+use Rattle.std.proofs.lemmas.Result.{IfOk-weaker}
 use Rattle.regalloc2_names.specs.Packing.{vreg_of_bits}
 use Rattle.regalloc2_serialize.proofs.ColumnsLemmas.Made.{covers-same}
 use Rattle.regalloc2_serialize.proofs.flat.columns.read.vregs_in.Goals as goal
@@ -20,9 +20,3 @@ returns-clause-items g c = IfOk-weaker c.pieces_of.result _ _ (λ p h. ap (λ v.
 
 pub returns-clause-bounds : goal.returns-clause-bounds
 returns-clause-bounds g c = IfOk-weaker c.pieces_of.result _ _ (λ p h. h.1) c.pieces_of.ensures
-
-pub returns-in_err-items : goal.returns-in_err-items
-returns-in_err-items g c = record {
-  items = IfOk-from_err c.from_residual.result _ c.from_residual.ensures.0;
-  bounds = IfOk-from_err c.from_residual.result _ c.from_residual.ensures.0;
-}
