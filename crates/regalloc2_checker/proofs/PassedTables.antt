@@ -12,7 +12,6 @@ use Rattle.regalloc2_checker_sets.specs.EntrySets.{is_member, taken_from, AreMor
 use Rattle.regalloc2_checker_sets.specs.Homes.{HomePlaces, AreMoreHomes}
 use Rattle.regalloc2_checker_sets.specs.PassedSets.{ArePassed}
 use Rattle.regalloc2_checker_sets.specs.SavedNumbers.{NumberCopies, saved_number, number_now, AreWrittenTo}
-use Rattle.regalloc2_checker.specs.Facts.{Facts}
 use Rattle.regalloc2_checker.specs.Holding.{Holding, holds_now, IsHome, AreEntries, IsSoundHolding, AreKeptTables, HoldsNow}
 use Rattle.regalloc2_checker.specs.Renamed.{facts_renamed}
 use Rattle.regalloc2_checker.specs.Showing.{Showing, showing, read_as, shows_now, ShowsNow}
@@ -22,7 +21,7 @@ use Rattle.regalloc2_checker.proofs.Holders.{home-kept}
 use Rattle.regalloc2_checker.proofs.RestOfList.{AreRenamedTo, renamed_none, renamed_more, renamed_all}
 use Rattle.regalloc2_checker.proofs.Shown.{IsBare, now-shown, read-none}
 use Rattle.regalloc2_checker.proofs.TableLaws.{IsChanged, entries-as, more-all}
-use Rattle.regalloc2_checker.proofs.TableSteps.{one-facts, facts-at, unlisted-holds, vreg-bits, now-as}
+use Rattle.regalloc2_checker.proofs.TableSteps.{facts-at, unlisted-holds, vreg-bits, now-as}
 
 -- bits that are no parameter's stay
 taken-or-param : (params arguments : List ℕ) (count y : ℕ) →

@@ -1,4 +1,4 @@
-use Rattle.std.proofs.Common.{◌≡◌, ℕ, ◌<◌, List, map, take, true, get_or}
+use Rattle.std.proofs.Common.{◌≡◌, ℕ, ◌<◌, map, take, true, get_or}
 use Rattle.regalloc2_names.specs.Register.{VirtualRegister}
 use Rattle.regalloc2_names.specs.RegisterBits.{bits_of_vreg}
 use Rattle.regalloc2_checker.specs.TableFacts.{is_packed_vreg}

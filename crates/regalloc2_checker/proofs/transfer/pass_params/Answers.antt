@@ -1,4 +1,3 @@
-use Rattle.std.proofs.lemmas.Result.{IfOk-from_err}
 use Rattle.std.proofs.Common.{List, ℕ, length, map, refl, ◌∙◌, subst}
 use Rattle.std.specs.Prelude.{min}
 use Rattle.regalloc2_names.specs.RegisterBits.{bits_of_vreg}
