@@ -333,7 +333,7 @@ impl<A: Allocator + Copy> PassingTables<A> {
         Ok(())
     }
 
-    /// Whether vregs may, on average, be in a sixteenth of the places or more.
+    /// Returns `true` if every eighth of `vregs` may, on average, be in a sixteenth of the places or more.
     pub fn have_many_homes(&self, vregs: &[VReg]) -> bool {
         self.tables.have_many_homes(vregs)
     }

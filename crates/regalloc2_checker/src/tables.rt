@@ -698,16 +698,16 @@ impl<A: Allocator + Copy> Tables<A> {
         Ok(())
     }
 
-    /// Whether vregs may, on average, be in a sixteenth of the places or more.
+    /// Returns `true` if every eighth of `vregs` may, on average, be in a sixteenth of the places or more.
     pub fn have_many_homes(&self, vregs: &[VReg]) -> bool {
+        let sampled = vregs.len() / 8;
         let mut count: usize = 0;
-        for k in 0..vregs.len() {
-            let Some(vreg) = self.vreg(vregs[k].bits() as u32) else {
-                continue;
-            };
-            count = count.saturating_add(self.homes.at(vreg).other_count());
+        for k in 0..sampled {
+            if let Some(vreg) = self.vreg(vregs[8 * k].bits() as u32) {
+                count = count.saturating_add(self.homes.at(vreg).other_count());
+            }
         }
-        count.saturating_mul(16) >= self.entries.len().saturating_mul(vregs.len())
+        count.saturating_mul(16) >= self.entries.len().saturating_mul(sampled)
     }
 
     /// Gives parameters what their arguments have, all at once. Visits every place, but changes equal sets once.
