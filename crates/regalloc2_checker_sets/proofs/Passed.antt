@@ -5,7 +5,7 @@ use Rattle.std.specs.Prelude.{if◌then◌else◌}
 use Rattle.std.proofs.lemmas.Bool.{cases_eq}
 use Rattle.std.proofs.lemmas.List.{length_push, get_or_push, get_or_append_left}
 use Rattle.regalloc2_function.specs.Numbers.{NumberSet}
-use Rattle.regalloc2_checker_sets.specs.EntrySets.{is_member, taken_from, AreMore, IsPassedOf, IsSetOf}
+use Rattle.regalloc2_checker_sets.specs.EntrySets.{is_member, taken_from, AreMore, IsSetOf}
 use Rattle.regalloc2_checker_sets.specs.PassedSets.{ArePassed}
 use Rattle.regalloc2_checker_sets.specs.SavedNumbers.{NumberCopies, number_now}
 
@@ -27,35 +27,6 @@ taken-more has params arguments k y =
     by : (b : Bool) (m n : ℕ) → (if b then has m else has n) ≡ has (if b then m else n)
     by true m n = refl
     by false m n = refl
-
--- where sets are added, a set is still made of the one that it was made of
-pub passed-more : (params arguments : List ℕ) (count : ℕ) (sets new : List NumberSet) → AreMore sets new → (set other number : ℕ) →
-    IsPassedOf params arguments count sets set other number → IsPassedOf params arguments count new set other number
-passed-more params arguments count sets new m set other number k =
-    let longer = m.longer in
-    let low = k.below in
-    let is = k.is in
-    let below = is.below in
-    record {
-      below = omega (arith, low, longer);
-      is = record {
-        below = omega (arith, below, longer);
-        members = λ y. m.kept number y below ∙ is.members y ∙ sym (m.kept set (taken_from params arguments count y) low);
-      };
-    }
-
--- a set that was made of another one, in terms of the sets that there are then
-pub passed-now : (params arguments : List ℕ) (count : ℕ) (old new : List NumberSet) (set other number : ℕ) → AreMore old new → set < length old →
-    IsSetOf new number (λ y. is_member old set (taken_from params arguments count y)) → IsPassedOf params arguments count new set other number
-passed-now params arguments count old new set other number m low is =
-    let longer = m.longer in
-    record {
-      below = omega (arith, low, longer);
-      is = record {
-        below = is.below;
-        members = λ y. is.members y ∙ sym (m.kept set (taken_from params arguments count y) low);
-      };
-    }
 
 -- sets that are added twice are added
 pub more-then : (a b c : List NumberSet) → AreMore a b → AreMore b c → AreMore a c

@@ -36,12 +36,12 @@ unfoldable pub set_of_kept : ℕ → ℕ → List NumberSet → NumberSet
 set_of_kept a b [] = set_of_two a b
 set_of_kept a b (s ∷ rest) = s
 
--- the sets that have bits alone, for so many first bits
+-- the sets that have bits alone, for the first bits
 unfoldable pub sets_of_one : ℕ → List NumberSet
 sets_of_one zero = []
 sets_of_one (suc k) = sets_of_one k ++ set_of_one k ∷ []
 
--- the sets by number: the empty one, those of one member below 2^31 - 1, and those that are kept
+-- the sets by number: the empty one, the sets of one member below 2^31 - 1, and the kept sets
 unfoldable pub all_sets : List NumberSet → List NumberSet
 all_sets kept = [] ∷ (sets_of_one 2147483647 ++ kept)
 
@@ -73,7 +73,7 @@ unfoldable pub taken_from : List ℕ → List ℕ → ℕ → ℕ → ℕ
 taken_from params arguments zero y = y
 taken_from params arguments (suc k) y = if nat_eq y (get_or params k 0) then get_or arguments k 0 else taken_from params arguments k y
 
--- a set has the members of another one, once so many parameters took what their arguments had
+-- a set has the members of another one, once the first count parameters took what their arguments had
 pub record IsPassedOf (params arguments : List ℕ) (count : ℕ) (sets : List NumberSet) (set other number : ℕ) : Type 0 where
   pub below : set < length sets
   pub is : IsSetOf sets number (λ y. is_member sets set (taken_from params arguments count y))

@@ -4,7 +4,7 @@ use Rattle.regalloc2_checker_sets.specs.EntrySets.{AreMore, AreNoted, IsPassedOf
 use Rattle.regalloc2_checker_sets.specs.PassedSets.{ArePassed}
 use Rattle.regalloc2_checker_sets.proofs.passed_sets.passed_numbers.Given as goal
 
--- so many positions have their numbers
+-- the positions below this one have their numbers
 abbrev pub invariant-loop-position : goal.invariant-loop-position
 invariant-loop-position g l = record {
   more : AreMore l.fn.sets l.sets;
