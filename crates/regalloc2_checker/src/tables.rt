@@ -32,10 +32,10 @@ use std::marker::Model;
 /// How many homes of a vreg, the places where it may be, are many.
 const MANY_HOMES: usize = 64;
 
-/// Tables of which vregs places hold, by number, and one that is worked on.
+/// Tables of which vregs places hold, by number, and the current table.
 ///
-/// Places and vregs are listed once, and named by their positions there. Each table has one set of the bits of
-/// vregs for each place. Tables share what they have in common.
+/// Places and vregs are listed once, and named by their positions there. Each table has one set of the bits of vregs for
+/// each place. Tables share equal chunks and sets.
 #[derive(Drop)]
 pub struct Tables<A: Allocator> {
     places: PlacePositions<A>,
@@ -56,7 +56,7 @@ impl<A: Allocator> Model for Tables<A> {
     ghost invariant = { λ t. IsSoundHolding (record { places = t.places; vregs = t.vregs; entries = t.entries; sets = t.sets; homes = t.homes }) };
 }
 
-/// Takes a vreg out of the places of a home's mask and of its two numbers.
+/// Takes the vreg of `bits` out of the places of the mask and the numbers of `home`.
 #[inline(never)]
 fn drop_each<A: Allocator + Copy>(
     entries: &mut Entries<A>,
@@ -76,7 +76,7 @@ fn drop_each<A: Allocator + Copy>(
     Ok(())
 }
 
-/// Takes a vreg out of the places of a home's mask and of its two numbers.
+/// Takes the vreg of `bits` out of the places of the mask and the numbers of `home`, if there are any.
 #[inline(always)]
 fn drop_few<A: Allocator + Copy>(
     entries: &mut Entries<A>,
@@ -90,14 +90,14 @@ fn drop_few<A: Allocator + Copy>(
         ≡ (if has_few home.now i && nat_eq y bits then false else held sets.old entries.old i y)) }
     ensures err { OnErr result ((i y : ℕ) → i < length entries.old.cells → held sets.new entries.new i y ≡ true → held sets.old entries.old i y ≡ true) }
 {
-    // A vreg that is written for the first time has none.
+    // A vreg that is written for the first time has no places.
     if home.has_no_few() {
         return Ok(());
     }
     drop_each(entries, sets, home, bits)
 }
 
-/// Takes a vreg out of the places of a set.
+/// Takes the vreg of `bits` out of each place of the set `places`.
 fn drop_members<A: Allocator + Copy>(
     entries: &mut Entries<A>,
     sets: &mut Sets<A>,
@@ -116,7 +116,7 @@ fn drop_members<A: Allocator + Copy>(
     Ok(())
 }
 
-/// Takes a vreg out of listed places.
+/// Takes the vreg of `bits` out of each of the listed `places`.
 fn drop_listed<A: Allocator + Copy>(
     entries: &mut Entries<A>,
     sets: &mut Sets<A>,
@@ -135,7 +135,7 @@ fn drop_listed<A: Allocator + Copy>(
     Ok(())
 }
 
-/// Takes a vreg out of all places; visits only those that hold something.
+/// Takes the vreg of `bits` out of every place. Visits only the places that hold something.
 fn drop_filled<A: Allocator + Copy>(
     alloc: A,
     entries: &mut Entries<A>,
@@ -153,7 +153,7 @@ fn drop_filled<A: Allocator + Copy>(
     drop_listed(entries, sets, &places, bits)
 }
 
-/// Takes a vreg out of the places where it may be.
+/// Takes the vreg of `bits` out of the places of `home`, where it may be.
 #[inline(always)]
 fn drop_everywhere<A: Allocator + Copy>(
     entries: &mut Entries<A>,
@@ -174,7 +174,7 @@ fn drop_everywhere<A: Allocator + Copy>(
     drop_members(entries, sets, others, bits)
 }
 
-/// Lists a place, if it is below a bound and holds a vreg.
+/// Lists `place`, if it is below `bound` and holds the vreg of `bits`.
 #[inline(always)]
 fn list_holder<A: Allocator + Copy>(
     holders: &mut Vec<usize, A>,
@@ -199,7 +199,7 @@ fn list_holder<A: Allocator + Copy>(
     Ok(())
 }
 
-/// Lists the places of a home's mask and of its two numbers that are below a bound and hold a vreg.
+/// Lists the places of the mask and the numbers of `home` that are below `bound` and hold the vreg of `bits`.
 fn list_few<A: Allocator + Copy>(
     holders: &mut Vec<usize, A>,
     entries: &Entries<A>,
@@ -219,7 +219,7 @@ fn list_few<A: Allocator + Copy>(
     Ok(())
 }
 
-/// Lists the places of a set that are below a bound and hold a vreg.
+/// Lists the places of the set `places` that are below `bound` and hold the vreg of `bits`.
 fn list_members<A: Allocator + Copy>(
     holders: &mut Vec<usize, A>,
     entries: &Entries<A>,
@@ -239,7 +239,7 @@ fn list_members<A: Allocator + Copy>(
     Ok(())
 }
 
-/// The places below a bound where a vreg may be and is.
+/// Returns the places of `home` that are below `bound` and hold the vreg of `bits`.
 fn holders_among<A: Allocator + Copy>(
     alloc: A,
     entries: &Entries<A>,
@@ -262,7 +262,7 @@ fn holders_among<A: Allocator + Copy>(
     Ok(holders)
 }
 
-/// Notes that a vreg may be at a place, if it is listed.
+/// Notes that the vreg of `bits` may be at `place`, if it is listed.
 #[inline(always)]
 fn note<A: Allocator + Copy>(
     vregs: &Positions<A>,
@@ -282,7 +282,7 @@ fn note<A: Allocator + Copy>(
     homes.add(vreg, place)
 }
 
-/// Notes that listed vregs may be at a place.
+/// Notes that the listed vregs of `members` may be at `place`.
 #[inline(never)]
 fn note_all<A: Allocator + Copy>(
     vregs: &Positions<A>,
@@ -302,7 +302,7 @@ fn note_all<A: Allocator + Copy>(
     Ok(())
 }
 
-/// Notes that two vregs may be at a place, if they are listed.
+/// Notes that the two vregs of `pair` may be at `place`, if they are listed.
 #[inline(never)]
 fn note_two<A: Allocator + Copy>(
     vregs: &Positions<A>,
@@ -321,7 +321,7 @@ fn note_two<A: Allocator + Copy>(
     note(vregs, homes, pair.1, place)
 }
 
-/// Notes that the listed vregs of a set may be at a place.
+/// Notes that the listed vregs of `set` may be at `place`.
 #[inline(always)]
 fn note_set<A: Allocator + Copy>(
     vregs: &Positions<A>,
@@ -351,7 +351,7 @@ fn note_set<A: Allocator + Copy>(
     note_all(vregs, homes, &members, place)
 }
 
-/// How many positions of a chunk are below a bound.
+/// Returns how many positions of `chunk` are below `bound`.
 fn count_below(chunk: usize, bound: usize) -> usize
     ensures few { result ≤ 64 }
     ensures below { 0 < result → 64 * chunk + result ≤ bound }
@@ -364,8 +364,8 @@ fn count_below(chunk: usize, bound: usize) -> usize
     if chunk == whole { bound % 64 } else { 0 }
 }
 
-/// Keeps in a chunk of the array only what a saved copy has too, at the positions below a bound; returns whether the copy
-/// has more, or `before` is set.
+/// Keeps in `chunk` of the array only what the saved copy `table` has too, at the positions below `bound`. Returns
+/// whether the copy has more, or `before` is set.
 fn meet_chunk<A: Allocator + Copy>(
     entries: &mut Entries<A>,
     sets: &mut Sets<A>,
@@ -393,8 +393,8 @@ fn meet_chunk<A: Allocator + Copy>(
     Ok(is_less)
 }
 
-/// Keeps in the array only what a saved copy has too, at the positions below a bound; returns
-/// whether the copy has more.
+/// Keeps in the array only what the saved copy `table` has too, at the positions below `bound`. Returns whether the copy
+/// has more.
 fn meet_entries<A: Allocator + Copy>(
     entries: &mut Entries<A>,
     sets: &mut Sets<A>,
@@ -424,8 +424,7 @@ fn meet_entries<A: Allocator + Copy>(
 }
 
 impl<A: Allocator + Copy> Tables<A> {
-    /// Tables without a member, over listed places and vregs. Past 2^38 places the memory
-    /// allocation fails.
+    /// Returns tables without a member, over listed places and vregs. Past 2^38 places the memory allocation fails.
     pub fn new(
         alloc: A,
         count: usize,
@@ -456,21 +455,21 @@ impl<A: Allocator + Copy> Tables<A> {
         })
     }
 
-    /// The position of a place, by its bits.
+    /// Returns the position of `place`, if it is listed.
     pub fn place(&self, place: Allocation) -> Option<usize>
         ensures { result ≡ position (λ n. n == bits_of_place place) self.now.places }
     {
         self.places.find(place)
     }
 
-    /// The position of a vreg, by its bits.
+    /// Returns the position of the vreg of `bits`, if it is listed.
     pub fn vreg(&self, bits: u32) -> Option<usize>
         ensures { result ≡ position (λ n. n == bits) self.now.vregs }
     {
         self.vregs.find(bits, bits as usize / 4)
     }
 
-    /// The bits of the vreg at a position.
+    /// Returns the bits of the vreg at the position `vreg`.
     pub fn bits(&self, vreg: usize) -> u32
         requires { vreg < length self.now.vregs }
         ensures { result ≡ get_or self.now.vregs vreg 0 }
@@ -478,7 +477,7 @@ impl<A: Allocator + Copy> Tables<A> {
         self.vregs.number(vreg)
     }
 
-    /// Whether a place holds a vreg.
+    /// Returns whether `place` holds the vreg of `bits`.
     pub fn has(&self, place: usize, bits: u32) -> bool
         requires { place < length self.now.places }
         ensures { result ≡ holds_now self.now place bits }
@@ -486,7 +485,7 @@ impl<A: Allocator + Copy> Tables<A> {
         self.sets.has(self.entries.get(place), bits)
     }
 
-    /// The vregs that a place holds, by rising bits.
+    /// Returns the bits of the vregs that `place` holds, rising.
     pub fn members(&self, place: usize) -> Result<Vec<u32, A>, AllocError>
         requires { place < length self.now.places }
         ensures rising { IfOk result (λ members. IsStrictlyIncreasing members.items) }
@@ -496,7 +495,7 @@ impl<A: Allocator + Copy> Tables<A> {
         Ok(Positions::of(listed).into_numbers())
     }
 
-    /// Empties a place.
+    /// Empties `place`.
     pub fn clear(&mut self, place: usize)
         requires { place < length self.old.places }
         ensures kept { AreKeptTables self.old self.new }
@@ -505,7 +504,7 @@ impl<A: Allocator + Copy> Tables<A> {
         self.entries.set(place, 0);
     }
 
-    /// Gives a place what another has.
+    /// Copies what `from` holds to `to`.
     #[inline(always)]
     pub fn copy(&mut self, from: usize, to: usize) -> Result<(), AllocError>
         requires from { from < length self.old.places }
@@ -519,7 +518,8 @@ impl<A: Allocator + Copy> Tables<A> {
         Ok(())
     }
 
-    /// Whether a vreg may be in many places, and in more than the chunks have that aren't stored as zeros.
+    /// Returns whether `vreg` may be in many places, and in more than there are in the chunks that aren't stored as
+    /// zeros.
     #[inline(always)]
     fn has_many_homes(&self, vreg: usize) -> bool
         requires { vreg < length self.now.vregs }
@@ -528,14 +528,14 @@ impl<A: Allocator + Copy> Tables<A> {
         if count < MANY_HOMES {
             return false;
         }
-        // Counting those chunks would take longer.
+        // Counting the chunks would take longer.
         if count < self.entries.len() / 1024 {
             return false;
         }
         self.entries.filled_count() <= count / 64
     }
 
-    /// Takes a vreg out of every place; visits only those that hold something.
+    /// Takes `vreg` out of every place. Visits only the places that hold something.
     #[inline(never)]
     fn forget_filled(&mut self, vreg: usize) -> Result<(), AllocError>
         requires { vreg < length self.old.vregs }
@@ -546,7 +546,7 @@ impl<A: Allocator + Copy> Tables<A> {
         drop_filled(self.alloc, &mut self.entries, &mut self.sets, bits)
     }
 
-    /// Takes a vreg out of every place.
+    /// Takes `vreg` out of every place.
     #[inline(always)]
     pub fn forget(&mut self, vreg: usize) -> Result<(), AllocError>
         requires { vreg < length self.old.vregs }
@@ -565,7 +565,7 @@ impl<A: Allocator + Copy> Tables<A> {
         )
     }
 
-    /// Gives a place a set.
+    /// Makes `place` hold `set`, and notes that `vreg` may be there.
     #[inline(always)]
     fn put(&mut self, place: usize, vreg: usize, set: u32) -> Result<(), AllocError>
         requires place { place < length self.old.places }
@@ -581,7 +581,7 @@ impl<A: Allocator + Copy> Tables<A> {
         Ok(())
     }
 
-    /// A set of one vreg alone.
+    /// Returns the number of the set of `vreg` alone.
     fn single(&mut self, vreg: usize) -> Result<u32, AllocError>
         requires { vreg < length self.old.vregs }
         ensures kept { AreKeptTables self.old self.new }
@@ -591,7 +591,7 @@ impl<A: Allocator + Copy> Tables<A> {
         self.sets.single(self.vregs.number(vreg))
     }
 
-    /// Gives a place one vreg alone, which no other place holds any more.
+    /// Makes `place` hold `vreg` alone, and takes `vreg` out of every other place.
     #[inline(always)]
     pub fn define(&mut self, place: usize, vreg: usize) -> Result<(), AllocError>
         requires place { place < length self.old.places }
@@ -605,7 +605,7 @@ impl<A: Allocator + Copy> Tables<A> {
         self.put(place, vreg, set)
     }
 
-    /// The places that hold a vreg.
+    /// Returns the places that hold `vreg`.
     pub fn holders(&self, alloc: A, vreg: usize) -> Result<Vec<usize, A>, AllocError>
         requires { vreg < length self.now.vregs }
         ensures { IfOk result (λ holders. (i : ℕ) → is_in holders.items i
@@ -621,7 +621,7 @@ impl<A: Allocator + Copy> Tables<A> {
         )
     }
 
-    /// What a place holds, and a vreg.
+    /// Returns the number of the set of what `place` holds, and of `vreg`.
     fn with(&mut self, place: usize, vreg: usize) -> Result<u32, AllocError>
         requires place { place < length self.old.places }
         requires vreg { vreg < length self.old.vregs }
@@ -634,7 +634,7 @@ impl<A: Allocator + Copy> Tables<A> {
             .with(self.entries.get(place), self.vregs.number(vreg))
     }
 
-    /// Adds a vreg to what a place holds.
+    /// Adds `vreg` to what `place` holds.
     fn add_at(&mut self, place: usize, vreg: usize) -> Result<(), AllocError>
         requires place { place < length self.old.places }
         requires vreg { vreg < length self.old.vregs }
@@ -646,7 +646,7 @@ impl<A: Allocator + Copy> Tables<A> {
         self.put(place, vreg, set)
     }
 
-    /// Gives a vreg other places, which hold it beside what they hold.
+    /// Makes exactly `places` hold `vreg`, beside what they hold.
     pub fn give(&mut self, vreg: usize, places: &[usize]) -> Result<(), AllocError>
         requires vreg { vreg < length self.old.vregs }
         requires places { (i : ℕ) → is_in places.now i ≡ true → i < length self.old.places }
@@ -660,14 +660,15 @@ impl<A: Allocator + Copy> Tables<A> {
         Ok(())
     }
 
-    /// How many words the tables take, with their sets.
+    /// Returns how many words the tables take, with their sets.
     pub fn word_count(&self) -> usize {
         self.entries
             .word_count()
             .saturating_add(self.sets.word_count())
     }
 
-    /// Drops the tables that have a mark, unless that makes no room, the one that is worked on, and sets that none has.
+    /// Drops the current table, the marked tables, and the sets that no table has. Keeps the marked tables if dropping
+    /// them makes no room.
     pub fn drop_marked(&mut self, alloc: A, marks: &[bool]) -> Result<(), AllocError>
         ensures places { self.new.places ≡ self.old.places }
         ensures vregs { self.new.vregs ≡ self.old.vregs }
@@ -682,7 +683,7 @@ impl<A: Allocator + Copy> Tables<A> {
         drop_unused_sets(alloc, &mut self.entries, &mut self.sets)
     }
 
-    /// Works on a table.
+    /// Makes `table` the current table.
     pub fn load(&mut self, table: usize)
         requires { table < count_of self.old }
         ensures kept { AreKeptTables self.old self.new }
@@ -691,7 +692,7 @@ impl<A: Allocator + Copy> Tables<A> {
         self.entries.load(table);
     }
 
-    /// Keeps the table that is worked on under a number.
+    /// Saves the current table as `table`.
     pub fn save(&mut self, table: usize) -> Result<(), AllocError>
         requires { table < count_of self.old }
         ensures places { self.new.places ≡ self.old.places }
@@ -704,8 +705,8 @@ impl<A: Allocator + Copy> Tables<A> {
         self.entries.save(table)
     }
 
-    /// Keeps in a table only what the one that is worked on holds too; returns whether that is less
-    /// than it held. The one that is worked on is lost.
+    /// Keeps in `table` only what the current table holds too. Returns whether that is less than it held. The current
+    /// table is lost.
     pub fn meet(&mut self, table: usize) -> Result<bool, AllocError>
         requires { table < count_of self.old }
         ensures places { self.new.places ≡ self.old.places }
