@@ -27,7 +27,7 @@ adds_both P Q xs ys zs first next n u = (λ h. there ((next n u).0 h), λ h. bac
     back (inr (inl p)) = (next n u).1 (inl ((first n u).1 (inr p)))
     back (inr (inr q)) = (next n u).1 (inr q)
 
--- the same slots by other words
+-- slots that two equivalent relations name are added alike
 pub adds_same : (P Q : ℕ → ℕ → Type 0) (xs ys : List (ℕ × ℕ)) → ((n u : ℕ) → P n u → Q n u) → ((n u : ℕ) → Q n u → P n u) → AddsSlots P xs ys →
     AddsSlots Q xs ys
 adds_same P Q xs ys to from h n u = (λ c. there ((h n u).0 c), λ c. back c)
@@ -48,7 +48,7 @@ adds_none R xs n u = (λ h. inl h, λ h. back h)
     back (inl p) = p
     back (inr (j, less, r)) = absurd (omega (arith, less))
 
--- those of one index more
+-- the slots of one index more are added
 pub adds_more : (R : ℕ → ℕ → ℕ → Type 0) (k : ℕ) (xs ys zs : List (ℕ × ℕ)) → AddsSlots (λ n u. (j : ℕ) × (j < k) × R j n u) xs ys →
     AddsSlots (λ n u. R k n u) ys zs → AddsSlots (λ n u. (j : ℕ) × (j < k + 1) × R j n u) xs zs
 adds_more R k xs ys zs first next =

@@ -18,7 +18,7 @@ use Rattle.regalloc2_checker.proofs.Fixpoint.{located}
 use Rattle.regalloc2_checker.proofs.TransferFollowsFacts.{within_none, within_more}
 use Rattle.regalloc2_checker.proofs.FixpointDecides.{facts_are_held}
 
--- the instructions of a block below one are checked: their errors are added, and the facts are those after them
+-- the instructions of block b before instruction i are checked: their errors are added, and the facts are the facts after them
 pub record IsJudgedTo {A : Type 0} (f : FunctionValue) (env : MachineValue) (o : OutputValue) (b i : ℕ) (F : Facts) (old new : List (CheckerError A))
     (G : Facts) : Type 0 where
   pub errors : List (CheckerError A)
@@ -30,7 +30,7 @@ no_reports : {A : Type 0} (f : FunctionValue) (env : MachineValue) (o : OutputVa
 no_reports f env o b zero e = InstReports.none
 no_reports f env o b (suc n) e = absurd (omega arith)
 
--- before a block's first instruction no error is added, and the facts are those at the block's beginning
+-- before a block's first instruction no error is added, and the facts are the facts at the block's beginning
 pub judged_first : {A : Type 0} (f : FunctionValue) (env : MachineValue) (o : OutputValue) (b i : ℕ) (F G : Facts) (old : List (CheckerError A)) →
     i ≡ (block_at f b).range.first → G ≡ F → IsJudgedTo f env o b i F old old G
 judged_first f env o b i F G old e at = record {
@@ -81,7 +81,7 @@ judged_next f env o b i n F old mid new G H here known judge j =
       now = within_more f o b i n F G H e low j.now run;
     }
 
--- at a block's end, what was appended to the list of errors are those of all the block's instructions
+-- at a block's end, the errors of all its instructions are appended
 pub judged_end : {A : Type 0} (f : FunctionValue) (env : MachineValue) (o : OutputValue) (b i : ℕ) (F : Facts) (old new : List (CheckerError A)) (G : Facts) →
     i ≡ (block_at f b).range.end → IsJudgedTo f env o b i F old new G →
     (es : List (CheckerError A)) × (new ≡ old ++ es) × InstReports f env o b ((block_at f b).range.end - (block_at f b).range.first) es

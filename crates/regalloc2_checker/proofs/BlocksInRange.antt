@@ -4,7 +4,7 @@ use Rattle.std.proofs.lemmas.Grind.{get_or_default_zero}
 use Rattle.regalloc2_function.specs.FunctionValue.{FunctionValue, block_at}
 use Rattle.regalloc2_function.specs.WellFormed.{IsFramed, BlocksFollow}
 
--- so many blocks before the last one
+-- the block n blocks before the last one ends within the instructions
 ends : (f : FunctionValue) → BlocksFollow f → (n b : ℕ) → b + n + 1 ≡ length f.blocks → (block_at f b).range.end ≤ length f.insts
 ends f h zero b e =
     let here = h b (omega arith) in

@@ -74,11 +74,11 @@ split_end es k point e h = record { within = omega arith; passed = h; left = λ 
 pub passed_later : (es : List (ℕ × Edit)) (n p q : ℕ) → p ≤ q → AreBeforePoint es n p → AreBeforePoint es n q
 passed_later es n p q l h = λ k d a. (let b = h k d a in omega arith)
 
--- a point that parts the edits listed before an instruction from those listed earlier, in a block that begins at first
+-- a point that parts the edits listed before an instruction from the edits listed earlier, in a block that begins at first
 abbrev pub IsSince : ℕ → ℕ → ℕ → Type 0
 IsSince first i point = (first ≡ i → point ≡ before i) × (first < i → point + 1 ≡ before i)
 
--- the edits listed before an instruction are those from a position on
+-- the edits listed before an instruction begin at a position
 abbrev pub BeginsAt : List (ℕ × Edit) → ℕ → ℕ → ℕ → Type 0
 BeginsAt es first i n = (point : ℕ) → IsSince first i point → IsSplit es n point
 
@@ -86,7 +86,7 @@ BeginsAt es first i n = (point : ℕ) → IsSince first i point → IsSplit es n
 pub begins_first : (es : List (ℕ × Edit)) (first i n point : ℕ) → i ≡ first → point ≡ before first → IsSplit es n point → BeginsAt es first i n
 begins_first es first i n point e p h = λ q s. subst (λ (t : ℕ). IsSplit es n t) (let a = s.0 (sym e) in omega arith) h
 
--- those before each other one begin where those before the last end
+-- the edits before each later instruction begin where the edits before the last one end
 pub begins_next : (es : List (ℕ × Edit)) (first i n point : ℕ) → first ≤ i → point ≡ before i + 1 → IsSplit es n point → BeginsAt es first (i + 1) n
 begins_next es first i n point l p h = λ q s. subst (λ (t : ℕ). IsSplit es n t) (let a = s.1 (omega arith) in omega arith) h
 
@@ -193,7 +193,7 @@ begins_at f o es h (suc b) less ls l =
     let s = l.size b (omega arith) in
     s ∙ sym (rw one at e)
 
--- and none of the block is listed
+-- where all earlier blocks are listed, no instruction of the next block is
 pub copying_starts : (f : FunctionValue) (o : OutputValue) (es : List (ℕ × Edit)) → IsFramed f → (b : ℕ) → b < length f.blocks → (ls : List Listed) →
     IsListedBefore f o es b ls → IsCopying f o es b ls
 copying_starts f o es h b less ls l =

@@ -57,12 +57,12 @@ sound-anew t f a el array each =
     now-anew (inl h) = entries-as t.sets t.vregs t.homes (length t.entries.cells) (number_now t.entries) (number_now f) h a.now
     now-anew (inr (k, h)) = entries-as t.sets t.vregs t.homes (length t.entries.cells) (saved_number t.entries k) (number_now f) h (a.tables k)
 
--- so it is where the saved copies stay
+-- tables stay sound where the saved copies stay
 pub sound-kept : (t : Holding) (f : NumberCopies) → IsSoundHolding t → ((k i : ℕ) → saved_number f k i ≡ saved_number t.entries k i) →
     length f.cells ≡ length t.entries.cells → IsSomeArray t.entries f → IsSoundHolding (record t { entries = f })
 sound-kept t f a s el array = sound-anew t f a el array (λ k i l. inr (s k i))
 
--- and where those that have a mark are dropped
+-- tables stay sound where marked copies are dropped
 pub sound-without : (t : Holding) (f : NumberCopies) (marks : List Bool) → IsSoundHolding t → IsWithout marks t.entries f →
     IsSoundHolding (record t { entries = f })
 sound-without t f marks a w = sound-anew t f a w.long w.array w.each
@@ -73,7 +73,7 @@ pub held-without : (t : Holding) (f : NumberCopies) (marks : List Bool) → IsSo
 held-without t f marks a w k i y less not in_it =
     ap (λ x. is_member t.sets x y) (w.kept k i less not (omega (arith, a.long, in_it)))
 
--- and shows what it showed
+-- a table that has no mark shows what it showed
 pub shown-without : (t u : Holding) (p : Option Passed) (s : List (Option Passed)) (marks : List Bool) → AreShown (showing t p s) → u.vregs ≡ t.vregs →
     ((k i y : ℕ) → k < count_of t → get_or marks k false ≡ false → i < length t.places → holds_in u k i y ≡ holds_in t k i y) →
     (k i y : ℕ) → get_or marks k false ≡ false → i < length t.places → shows_in (showing u p s) k i y ≡ shows_in (showing t p s) k i y

@@ -126,7 +126,7 @@ chosen-Fresh : {K : Type 0} (b : Bool) (n k : ℕ) (m l : K → Option Stamp) �
 chosen-Fresh true n k m l h g = h
 chosen-Fresh false n k m l h g = g
 
--- the facts are those of the two maps
+-- the facts follow the two maps
 pub record Exact (c : Cells) (m : Source) (F : Facts) : Type 0 where
   pub same : (p : Place) (v : VirtualRegister) → facts_of c m p v ≡ F p v
 
@@ -256,7 +256,7 @@ pub true_facts-way : AreEarlier → (f : FunctionValue) (o : OutputValue) (w : W
 unfolding cells_before source_before
 true_facts-way law f o w ws p v = (over_edge-Exact f (end_of f ws) w _ _ _ (true_late law f o ws)).same p v
 
--- and so is what a use finds
+-- what a use finds is decided by the facts before
 pub true_facts-read : AreEarlier → (f : FunctionValue) (o : OutputValue) (ws : List Way) (position : OperandPos) (p : Place) (v : VirtualRegister) →
     same_write (cell_at f o ws position p) (read_of position (source_before f ws v) (source_after f ws v)) ≡ facts_for f o (end_of f ws) position
     (true_facts f o ws) p v

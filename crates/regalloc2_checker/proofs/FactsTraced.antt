@@ -148,7 +148,7 @@ judged-same : (x : Origin) (F G : Facts) → ((p : Place) (v : VirtualRegister) 
 judged-same (Told b) F G e = refl
 judged-same (Held q u) F G e = e q u
 
--- the same facts before, the same facts after
+-- equal facts before a change are equal facts after it
 pub change-same : (t : Facts → Facts) → IsTraced t → (F G : Facts) → ((p : Place) (v : VirtualRegister) → F p v ≡ G p v) → (p : Place) (v : VirtualRegister) →
     t F p v ≡ t G p v
 change-same t h F G e p v = h.decides F p v ∙ judged-same (h.origin p v) F G e ∙ sym (h.decides G p v)

@@ -1,4 +1,4 @@
--- Facts that stand still are those that hold on every path.
+-- Facts that stand still are exactly the facts that hold on every path.
 use Rattle.std.proofs.Common.{ℕ, zero, suc, ◌≡◌, ◌+◌, ◌-◌, ◌<◌, ◌≤◌, true, false, List, [], ◌∷◌, refl, arith, sym, ap, ◌∙◌, subst}
 use Rattle.std.specs.Prelude.{slice_index}
 use Rattle.regalloc2_names.specs.Register.{VirtualRegister}
@@ -32,13 +32,13 @@ within-none : (f : FunctionValue) (o : OutputValue) (b : ℕ) (F : Facts) (n : �
 unfolding facts_within
 within-none f o b F n e = ap (facts_within f o b F) e
 
--- the facts n + 1 instructions into a block are those n instructions into it, transferred over the instruction there
+-- the facts n + 1 instructions into a block are the facts n instructions into it, transferred over the instruction there
 pub within-suc : (f : FunctionValue) (o : OutputValue) (b : ℕ) (F : Facts) (m n i : ℕ) → m ≡ suc n → (block_at f b).range.first + n ≡ i →
     facts_within f o b F m ≡ facts_after f o (record { block = b; inst = i }) (facts_within f o b F n)
 unfolding facts_within
 within-suc f o b F m n i e d = ap (facts_within f o b F) e ∙ ap (λ (j : ℕ). facts_after f o (record { block = b; inst = j }) (facts_within f o b F n)) d
 
--- the facts at a location, from those at its block's beginning
+-- the facts at a location, from the facts at its block's beginning
 abbrev facts_on : FunctionValue → OutputValue → (ℕ → Facts) → Location → Facts
 facts_on f o F l = facts_within f o l.block (F l.block) (l.inst - (block_at f l.block).range.first)
 

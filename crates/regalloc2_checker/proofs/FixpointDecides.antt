@@ -52,7 +52,7 @@ covered_within law f o F s b n ws h e p v y =
     covered law f o F s ws h p v (subst (λ (l : Location). facts_within f o l.block (F l.block) (l.inst - (block_at f l.block).range.first) p v ≡ true) (sym e)
     x)
 
--- so do the claims at the two points of an instruction
+-- claims at the two points of an instruction hold on each path there
 covered_for : AreEarlier → (f : FunctionValue) (o : OutputValue) (F : ℕ → Facts) → IsFixpoint f o F → (b n : ℕ) (ws : List Way) → IsPath f ws →
     end_of f ws ≡ nth_of f b n →
     (position : OperandPos) (p : Place) (v : VirtualRegister) → facts_for f o (nth_of f b n) position (facts_within f o b (F b) n) p v ≡ true →
@@ -62,7 +62,7 @@ covered_for law f o F s b n ws h e position p v y =
     (covered_within law f o F s b n ws h e) p v y in
     true_facts-read law f o ws position p v ∙ subst (λ (l : Location). facts_for f o l position (true_facts f o ws) p v ≡ true) (sym e) z
 
--- and what is not claimed there fails on a path
+-- what is not claimed at the two points of an instruction fails on a path
 refuted_for : AreEarlier → (f : FunctionValue) (o : OutputValue) (F : ℕ → Facts) → IsRefutedElsewhere f o F → (b n : ℕ) → IsReachedBlock f b →
     (block_at f b).range.first + n < (block_at f b).range.end →
     (position : OperandPos) (p : Place) (v : VirtualRegister) → facts_for f o (nth_of f b n) position (facts_within f o b (F b) n) p v ≡ false →
@@ -87,7 +87,8 @@ facts_hold_before law f o F ok s g b r p v = (
   λ all. unless_false (F b p v) (λ n. let w = g b p v r n in not_both (true_facts f o w.0 p v) (all w.0 w.1 w.2) w.3),
 )
 
--- in a structurally valid function, such a fixpoint decides just what holds on every path to each reached instruction, at either position
+-- in a structurally valid function, a fixpoint whose other facts are refuted decides just what holds on every path to each reached
+-- instruction, at either position
 pub facts_are_held : AreEarlier → FactsAreHeld
 facts_are_held law f o F ok s g b n r less position p v = (
   λ y ws h e. (let x = same_write-true _ _ (covered_for law f o F s b n ws h e position p v y) in (rw x.1 x.0, x.1)),
@@ -125,7 +126,7 @@ accepted_faithful law f env o F ok s a ws h =
       moves = subst (λ (m : Location). All (λ x. IsStackToStack env x → ⊥) (moves_at f o m)) (sym e) g.moves;
     }
 
--- and each instruction of each reached block is accepted where each step of each path is faithful
+-- each instruction of each reached block is accepted where each step of each path is faithful
 faithful_accepted : AreEarlier → (f : FunctionValue) (env : MachineValue) (o : OutputValue) (F : ℕ → Facts) → IsRefutedElsewhere f o F → IsFaithful f env o →
     AllAccepted f env o F
 faithful_accepted law f env o F g h b n r less =
@@ -152,6 +153,7 @@ faithful_accepted law f env o F g h b n r less =
         w.2 (λ j c i y. let q = (h w.0 w.1).reads j c i y in same_write-same _ _ q.0 q.1) in
         not_both _ (t k d in_range reads) w.3)
 
--- an output of a structurally valid function is faithful exactly where such a fixpoint accepts each instruction of each reached block
+-- an output of a structurally valid function is faithful exactly where a fixpoint whose other facts are refuted accepts each instruction of
+-- each reached block
 pub accepted_is_faithful : AreEarlier → AcceptedIsFaithful
 accepted_is_faithful law f env o F ok s g = (accepted_faithful law f env o F ok s, faithful_accepted law f env o F g)

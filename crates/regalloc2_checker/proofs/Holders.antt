@@ -25,7 +25,7 @@ more-sets a b c h g =
     let y = g.longer in
     record { longer = omega arith; kept = λ n y l. g.kept n y (omega arith) ∙ h.kept n y l }
 
--- where nothing is done, only the array that is worked on changed
+-- where nothing is done, only the current array changed
 pub still-same : (s : List NumberSet) (e : NumberCopies) → AreBelow s e → AreStill s e s e
 still-same s e h = record {
   more = record { longer = omega arith; kept = λ n y l. refl };
@@ -35,7 +35,7 @@ still-same s e h = record {
   below = h;
 }
 
--- so it is over two steps over which it is
+-- only the current array changed over two steps, if over each only the current array did
 pub still-then : (s t u : List NumberSet) (e f g : NumberCopies) → AreStill s e t f → AreStill t f u g → AreStill s e u g
 still-then s t u e f g h k = record {
   more = more-sets s t u h.more k.more;
@@ -107,7 +107,7 @@ holder-is holders test place is i = elim (cases_eq i place) [
       ∙ sym (ap (λ b. is_in holders i || (b && test i)) (ne_eqb i place n))
 ]
 
--- and one that doesn't is not
+-- a place that doesn't pass the test is not listed
 pub holder-not : (old test : ℕ → Bool) (place : ℕ) → test place ≡ false → (i : ℕ) → old i ≡ (old i || (nat_eq i place && test i))
 holder-not old test place not i = elim (cases_eq i place) [
   | inl e ↦
@@ -163,14 +163,14 @@ holders-all none few all home bound has e h g i =
     by false false true x = refl
     by false false false x = refl
 
--- so it is where there is no set
+-- each holder is one of the few places, where the home has no set
 pub holders-few : (none few : ℕ → Bool) (home : HomePlaces) (bound : ℕ) (has : ℕ → Bool) → ((i : ℕ) → none i ≡ false) →
     ((i : ℕ) → has_number home.more.others i ≡ false) → ((i : ℕ) → few i ≡ (none i || (has_few home i && (nat_lt i bound && has i)))) → (i : ℕ) →
     few i ≡ (nat_lt i bound && (has_home home i && has i))
 holders-few none few home bound has e lacks h =
     holders-all none few few home bound has e h (λ i. sym (ap (λ b. few i || (b && (nat_lt i bound && has i))) (lacks i) ∙ or-no (few i)))
 
--- dropped at the few places, and at those of the set
+-- a vreg that is dropped at the few places and at the places of the set is dropped at the whole home
 pub dropped-all : (old mid new : ℕ → ℕ → Bool) (home : HomePlaces) (bits size : ℕ) →
     ((i y : ℕ) → i < size → mid i y ≡ (if has_few home i && nat_eq y bits then false else old i y)) →
     ((i y : ℕ) → i < size → new i y ≡ (if has_number home.more.others i && nat_eq y bits then false else mid i y)) → (i y : ℕ) → i < size →
@@ -188,7 +188,7 @@ dropped-all old mid new home bits size h g i y l =
     by false true false x = refl
     by false false e x = refl
 
--- so it is where there is no set
+-- a vreg that is dropped at the few places is dropped at the whole home, where the home has no set
 pub dropped-few : (old mid : ℕ → ℕ → Bool) (home : HomePlaces) (bits size : ℕ) → ((i : ℕ) → has_number home.more.others i ≡ false) →
     ((i y : ℕ) → i < size → mid i y ≡ (if has_few home i && nat_eq y bits then false else old i y)) → (i y : ℕ) → i < size →
     mid i y ≡ (if has_home home i && nat_eq y bits then false else old i y)

@@ -25,7 +25,7 @@ pub both_ok : {T E P Q S : Type 0} (r : Result T E) → (P → Q → S) → OnOk
 both_ok (Ok v) to p q = to p q
 both_ok (Err e) to p q = tt
 
--- slots of a list with those that an output names
+-- a list has exactly the slots that an output names
 abbrev pub AreNamed : FunctionValue → OutputValue → List (ℕ × ℕ) → Type 0
 AreNamed f out xs = (n u : ℕ) → Contains xs (n, u) ↔ IsSlotTaken f out n u
 
@@ -41,7 +41,7 @@ cells_of f env out b xs last named places frame apart = record {
   apart = λ m u n w less s t. subst (λ (x : Bool). AreUnitsApart x m u n w) last (apart m u n w less ((named m u).1 s) ((named n w).1 t));
 }
 
--- what is wrong with the list's slots is wrong with those of the output
+-- what is wrong with the list's slots is wrong with the output's slots
 pub fault_of : (f : FunctionValue) (env : MachineValue) (out : OutputValue) (b : Bool) (xs : List (ℕ × ℕ)) → b ≡ f.named_by_last_slot → AreNamed f out xs →
     (e : CellFault) → IsSlotFault b out.num_spillslots xs e → IsCellFault f env out e
 fault_of f env out b xs last named (Operand i k) h = absurd h

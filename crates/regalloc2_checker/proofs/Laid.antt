@@ -79,7 +79,7 @@ known-lists (false ∷ ds) (v ∷ vs) (t ∷ ts) s h =
 pub laid-known : (ds : List Bool) (vs ts : List BlockView) → AreKnown ds vs ts → laid ds vs ts ≡ vs
 laid-known ds vs ts k = known-lists ds vs ts k.size k.left
 
--- and known it is
+-- what is laid is known
 pub known-laid : (ds : List Bool) (vs ts us : List BlockView) → length us ≡ length ts → AreKnown ds (laid ds vs us) us
 known-laid ds vs ts us s = record { size = sym (laid-length ds vs us); left = λ b e. laid-open ds vs us b e }
 

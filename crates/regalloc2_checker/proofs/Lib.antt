@@ -2,8 +2,8 @@
 -- Read first: `accepted_is_faithful` in `FixpointDecides`, then `report_verdict` in `NoErrorsIsFaithful`; `JudgedCells`.
 -- Depends on the specs and on lemmas of regalloc2_checker_sets.
 -- Tables: `TableLaws`, what a change of the parts does to what tables hold; `Shown`, to what they show; `TableSteps`: a step of the
--- tables is a step of the facts. `Holders` is walks over places, `Meets` meets with a saved copy; `UnusedSets` and `Dropped` are sets
--- and tables that are dropped.
+-- tables is a step of the facts. `Holders` is walks over places, `Meets` meets with a saved copy; `UnusedSets`, `Dropped`:
+-- sets and tables that are dropped.
 mod Shown
 mod Holders
 mod TableLaws

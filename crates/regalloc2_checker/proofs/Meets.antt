@@ -1,4 +1,4 @@
--- A meet of the array that is worked on with a saved copy, part by part.
+-- A meet of the current array with a saved copy, part by part.
 use Rattle.std.proofs.Common.{inl, inr, ◌⊎◌, ℕ, ◌≡◌, ◌+◌, ◌<◌, ◌≤◌, arith, Bool, true, false, List, length, refl, sym, ap, ◌∙◌, subst}
 use Rattle.std.specs.Prelude.{◌&&◌}
 use Rattle.std.proofs.lemmas.Bool.{cases_eq, cases_lt}

@@ -16,7 +16,7 @@ more-same xs = λ n h. h
 pub more-twice : (xs ys zs : List ℕ) → IsMore xs ys → IsMore ys zs → IsMore xs zs
 more-twice xs ys zs a b = λ n h. b n (a n h)
 
--- a list to which one is added has that one beside what it had
+-- a list with one number more at its end has that number, beside what it had
 pub members-pushed : (xs ys : List ℕ) (x : ℕ) → ys ≡ xs ++ (x ∷ []) → (n : ℕ) → Contains ys n ↔ (Contains xs n ⊎ (n ≡ x))
 members-pushed xs ys x e n =
     (λ h. there (Contains-push_cases xs x n (subst (λ (zs : List ℕ). Contains zs n) e h)), λ h. subst (λ (zs : List ℕ). Contains zs n) (sym e) (back h))
@@ -33,7 +33,7 @@ members-pushed xs ys x e n =
 pub all-vregs-more : (xs ys : List ℕ) (vs : List VirtualRegister) → IsMore xs ys → All (IsListedVReg xs) vs → All (IsListedVReg ys) vs
 all-vregs-more xs ys vs m h = λ k d less. m _ (h k d less)
 
--- what holds of so many holds of one more
+-- what holds of the first k items holds of the first k + 1
 pub all_more : {X : Type 0} (P Q : X → Type 0) (xs : List X) (k : ℕ) (x : X) → k < length xs → x ≡ get_or xs k x → ((y : X) → P y → Q y) →
     ((j : ℕ) (d : X) → j < k → P (get_or xs j d)) → Q x → (j : ℕ) (d : X) → j < k + 1 → Q (get_or xs j d)
 all_more P Q xs k x less is on h here j d l = elim (cases_lt j k) [
@@ -48,7 +48,7 @@ all_more P Q xs k x less is on h here j d l = elim (cases_lt j k) [
 pub all_done : {X : Type 0} (P : X → Type 0) (xs : List X) (k : ℕ) → length xs ≤ k → ((j : ℕ) (d : X) → j < k → P (get_or xs j d)) → All P xs
 all_done P xs k long h = λ j d less. h j d (omega arith)
 
--- what holds of each number below one, and of that one, in more bits
+-- what holds of each number below k, and of k, holds of each number below k + 1
 pub up_to : (P Q : ℕ → Type 0) (k : ℕ) → ((i : ℕ) → P i → Q i) → ((i : ℕ) → i < k → P i) → Q k → (i : ℕ) → i < k + 1 → Q i
 up_to P Q k on h here i less = elim (cases_lt i k) [
   | inl b ↦ on i (h i b)

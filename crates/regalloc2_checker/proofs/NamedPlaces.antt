@@ -123,7 +123,7 @@ contains-flat f (z ∷ zs) x y (suc k, less, at) h =
 later : {X : Type 0} (z x : X) (xs : List X) → Contains xs x → Contains (z ∷ xs) x
 later z x xs (k, less, at) = (suc k, omega arith, at)
 
--- and is there for no other reason
+-- each item of a flattened list is one to which an item of the list is mapped
 pub from-flat : {X A : Type 0} (f : X → List A) (xs : List X) (y : A) → Contains (flat_map f xs) y → (x : X) × Contains xs x × Contains (f x) y
 from-flat f [] y (k, less, at) = absurd (omega arith)
 from-flat {X = X} f (x ∷ xs) y h = by_part (from-flat f xs y) (Contains-append_cases (f x) (flat_map f xs) y h)
@@ -143,7 +143,7 @@ from-map f [] y (k, less, at) = absurd (omega arith)
 from-map f (x ∷ xs) y (zero, less, at) = (x, (0, omega arith, refl), at)
 from-map f (x ∷ xs) y (suc k, less, at) = let r = from-map f xs y (k, omega arith, at) in (r.0, later x r.0 xs r.1, r.2)
 
--- places that are among others have their bits among those of the others
+-- places that are among others have their bits among the bits of the others
 bits-among : (ps qs : List Place) → ((p : Place) → Contains ps p → Contains qs p) → (n : ℕ) → Contains (flat_map bits_unless_missing ps) n →
     Contains (flat_map bits_unless_missing qs) n
 bits-among ps qs among n h = let r = from-flat bits_unless_missing ps n h in contains-flat bits_unless_missing qs r.0 n (among r.0 r.1) r.2
@@ -155,11 +155,11 @@ AreClobbersBefore f n s = (r : Register) → (has_register s r ≡ true) ↔ ((i
 abbrev AreAllClobbers : FunctionValue → PRegSet → Type 0
 AreAllClobbers f s = AreClobbersBefore f (length f.insts) s
 
--- the empty set has those of none
+-- the empty set has the registers that none of the instructions clobbers
 pub none-clobbered : (f : FunctionValue) (s : PRegSet) → ((r : Register) → has_register s r ≡ false) → AreClobbersBefore f 0 s
 none-clobbered f s empty = λ r. (λ e. let n = empty r in absurd cc, λ w. absurd (omega (arith, w.1)))
 
--- those of one instruction more are put into the set
+-- the clobbers of one instruction more are put into the set
 pub clobbered-more : (f : FunctionValue) (s t : PRegSet) (n : ℕ) → AreClobbersBefore f n s →
     ((r : Register) → has_register t r ≡ has_register s r || has_register (inst_at f n).clobbers r) → AreClobbersBefore f (n + 1) t
 clobbered-more f s t n all joined = λ r. (λ e. forth r (cases_Bool (has_register s r)) e, back r)
@@ -179,7 +179,7 @@ clobbered-more f s t n all joined = λ r. (λ e. forth r (cases_Bool (has_regist
       | inr g ↦ (let e : i ≡ n = omega arith in from_any r (inr (ap (λ (k : ℕ). has_register (inst_at f k).clobbers r) (sym e) ∙ h)))
     ]
 
--- those of all instructions are in it in the end
+-- the clobbers of all instructions are in the set in the end
 pub clobbered-all : (f : FunctionValue) (s : PRegSet) (n : ℕ) → n ≡ length f.insts → AreClobbersBefore f n s → AreClobbersBefore f (length f.insts) s
 clobbered-all f s n e all = subst (λ (k : ℕ). AreClobbersBefore f k s) e all
 
@@ -223,7 +223,7 @@ not-before : (xs : List ℕ) (n : ℕ) → Contains [] n ⊎ Contains xs n → C
 not-before xs n (inl (k, less, at)) = absurd (omega arith)
 not-before xs n (inr h) = h
 
--- a list of all bits of moves, operands and clobbers, each once, has those of the places that are named
+-- a list of all bits of moves, operands and clobbers, each once, has the bits of the places that are named
 pub all-named : (f : FunctionValue) (o : OutputValue) (edits : List (ℕ × Edit)) (s : PRegSet) (bits places : List ℕ) → o.edits ≡ map edit_of edits →
     AreAllClobbers f s → ArePlacesAdded [] bits (flat_map places_of_edit edits ++ (o.allocs ++ map InRegister (registers_of s))) →
     ((n : ℕ) → Contains places n ↔ Contains bits n) → IsStrictlyIncreasing places → AreNamedPlaces f o places

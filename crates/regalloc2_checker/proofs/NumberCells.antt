@@ -35,7 +35,7 @@ number-between ls bs x n = (λ h. forth (Contains-append_cases ls (x ∷ bs) n h
     back (inr e) = subst (λ (m : ℕ). Contains (ls ++ (x ∷ bs)) m) (sym e)
         (Contains-append_right ls (x ∷ bs) x (Contains-append_left (x ∷ []) bs x (Contains-push [] x)))
 
--- a number that an empty cell gets is beside those of the other cells
+-- a number that an empty cell gets is beside the numbers of the other cells
 pub cell-filled : (cs : List (Option ℕ)) (i x : ℕ) (os : List ℕ) → i < length cs → get_or cs i None ≡ None → (n : ℕ) →
     Contains (flat_map option_to_list (set cs i (Some x)) ++ os) n ↔ (Contains (flat_map option_to_list cs ++ os) n ⊎ (n ≡ x))
 cell-filled cs i x os less none n = subst (λ (l : List ℕ). Contains l n ↔ (Contains (flat_map option_to_list cs ++ os) n ⊎ (n ≡ x))) (sym new)
@@ -64,7 +64,7 @@ cell-filled cs i x os less none n = subst (λ (l : List ℕ). Contains l n ↔ (
     old : flat_map option_to_list cs ++ os ≡ before ++ (after ++ os)
     old = ap (λ (l : List ℕ). l ++ os) (split cs ∙ ap (λ (l : List ℕ). before ++ l) left) ∙ append_assoc before after os
 
--- the number of a cell is among those of all cells
+-- the number of a cell is among the numbers of all cells
 pub cell-listed : (cs : List (Option ℕ)) (i x : ℕ) (os : List ℕ) → i < length cs → get_or cs i None ≡ Some x →
     Contains (flat_map option_to_list cs ++ os) x
 cell-listed cs i x os less some = Contains-append_left (flat_map option_to_list cs) os x (at, omega (arith, within), is)

@@ -39,7 +39,7 @@ unknown_fault inst op p Has vs e h = unknown (λ v x. empty v ((h.members v).1 x
     empty : (v : VirtualRegister) → Contains vs v → ⊥
     empty v (k, less, at) = omega (arith, less, e)
 
--- a place that holds some vregs' values but not that of the operand's vreg is the error that lists those vregs
+-- a place that holds some vregs' values but not the operand's vreg is the error that lists these vregs
 pub incorrect_fault : {A : Type 0} (inst : ℕ) (op : OperandValue) (p : Place) (Has : VirtualRegister → Type 0) (actual : Vec VirtualRegister A) →
     (length actual.items ≡ 0 → ⊥) → (Has op.vreg → ⊥) → AreVRegsInValue Has actual.items →
     IsValueFault inst op p Has (IncorrectValuesInAllocation inst op p actual)
@@ -161,7 +161,7 @@ added_fault env es k e old new newer less is so pushed h = rw (moves_one es k e 
   faults = faults_more env (map listed_move (take k es)) h.added (listed_move e) so h.faults;
 })
 
--- once as many moves are checked as there are, the errors added are those of all of them
+-- once as many moves are checked as there are, the errors of all of them are added
 pub added_all : {A : Type 0} (env : MachineValue) (es : List (ℕ × Edit)) (k : ℕ) (old new : List (CheckerError A)) → length es ≤ k →
     AreAdded env (map listed_move (take k es)) old new → AreAdded env (map listed_move es) old new
 added_all env es k old new less h = subst (λ (xs : List (ℕ × Edit)). AreAdded env (map listed_move xs) old new) (take_all k es less) h

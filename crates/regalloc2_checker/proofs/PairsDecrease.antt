@@ -46,7 +46,7 @@ sum_le (suc n) g h le =
     let rest : sum_below n g ≤ sum_below n h = sum_le n g h (λ x l. le x (omega (arith, l))) in
     omega arith
 
--- it is smaller than that other sum if one of its terms is smaller
+-- a sum is smaller than another one if one of its terms is smaller, and none is larger
 pub sum_lt : (n : ℕ) (g h : ℕ → ℕ) → ((x : ℕ) → x < n → g x ≤ h x) → (x : ℕ) → x < n → g x < h x → sum_below n g < sum_below n h
 unfolding sum_below
 sum_lt zero g h le x less l = absurd (omega arith)
@@ -59,7 +59,7 @@ sum_lt (suc n) g h le x less l = elim (cases_eq x n) [
       omega arith)
 ]
 
--- it is the other sum if all of its terms are those of the other
+-- two sums are equal if all of their terms are
 pub sum-same : (n : ℕ) (g h : ℕ → ℕ) → ((x : ℕ) → x < n → g x ≡ h x) → sum_below n g ≡ sum_below n h
 unfolding sum_below
 sum-same zero g h e = refl

@@ -36,7 +36,7 @@ is-register : (s : PRegSet) (r : Register) (n : ℕ) → r.number < 64 → has_r
 is-register s r n small has h = contains-flat bits_unless_missing (map InRegister (registers_of s)) (InRegister r) n
     (contains-map InRegister (registers_of s) r (is_listed s r small has)) h
 
--- a set gets the registers of some places beside those that it has
+-- a set gets the registers of some places beside the registers that it has
 pub registers-added : (s t : PRegSet) (P : Register → Type 0) (ps : List Place) (os : List ℕ) →
     ((r : Register) → has_register t r ≡ true → (has_register s r ≡ true) ⊎ P r) →
     ((r : Register) → has_register s r ≡ true → has_register t r ≡ true) →

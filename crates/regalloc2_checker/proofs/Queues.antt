@@ -119,11 +119,11 @@ views-kept t u rs h = views-same t u 0 rs h.places (λ j i y low high less. h.ta
 pub alike-after : (t u w : Showing) → AreTablesKept t u → ListTheSame u w → ListTheSame t w
 alike-after t u w a b = record { places = b.places ∙ a.places; vregs = b.vregs ∙ a.vregs; count = b.count ∙ a.count }
 
--- so do tables after two such steps
+-- tables list what they did after two steps over each of which they do
 pub alike-twice : (t u w : Showing) → ListTheSame t u → ListTheSame u w → ListTheSame t w
 alike-twice t u w a b = record { places = b.places ∙ a.places; vregs = b.vregs ∙ a.vregs; count = b.count ∙ a.count }
 
--- and tables that stay
+-- tables that stay list what they did
 pub alike-same : (t : Showing) → ListTheSame t t
 alike-same t = record { places = refl; vregs = refl; count = refl }
 
@@ -151,7 +151,7 @@ left-falls old mid new target m n passed e h less =
     let l = h.falls refl in
     omega (arith, d, l, less)
 
--- and stays where nothing did
+-- how much is left stays where nothing changed
 pub left-stays : (old mid new : List BlockView) (target m : ℕ) (passed : Facts) → mid ≡ old → IsMeet mid new target passed false →
     sum_by weight new + m ≤ sum_by weight old + m
 left-stays old mid new target m passed e h =
@@ -210,7 +210,7 @@ way-none f o t marks entries b e r = record {
   reached = r.reached;
 }
 
--- the facts at a block's end, from those of its table
+-- the facts at a block's end, from the facts of its table
 pub block-end : (f : FunctionValue) (o : OutputValue) (b : ℕ) (t m w : Showing) (rs : List Bool) → b < length rs → m.places ≡ t.places →
     ShowsNow m (shows_in t b) →
     facts_now w ≡ facts_within f o b (facts_now m) ((block_at f b).range.end - (block_at f b).range.first) →
@@ -228,7 +228,7 @@ queue-none marks entries e none = subst (IsQueue marks) (sym e) (record {
   small = λ k d less. absurd (omega (arith, less));
 })
 
--- and of one at most
+-- a queue of one block at most
 pub reached-one : (t : List BlockView) (old new : List (Reverse (ℕ × ℕ))) (b : ℕ) → old ≡ [] → (view_at t b).reached ≡ true →
     (new ≡ old) ⊎ ((x : Reverse (ℕ × ℕ)) × (queued_block x ≡ b) × IsPermutation (x ∷ old) new) → AreReached t new
 reached-one t old new b e r (inl s) = subst (AreReached t) (sym (s ∙ e)) (λ k d less. absurd (omega (arith, less)))

@@ -27,7 +27,7 @@ drop_at ms k e l is =
     let s : suc k ≡ k + 1 = omega arith in
     rw (← s) (drop-cons ms k e l ∙ ap (λ (x : ℕ × Edit). x ∷ drop (suc k) ms) (sym is))
 
--- the effect of the moves from the k-th on is that of the k-th, then of those after it
+-- the effect of the moves from the k-th on is the effect of the k-th, then of the moves after it
 pub moves_step : (ms : List (ℕ × Edit)) (k : ℕ) (e : ℕ × Edit) (F G : Facts) → k < length ms → e ≡ get_or ms k e →
     G ≡ placed (listed_move e).to (F (listed_move e).from) F →
     facts_after_moves (map listed_move (drop k ms)) F ≡ facts_after_moves (map listed_move (drop (k + 1) ms)) G
@@ -41,7 +41,8 @@ pub moves_done : (ms : List (ℕ × Edit)) (k : ℕ) (F : Facts) → length ms �
 unfolding facts_after_moves
 moves_done ms k F l = let e : drop k ms ≡ [] = drop_all k ms l in rw e refl
 
--- clearing early definitions' places from operand k on clears that of operand k, if it is one, then those after it
+-- clearing early definitions' places from operand k on clears the place of operand k, if it is one, then the places of the operands after
+-- it
 pub early_step : (places : List Place) (os : List OperandValue) (k : ℕ) (o : OperandValue) (F G : Facts) → k < length os → o ≡ get_or os k o →
     G ≡ cond (is_def o.kind && not (is_late o.position)) (placed (place_at places k) (λ v. false) F) F →
     facts_after_early_defs places k (drop k os) F ≡ facts_after_early_defs places (k + 1) (drop (k + 1) os) G
@@ -56,7 +57,7 @@ pub early_done : (places : List Place) (os : List OperandValue) (k : ℕ) (F : F
 unfolding facts_after_early_defs
 early_done places os k F l = let e : drop k os ≡ [] = drop_all k os l in rw e refl
 
--- the definitions from operand k on are that of operand k, if it is one, then those after it
+-- the definitions from operand k on are the definition of operand k, if it is one, then the definitions after it
 pub defs_step : (places : List Place) (os : List OperandValue) (k : ℕ) (o : OperandValue) (F G : Facts) → k < length os → o ≡ get_or os k o →
     G ≡ cond (is_def o.kind) (defined (place_at places k) o.vreg F) F →
     facts_after_defs places k (drop k os) F ≡ facts_after_defs places (k + 1) (drop (k + 1) os) G
@@ -71,7 +72,8 @@ pub defs_done : (places : List Place) (os : List OperandValue) (k : ℕ) (F : Fa
 unfolding facts_after_defs
 defs_done places os k F l = let e : drop k os ≡ [] = drop_all k os l in rw e refl
 
--- so many parameters took what their arguments had: what each vreg has now one had before, but those that are still to take theirs
+-- the first k parameters took what their arguments had: what each vreg has now one had before, but for parameters that are still to take
+-- theirs
 pub record AreRenamedTo (params arguments : List VirtualRegister) (k : ℕ) (F G : Facts) : Type 0 where
   pub before : VirtualRegister → VirtualRegister
   pub same : (p : Place) (v : VirtualRegister) → (G p v ≡ F p (before v)) ⊎ TakesArgument (drop k params) (drop k arguments) v
@@ -221,7 +223,7 @@ pub emptied_none : (F : Facts) → emptied [] F ≡ F
 unfolding emptied
 emptied_none F = refl
 
--- clearing a list of registers with one more at its end clears the list, then that one
+-- clearing a list of registers with one more at its end clears the list, then the last register
 pub emptied_more : (rs : List Register) (r : Register) (F : Facts) → emptied (rs ++ (r ∷ [])) F ≡ placed (InRegister r) (λ v. false) (emptied rs F)
 unfolding emptied
 emptied_more [] r F = refl
@@ -261,7 +263,7 @@ unlisted_stays (x ∷ rs) F r v h = unlisted_stays rs _ r v (λ m. h (later r x 
     by_test true e = absurd (h (0, omega arith, is_register-true x r e))
     by_test false e = refl
 
--- those of a set
+-- clearing the registers of a walk over a set clears the set
 pub emptied_set : (s : PRegSet) (rs : List Register) (F : Facts) → IsWalkOf s rs → emptied rs F ≡ facts_after_clobbers s F
 unfolding facts_after_clobbers
 emptied_set s rs F w = one-facts _ _ at
@@ -300,12 +302,12 @@ pub listed-at : (places : List ℕ) (ms : List (ℕ × Edit)) (k : ℕ) (e : ℕ
 listed-at places ms k e less is h =
     subst (λ (m : MoveValue). IsListed places m.to) (mapped-at ms k e (listed_move e) less is) (h k (listed_move e) (omega (arith, mapped-long ms, less)))
 
--- so is the vreg of an operand
+-- the vreg of an operand of the list is listed, where all are
 pub operand-listed : (vregs : List ℕ) (os : List OperandValue) (k : ℕ) (o : OperandValue) → k < length os → o ≡ get_or os k o →
     All (λ (op : OperandValue). IsListedVReg vregs op.vreg) os → IsListedVReg vregs o.vreg
 operand-listed vregs os k o less is h = subst (λ (op : OperandValue). IsListedVReg vregs op.vreg) (sym is) (h k o less)
 
--- and a vreg of a list
+-- a vreg of the list is listed, where all are
 pub vreg-listed : (vregs : List ℕ) (vs : List VirtualRegister) (k : ℕ) (v : VirtualRegister) → k < length vs → v ≡ get_or vs k v →
     All (IsListedVReg vregs) vs → IsListedVReg vregs v
 vreg-listed vregs vs k v less is h = subst (IsListedVReg vregs) (sym is) (h k v less)
@@ -322,7 +324,7 @@ place-listed places ps k h = elim (cases_lt k (length ps)) [
     past (q ∷ qs) zero l = absurd (omega arith)
     past (q ∷ qs) (suc n) l = past qs n (omega arith)
 
--- the holders of so many vregs, and of one more
+-- the holders of the first k vregs, and of one more
 pub record HoldersSoFar {A : Type 0} (places : List ℕ) (has : ℕ → ℕ → Bool) (vs : List VirtualRegister) (had : List (Vec ℕ A)) (k : ℕ) : Type 0 where
   pub long : length had ≡ k
   pub holders : AreHoldersOf places has vs had

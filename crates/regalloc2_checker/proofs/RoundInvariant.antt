@@ -118,7 +118,7 @@ marked_block f o t ok s a b r = subst (λ (l : Location). (view_at t l.block).re
 block_below : (f : FunctionValue) → IsFramed f → (b : ℕ) → IsReachedBlock f b → b < length f.blocks
 block_below f ok b r = subst (λ (l : Location). l.block < length f.blocks) r.2 (block_within f ok r.0 r.1)
 
--- and the table is what the checker requires
+-- at the end the table is what the checker requires
 pub solved : (f : FunctionValue) (o : OutputValue) (t : List BlockView) → IsFramed f → AreSoundViews f o t → AllSolved f o t → IsSolved f o t
 solved f o t ok s a = record {
   size = s.size;

@@ -33,7 +33,7 @@ when-below k n x y h = elim (cases_lt k n) [
   | inr g ↦ ap (λ b. b && x) (le-ltb k n g) ∙ sym (ap (λ b. b && y) (le-ltb k n g))
 ]
 
--- and those do
+-- tables below the count show what they hold
 pub if-below : (k n : ℕ) (x : Bool) → k < n → (nat_lt k n && x) ≡ x
 if-below k n x l = ap (λ b. b && x) (lt-ltb k n l)
 
@@ -77,13 +77,13 @@ settled-now t u p holders e are h i y less =
     (are i ∙ if-below i (length t.places) (holds_now t i (get_or t.vregs p.argument 0)) l)
     ∙ ap (holds_now t i) (sym (read-some t.vregs p y))
 
--- what is worked on is kept under a number
+-- the current table is saved as table k
 pub record IsSavedAs (t u : Holding) (k : ℕ) : Type 0 where
   pub places : u.places ≡ t.places
   pub vregs : u.vregs ≡ t.vregs
   pub tables : (j i y : ℕ) → i < length t.places → holds_in u j i y ≡ (if nat_eq j k then holds_now t i y else holds_in t j i y)
 
--- a table is worked on
+-- table k is loaded
 pub record IsLoadedFrom (t u : Holding) (k : ℕ) : Type 0 where
   pub kept : AreKeptTables t u
   pub now : HoldsNow u (holds_in t k)
@@ -124,7 +124,7 @@ module _ (t a b c d u : Holding) (p : Option Passed) (table spare : ℕ) (h : Is
       h.kept.tables k i y (to-b i l) ∙ h.loaded.kept.tables k i y (to-a i l) ∙ h.put_by.tables k i y l
       ∙ ap (λ x. if x then holds_now t i y else holds_in t k i y) (apart k spare n)
 
-  -- what is worked on stays
+  -- the current table stays
   pub settled-in-now : HoldsNow u (holds_now t)
   settled-in-now i y less =
       let l : i < length t.places = subst (λ (ps : List ℕ). i < length ps) settled-places less in
@@ -133,7 +133,7 @@ module _ (t a b c d u : Holding) (p : Option Passed) (table spare : ℕ) (h : Is
       ∙ h.kept.tables spare i y (to-b i l) ∙ h.loaded.kept.tables spare i y (to-a i l) ∙ h.put_by.tables spare i y l
       ∙ ap (λ x. if x then holds_now t i y else holds_in t spare i y) (eq-eqb spare spare refl)
 
-  -- and of the tables but the spare one, one alone changed
+  -- of the tables but the spare one, one alone changed
   pub settled-in-tables : (k i y : ℕ) → (k ≡ spare → ⊥) → i < length t.places →
       holds_in u k i y ≡ (if nat_eq k table then holds_in t table i (read_as t.vregs p y) else holds_in t k i y)
   settled-in-tables k i y n l =
@@ -148,7 +148,7 @@ module _ (t a b c d u : Holding) (p : Option Passed) (table spare : ℕ) (h : Is
           ∙ h.loaded.now i (read_as t.vregs p y) (to-b i l) ∙ h.put_by.tables table i (read_as t.vregs p y) l
           ∙ ap (λ x. if x then holds_now t i (read_as t.vregs p y) else holds_in t table i (read_as t.vregs p y)) (apart table spare h.apart)
 
--- what is worked on is kept under a number, and with it what was passed
+-- the current table is saved, and with it what was passed
 pub saved-shown : (t u : Holding) (p : Option Passed) (s : List (Option Passed)) (table : ℕ) → table < length s → IsSavedAs t u table → (k i y : ℕ) →
     i < length t.places →
     shows_in (showing u p (slice_set s table p)) k i y ≡ (if nat_eq k table then shows_now (showing t p s) i y else shows_in (showing t p s) k i y)
@@ -201,7 +201,7 @@ settled-shown t u p s table less e h k i y l =
         ∙ ap (λ x. if x then holds_in t table i (read_as t.vregs (get_or s table None) (read_as t.vregs (get_or s k None) y))
         else holds_in t k i (read_as t.vregs (get_or s k None) y)) (apart k table n)
 
--- what is worked on is met with a table, where nothing is passed in either
+-- the current table is met with a table, where nothing is passed in either
 pub met-shown : (t u : Holding) (p : Option Passed) (s : List (Option Passed)) (table : ℕ) → p ≡ None → table < length s → get_or s table None ≡ None →
     u.vregs ≡ t.vregs → ((k i y : ℕ) → i < length t.places →
     holds_in u k i y ≡ (if nat_eq k table then holds_in t k i y && holds_now t i y else holds_in t k i y)) → (k i y : ℕ) → i < length t.places →
@@ -251,7 +251,7 @@ shown-members t p place held shown is_in are is here others y = elim (cases_eq y
       (λ c. ap (holds_now t place) r ∙ (are y).0 ((others y n).0 c), λ m. (others y n).1 ((are y).1 (sym (ap (holds_now t place) r) ∙ m)))
 ]
 
--- so many numbers were gone over, and all but one of them were taken
+-- the first numbers were gone over, and all but one of them were taken
 pub record AreWithout (changed numbers : List ℕ) (number : ℕ) : Type 0 where
   pub none : times_listed changed number ≡ 0
   pub others : (y : ℕ) → (y ≡ number → ⊥) → times_listed changed y ≡ times_listed numbers y
@@ -283,7 +283,7 @@ without-skip changed numbers number x e h = record {
 pub without-here : (changed numbers : List ℕ) (number : ℕ) → AreWithout changed numbers number → Contains changed number → ⊥
 without-here changed numbers number h c = let a = times-of changed number c in let b = h.none in omega arith
 
--- and the others are there as they were
+-- the numbers other than the one left out are there as they were
 pub without-others : (changed numbers : List ℕ) (number y : ℕ) → AreWithout changed numbers number → (y ≡ number → ⊥) →
     Contains changed y ↔ Contains numbers y
 without-others changed numbers number y h n =
@@ -297,7 +297,7 @@ without-step changed numbers k number x less e n h =
     subst (λ (l : List ℕ). AreWithout (changed ++ x ∷ []) l number) (sym (take_more numbers k 0 less ∙ ap (λ m. take k numbers ++ m ∷ []) (sym e)))
     (without-more changed (take k numbers) number x n h)
 
--- and left out
+-- a number of a list more was gone over, and left out
 pub without-pass : (changed numbers : List ℕ) (k number x : ℕ) → k < length numbers → x ≡ get_or numbers k 0 → x ≡ number →
     AreWithout changed (take k numbers) number → AreWithout changed (take (k + 1) numbers) number
 without-pass changed numbers k number x less e is h =
@@ -313,7 +313,7 @@ without-all changed numbers k number less h = subst (λ (l : List ℕ). AreWitho
 pub with-here : (changed more : List ℕ) (number : ℕ) → more ≡ changed ++ number ∷ [] → Contains more number
 with-here changed more number e = subst (λ (l : List ℕ). Contains l number) (sym e) (contains-of (changed ++ number ∷ []) number (same-times changed number))
 
--- and the others stay as they are
+-- the numbers other than the one put at the end stay as they are
 pub with-others : (changed more : List ℕ) (number y : ℕ) → more ≡ changed ++ number ∷ [] → (y ≡ number → ⊥) → Contains more y ↔ Contains changed y
 with-others changed more number y e n =
     let d = other-times changed number y n in
@@ -346,7 +346,7 @@ shown-after t u p s e n h = record {
 pub shown-with : (t : Holding) (p q : Option Passed) (s : List (Option Passed)) → ListsPassed t.vregs q → AreShown (showing t p s) → AreShown (showing t q s)
 shown-with t p q s is h = record { spare = h.spare; now = is; tables = h.tables }
 
--- and where another is in a table
+-- what stays true stays so where another parameter is passed in a table
 pub shown-set : (t : Holding) (p q : Option Passed) (s : List (Option Passed)) (table : ℕ) → table < length s → ListsPassed t.vregs q →
     AreShown (showing t p s) → AreShown (showing t p (slice_set s table q))
 shown-set t p q s table less is h = record {
@@ -380,15 +380,15 @@ pub shown-nothing : (t : Holding) (p : Option Passed) (s : List (Option Passed))
     shows_in (showing t p s) k i y ≡ false
 shown-nothing t p s h k i y = ap (λ b. nat_lt k (length s) && b) (h k i (read_as t.vregs (get_or s k None) y)) ∙ and-false (nat_lt k (length s))
 
--- the bits of a parameter are read as those of its argument
+-- the bits of a parameter are read as its argument's
 pub read-here : (vs : List ℕ) (p : Passed) (y : ℕ) → y ≡ get_or vs p.parameter 0 → read_as vs (Some p) y ≡ get_or vs p.argument 0
 read-here vs p y e = read-some vs p y ∙ ap (λ b. if b then get_or vs p.argument 0 else y) (eq-eqb y (get_or vs p.parameter 0) e)
 
--- and others as they are
+-- bits other than the parameter's are read as they are
 pub read-other : (vs : List ℕ) (p : Passed) (y : ℕ) → (y ≡ get_or vs p.parameter 0 → ⊥) → read_as vs (Some p) y ≡ y
 read-other vs p y n = read-some vs p y ∙ ap (λ b. if b then get_or vs p.argument 0 else y) (apart y (get_or vs p.parameter 0) n)
 
--- those that hold something are below a bound
+-- holders of places below a bound are below the bound
 pub holders-within : (hs : List ℕ) (n : ℕ) (f : ℕ → Bool) → ((i : ℕ) → is_in hs i ≡ (nat_lt i n && f i)) → (i : ℕ) → is_in hs i ≡ true → i < n
 holders-within hs n f h i e = elim (cases_lt i n) [
   | inl l ↦ l
@@ -401,7 +401,7 @@ pub record IsBare (v : Showing) (t : Holding) : Type 0 where
   pub vregs : t.vregs ≡ v.vregs
   pub now : (i y : ℕ) → i < length v.places → holds_now t i y ≡ shows_now v i y
 
--- so it is once what was passed is noted
+-- what is shown is what tables hold, once what was passed is noted
 pub settled-bare : (v w : Showing) (t : Holding) (p : Option Passed) (s : List (Option Passed)) → showing t p s ≡ w → w.passed ≡ None → AreTablesKept v w →
     ShowsNow w (shows_now v) → IsBare v t
 settled-bare v w t p s e none kept now = record {
@@ -424,7 +424,7 @@ pub inside-table : (v : Showing) (t : Holding) (p : Option Passed) (s : List (Op
     table < length s
 inside-table v t p s table e l = subst (λ (o : Showing). table < table_count o) (sym e) l
 
--- a table that is worked on shows what it showed
+-- a table that is loaded shows what it showed
 pub loaded-shown : (t u : Holding) (p q : Option Passed) (s : List (Option Passed)) (table : ℕ) → table < length s → q ≡ get_or s table None →
     u.places ≡ t.places → u.vregs ≡ t.vregs → HoldsNow u (holds_in t table) → ShowsNow (showing u q s) (shows_in (showing t p s) table)
 loaded-shown t u p q s table less is e d h i y l =
@@ -439,7 +439,7 @@ pub record IsSeen (v : Showing) (t : Holding) (p : Option Passed) (n : ℕ) : Ty
   pub now : (i y : ℕ) → i < length v.places → holds_now t i (read_as t.vregs p y) ≡ shows_now v i y
   pub read : (y : ℕ) → nat_eq (read_as t.vregs p y) n ≡ nat_eq y n
 
--- so it is once what was passed is noted, where one of the two has them
+-- some bits are read as themselves once what was passed is noted, where the parameter or the argument has them
 pub settled-seen : (v w : Showing) (t : Holding) (p : Option Passed) (s : List (Option Passed)) (k : ℕ) → showing t p s ≡ w → AreTablesKept v w →
     ShowsNow w (shows_now v) → IsReadApart w.vregs w.passed (get_or v.vregs k 0) → IsSeen v t p (get_or v.vregs k 0)
 settled-seen v w t p s k e kept now read = record {
@@ -516,7 +516,7 @@ pub record IsBareIn (v : Showing) (t : Holding) (p : Option Passed) (s : List (O
   pub now : (i y : ℕ) → i < length v.places → shows_now (showing t p s) i y ≡ shows_now v i y
   pub tables : (k i y : ℕ) → i < length v.places → shows_in (showing t p s) k i y ≡ shows_in v k i y
 
--- so it is once both are settled
+-- what is shown, in a table too, is what tables hold, once both are settled
 pub both-bare : (v w x : Showing) (t : Holding) (p : Option Passed) (s : List (Option Passed)) (table : ℕ) → showing t p s ≡ x → table < table_count v →
     AreTablesKept v w → ShowsNow w (shows_now v) → w.passed ≡ None → x.places ≡ w.places → x.vregs ≡ w.vregs → table_count x ≡ table_count w →
     x.passed ≡ w.passed → ShowsNow x (shows_now w) →
@@ -542,7 +542,7 @@ pub now-bare : (v : Showing) (t : Holding) (p : Option Passed) (s : List (Option
 now-bare v t p s table i y b l =
     ap (holds_now t i) (sym (read-none t.vregs y)) ∙ ap (λ (o : Option Passed). holds_now t i (read_as t.vregs o y)) (sym b.none) ∙ b.now i y l
 
--- and what they hold in the table
+-- what bare tables hold in the table is what is shown there
 pub in-bare : (v : Showing) (t : Holding) (p : Option Passed) (s : List (Option Passed)) (table i y : ℕ) → IsBareIn v t p s table → i < length v.places →
     holds_in t table i y ≡ shows_in v table i y
 in-bare v t p s table i y b l =
@@ -575,7 +575,7 @@ less-bare v t p s table true b h =
     }
 less-bare v t p s table false b h = tt
 
--- and where they lose none
+-- where bare tables lose none, nothing shown is lost
 pub same-bare : (v : Showing) (t : Holding) (p : Option Passed) (s : List (Option Passed)) (table : ℕ) (less : Bool) → IsBareIn v t p s table →
     OnFalse less ((i y : ℕ) → i < length t.places → holds_in t table i y ≡ true → holds_now t i y ≡ true) →
     OnFalse less ((i y : ℕ) → i < length v.places → shows_in v table i y ≡ true → shows_now v i y ≡ true)

@@ -27,7 +27,7 @@ use Rattle.regalloc2_checker.proofs.Queues.{alike-twice, views-kept}
 use Rattle.regalloc2_checker.proofs.TransferFollowsFacts.{named_same}
 use Rattle.regalloc2_checker.proofs.Updates.{facts-is, reached-is, view-is, view-same, views-length}
 
--- tables that list what named ones did are those of a sweep
+-- tables that list what named tables did are tables of a sweep
 pub sweep-tables : (f : FunctionValue) (o : OutputValue) (t u : Showing) (rs ds marks : List Bool) → ListTheSame t u → AreNamed f o t → AreSized f u rs marks →
     length ds ≡ length f.blocks → AreSweepTables f o u rs ds
 sweep-tables f o t u rs ds marks a n s e = record {
@@ -68,7 +68,7 @@ known-set ds vs ts b less k = record {
   ]);
 }
 
--- it has no error, from what its table has
+-- a block that is marked as done has no error, from what its table has
 pub swept-set : (A : Type 0) (f : FunctionValue) (o : OutputValue) (slots : PRegSet) (ds : List Bool) (vs ts : List BlockView) (b : ℕ) → b < length ds →
     done_at ds b ≡ false → IsClean A f o slots b (facts_at ts b) → IsSwept A f o slots ds vs ts → IsSwept A f o slots (set ds b true) vs ts
 swept-set A f o slots ds vs ts b less un clean s = record {
@@ -127,7 +127,7 @@ swept-passed A f o slots ds vs ts us e s = record {
   clean = λ b d. subst (λ (x : BlockView). IsClean A f o slots b x.facts) (sym (laid-done ds vs us b (e ∙ s.known.size) d)) (s.clean b d);
 }
 
--- so many blocks have no errors, once all that are reached are done
+-- no block has errors, once all that are reached are done
 pub clean-report : AreEarlier → (A : Type 0) (f : FunctionValue) (env : MachineValue) (o : OutputValue) (slots : PRegSet) (ds : List Bool)
     (vs ts : List BlockView) → IsFramed f → IsSolved f o vs → IsSwept A f o slots ds vs ts → AreStackSlots env slots →
     ((b : ℕ) → (view_at ts b).reached ≡ true → done_at ds b ≡ true) → (n : ℕ) → BlockReports {A = A} f env o n []

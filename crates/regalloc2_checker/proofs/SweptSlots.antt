@@ -15,7 +15,7 @@ pub turned_rising : (b : Bool) (xs : List (ℕ × ℕ)) → b ≡ true → IsNon
 turned_rising true xs e up i j le less = up i j (0, 0) le less
 turned_rising false xs e up i j le less = absurd cc
 
--- and turned round, where they are named by their first
+-- a list by rising numbers is turned round where slots are named by their first units
 pub turned_falling : (b : Bool) (xs ys : List (ℕ × ℕ)) → b ≡ false → ys ≡ reverse xs → length ys ≡ length xs → IsNonDecreasingBy (λ (s : ℕ × ℕ). s.0) xs →
     AreTurned b ys
 turned_falling true xs ys e same len up i j le less = absurd cc
@@ -56,7 +56,7 @@ before_before : (b : Bool) (m n o : ℕ) → ComesBefore b m n → ComesBefore b
 before_before true m n o h k = omega (arith, h, k)
 before_before false m n o h k = omega (arith, h, k)
 
--- a slot that doesn't reach the one before it is beyond all that come before that one
+-- a slot that doesn't reach the slot before it is beyond all slots that come before it
 beyond : (b : Bool) (s : ℕ × ℕ) (o n : ℕ) → ComesBefore b o s.0 → ComesBefore b n o → (SlotReaches b s o → ⊥) → IsBeyond b s n
 beyond true s o n before earlier free = elim (cases_lt (s.0 - o) s.1) [ inl r ↦ absurd (free r) | inr h ↦ omega (arith, before, earlier, h) ]
 beyond false s o n before earlier free = elim (cases_lt (o - s.0) s.1) [ inl r ↦ absurd (free r) | inr h ↦ omega (arith, before, earlier, h) ]
@@ -72,7 +72,7 @@ now_current : (n : ℕ) (old now : Option ℕ × Option ℕ) → IsNextSlot n ol
 now_current n old now (inl h) = ap (λ (p : Option ℕ × Option ℕ). p.0) h.1 ∙ h.0
 now_current n old now (inr h) = h.1
 
--- and the one before it comes before it
+-- the last slot before a slot that is gone on to, of another number, comes before it
 pub now_other : (b : Bool) (named : List (ℕ × ℕ)) (k n : ℕ) (old now : Option ℕ × Option ℕ) → AreTurned b named → k < length named → n ≡ (slot_at named k).0 →
     IsNextSlot n old now → AreSwept b named k old → (o : ℕ) → now.1 ≡ Some o → IsSeen named k o × (o ≢ n) × ComesBefore b o n
 now_other b named k n old now turned less is (inl h) swept o e =

@@ -175,7 +175,7 @@ drop-all t s f a k less =
           (entries-more t.sets s t.vregs t.homes t.homes _ (saved_number t.entries n) k.more (homes-same t.homes) (a.tables n)));
     }
 
--- where only the array that is worked on changed, the tables are kept
+-- where only the current array changed, the tables are kept
 pub drop-kept : (t : Holding) (s : List NumberSet) (f : NumberCopies) → IsSoundHolding t → AreStill t.sets t.entries s f →
     AreKeptTables t (record t { entries = f; sets = s })
 drop-kept t s f a k =
@@ -416,7 +416,7 @@ is_in-at (x ∷ xs) (suc k) l = ap (λ b. nat_eq x (get_or xs k 0) || b) (is_in-
     or-true true = refl
     or-true false = refl
 
--- a saved copy gets what is worked on, or stays
+-- a saved copy gets the current array, or stays
 pub save-all : (t : Holding) (f : NumberCopies) (k : ℕ) (r : Result (Unit {0}) AllocError) → IsSoundHolding t → f.cells ≡ t.entries.cells →
     ((n i : ℕ) → (n ≡ k → ⊥) → i < length t.entries.cells → saved_number f n i ≡ saved_number t.entries n i) →
     OnOk r ((i : ℕ) → i < length t.entries.cells → saved_number f k i ≡ number_now t.entries i) →
@@ -430,7 +430,7 @@ save-all t f k (Err x) a ec others ok err = save-tables t f a ec (λ n. elim (ca
   | inr d ↦ (saved_number t.entries n, a.tables n, λ i l. others n i d l)
 ])
 
--- a saved table holds what the one that is worked on held, and the others what they held
+-- a saved table holds what the current table held, and the others what they held
 pub save-in : (t : Holding) (f : NumberCopies) (k : ℕ) → IsSoundHolding t →
     ((n i : ℕ) → (n ≡ k → ⊥) → i < length t.entries.cells → saved_number f n i ≡ saved_number t.entries n i) →
     ((i : ℕ) → i < length t.entries.cells → saved_number f k i ≡ number_now t.entries i) → (n i y : ℕ) → i < length t.places →
@@ -458,7 +458,7 @@ meet-false t s f k a st same n i y l = (drop-kept t s f a st).tables n i y l ∙
     whole true q h = sym (h refl)
     whole false q h = refl
 
--- and one that is saved
+-- a meet that loses something, and is saved
 pub meet-true : (t : Holding) (s : List NumberSet) (f h : NumberCopies) (k : ℕ) → IsSoundHolding t → AreStill t.sets t.entries s f →
     IsSoundHolding (record t { entries = f; sets = s }) → ((n i : ℕ) → (n ≡ k → ⊥) → i < length f.cells → saved_number h n i ≡ saved_number f n i) →
     ((i : ℕ) → i < length f.cells → saved_number h k i ≡ number_now f i) →

@@ -52,7 +52,7 @@ facts_in-same places has have h = one-facts (facts_in places has) (facts_in plac
         ∙ ap (λ b. is_packed p && (is_packed_vreg v && b)) (h i (bits_of_vreg v) (at-position places (bits_of_place p) i e).0)
         ∙ sym (facts-at places have p v (Some i) e)
 
--- the facts of the table that is worked on, where what it holds is known
+-- the facts of the current table, where what it holds is known
 pub now-as : (t u : Showing) (has : ℕ → ℕ → Bool) → u.places ≡ t.places → ShowsNow u has → facts_now u ≡ facts_in t.places has
 now-as t u has e h =
     ap (λ (ps : List ℕ). facts_in ps (shows_now u)) e
@@ -92,7 +92,7 @@ somewhere (z ∷ xs) x (suc k) less e =
     let r : position_or_len (λ n. nat_eq n x) xs < length xs = somewhere xs x k (omega arith) e in
     step-false (nat_eq z x) (prefix_len (λ n. not (nat_eq n x)) xs) (length xs) r
 
--- so one without a position isn't listed
+-- a number without a position isn't listed
 pub not-found : (xs : List ℕ) (x : ℕ) → position (λ n. nat_eq n x) xs ≡ None → Contains xs x → ⊥
 not-found xs x e (k, less, at) =
     let l : position_or_len (λ n. nat_eq n x) xs < length xs = somewhere xs x k less at in
@@ -221,7 +221,7 @@ moved-is t u from to j i none atf pf at packed e h =
     ∙ placed-is t.places (shows_now t) has to i (shows_now t j) (facts_now t from) at packed (listed-there t.places to i none at) (λ k y less. refl)
     (λ v. facts-at t.places (shows_now t) from v (Some j) atf ∙ ap (λ b. b && (is_packed_vreg v && shows_now t j (bits_of_vreg v))) pf)
 
--- or nothing, where the other isn't listed
+-- a place gets nothing, where the place that is copied isn't listed
 pub moved-nothing : (t u : Showing) (from to : Place) (i : ℕ) → IsMissingUnlisted t.places → place_in t.places from ≡ None →
     place_in t.places to ≡ Some i → is_packed to ≡ true → u.places ≡ t.places →
     ShowsNow u (λ j y. cond (nat_eq j i) false (shows_now t j y)) → facts_now u ≡ placed to (facts_now t from) (facts_now t)
@@ -291,7 +291,7 @@ defined-is t u p v i j none at packed atv pv e h =
     ∙ ap (λ (F : Facts). placed p (is_vreg v) F)
     (forgotten-in t.places (shows_now t) rest v (λ k y. ap (λ n. cond (nat_eq y n) false (shows_now t k y)) (bits-at t.vregs v j atv)))
 
--- or to a missing one
+-- a vreg is written to a missing place
 pub defined-nowhere : (t u : Showing) (p : Place) (v : VirtualRegister) (j : ℕ) → place_in t.places p ≡ None → IsListed t.places p →
     vreg_in t.vregs v ≡ Some j → u.places ≡ t.places →
     ShowsNow u (λ i y. cond (nat_eq y (get_or t.vregs j 0)) false (shows_now t i y)) → facts_now u ≡ defined p v (facts_now t)
@@ -338,7 +338,7 @@ given-is t u v j positions at pv e h =
     ∙ given-in t.places (shows_now t) has v positions pv
     (λ i y. ap (λ n. cond (nat_eq y n) (is_in positions i) (shows_now t i y)) (bits-at t.vregs v j at))
 
--- the positions that hold a vreg are those of the places that do
+-- the positions that hold a vreg are the positions of the places that hold it
 pub holders-are : (t : Showing) (v : VirtualRegister) (j : ℕ) (positions : List ℕ) → vreg_in t.vregs v ≡ Some j → is_packed_vreg v ≡ true →
     ((i : ℕ) → is_in positions i ≡ (nat_lt i (length t.places) && shows_now t i (get_or t.vregs j 0))) →
     HoldersAre t.places (shows_now t) v positions
@@ -366,7 +366,7 @@ holders-are t v j positions at pv h = record {
         ∙ ap (λ n. shows_now t i n) (bits-at t.vregs v j at))
         ∙ sym (facts-at t.places (shows_now t) p v (Some i) e ∙ ap (λ b. is_packed p && (b && shows_now t i (bits_of_vreg v))) pv)
 
--- the same, where the positions are those of a vreg's holders before
+-- a vreg gets other places, where the positions are of a vreg's holders before
 pub given-renamed : (before ps : List ℕ) (has : ℕ → ℕ → Bool) (p a : VirtualRegister) (positions : List ℕ) (G H : Facts) → ps ≡ before →
     HoldersAre before has a positions → H ≡ given_to p ps positions G → (q : Place) (v : VirtualRegister) →
     H q v ≡ cond (is_vreg p v) (facts_in before has q a) (G q v)

@@ -46,7 +46,7 @@ listed_moves f o l b i ms h e lb low high =
     let d : Listed = record { from = 0; end = 0 } in
     ap (λ (es : List (ℕ × Edit)). map listed_move es) (e d) ∙ h.moves.moves b i d lb low high
 
--- the places listed at an instruction are those that the output has for its operands
+-- the places listed at an instruction are the places that the output has for its operands
 pub listed_places : (f : FunctionValue) (o : OutputValue) (l : Listing) (i : ℕ) (ps : List Place) → IsListing f o l →
     ps ≡ allocs_of (listed_output l) i → ps ≡ allocs_of o i
 listed_places f o l i ps h e = rw (← h.allocs, ← h.offsets) e
@@ -55,12 +55,12 @@ listed_places f o l i ps h e = rw (← h.allocs, ← h.offsets) e
 pub named_same : (f : FunctionValue) (o : OutputValue) (t u : Showing) → u.places ≡ t.places → u.vregs ≡ t.vregs → AreNamed f o t → AreNamed f o u
 named_same f o t u ep ev h = record { places = rw ep h.places; vregs = rw ev h.vregs }
 
--- so many instructions of a block
+-- the facts before a block's first instruction
 pub within_none : (f : FunctionValue) (o : OutputValue) (b n : ℕ) (F : Facts) → n ≡ 0 → F ≡ facts_within f o b F n
 unfolding facts_within
 within_none f o b n F e = ap (λ (k : ℕ). facts_within f o b F k) (sym e)
 
--- the facts after an instruction of a block are those within the block one instruction further
+-- the facts after an instruction of a block are the facts within the block one instruction further
 pub within_more : (f : FunctionValue) (o : OutputValue) (b i n : ℕ) (F G H : Facts) → n ≡ i → (block_at f b).range.first ≤ i →
     G ≡ facts_within f o b F (i - (block_at f b).range.first) → H ≡ facts_after f o (record { block = b; inst = n }) G →
     H ≡ facts_within f o b F (i + 1 - (block_at f b).range.first)

@@ -131,12 +131,12 @@ mark-taken f o t marks b h = record {
   here = λ g. (refl, λ q j less. absurd (omega arith));
 }
 
--- so many edges of a block are passed on
+-- the first k edges of block b are propagated
 pub record EdgesPassed (f : FunctionValue) (o : OutputValue) (old t : List BlockView) (marks : List Bool) (b k : ℕ) : Type 0 where
   pub sound : AreSoundViews f o t
   pub kept : ArePropagated f o old t marks b k
 
--- so many are, and the queue has blocks that are reached
+-- the first k edges of block b are propagated, and the queue has blocks that are reached
 pub record ArePassedOn (f : FunctionValue) (o : OutputValue) (old t : List BlockView) (marks : List Bool) (entries : List (Reverse (ℕ × ℕ))) (b k : ℕ)
     : Type 0 where
   pub passed : EdgesPassed f o old t marks b k

@@ -29,7 +29,7 @@ members-sound t s f a h = record {
   };
 }
 
--- and tables hold what they held
+-- tables hold what they held where sets got new numbers
 pub members-kept : (t : Holding) (s : List NumberSet) (f : NumberCopies) → IsSoundHolding t → HaveSameMembers t.sets t.entries s f →
     AreKeptTables t (record t { entries = f; sets = s })
 members-kept t s f a h = record {

@@ -116,11 +116,11 @@ view-is t rs b d less = view-from t 0 b b rs d (omega arith) less
 pub reached-is : (t : Showing) (rs : List Bool) (b : ℕ) (d r : Bool) → b < length rs → get_or rs b d ≡ r → (view_at (views t rs) b).reached ≡ r
 reached-is t rs b d r less e = ap (λ (x : BlockView). x.reached) (view-is t rs b d less) ∙ e
 
--- and its facts are those of its table
+-- the facts of a block's view are its table's
 pub facts-is : (t : Showing) (rs : List Bool) (b : ℕ) → b < length rs → facts_at (views t rs) b ≡ facts_table t b
 facts-is t rs b less = ap (λ (x : BlockView). x.facts) (view-is t rs b true less)
 
--- facts of what two hold are those that both have
+-- facts of what two hold are the facts that both have
 facts-both : (places : List ℕ) (has have both : ℕ → ℕ → Bool) → ((i y : ℕ) → i < length places → both i y ≡ (has i y && have i y)) →
     (p : Place) (v : VirtualRegister) → facts_in places both p v ≡ (facts_in places has p v && facts_in places have p v)
 facts-both places has have both h p v = by_position (place_in places p) refl
@@ -160,7 +160,7 @@ and-left : (a b : Bool) → (a && b) ≡ true → a ≡ true
 and-left true b e = refl
 and-left false b e = absurd cc
 
--- what is worked on is kept as the first that is passed to a block
+-- the current table is saved as the first that is passed to a block
 pub update-first : (t u : Showing) (rs : List Bool) (b : ℕ) (d : Bool) → b < length rs → get_or rs b d ≡ false → u.places ≡ t.places →
     ((k i y : ℕ) → i < length t.places → shows_in u k i y ≡ cond (nat_eq k b) (shows_now t i y) (shows_in t k i y)) →
     IsMeet (views t rs) (views u (set rs b true)) b (facts_now t) true
@@ -183,7 +183,7 @@ update-first t u rs b d less un e h =
     true_not_false true P h g = absurd cc
     true_not_false false P h g = absurd cc
 
--- or met with what it has, if it had some
+-- the current table is met with what a block has, if it had some
 pub update-less : (t u : Showing) (rs : List Bool) (b : ℕ) (d : Bool) → b < length rs → get_or rs b d ≡ true → u.places ≡ t.places →
     ((k i y : ℕ) → i < length t.places → shows_in u k i y ≡ cond (nat_eq k b) (shows_in t k i y && shows_now t i y) (shows_in t k i y)) →
     (changed : Bool) → OnTrue changed (LosesSome (length t.places) (shows_in t b) (shows_now t)) →
@@ -249,13 +249,13 @@ others-kept t u b has e h k n =
     ∙ facts_in-same t.places (shows_in u k) (shows_in t k)
     (λ i y l. h k i y l ∙ ap (λ c. cond c (has i y) (shows_in t k i y)) (ne_eqb k b n))
 
--- a table beside those of the blocks changes none of their views
+-- a table beside the blocks' tables changes none of their views
 pub views-beside : (t u : Showing) (rs : List Bool) (b : ℕ) (has : ℕ → ℕ → Bool) → length rs ≤ b → u.places ≡ t.places →
     ((k i y : ℕ) → i < length t.places → shows_in u k i y ≡ cond (nat_eq k b) (has i y) (shows_in t k i y)) → views u rs ≡ views t rs
 views-beside t u rs b has past e h =
     views-same t u 0 rs e (λ j i y low high l. h j i y l ∙ ap (λ c. cond c (has i y) (shows_in t j i y)) (ne_eqb j b (λ d. omega (arith, d, past, high))))
 
--- and it gets the facts of what is worked on
+-- a saved table gets the facts of the current table
 pub table-saved : (t u : Showing) (b : ℕ) → u.places ≡ t.places →
     ((k i y : ℕ) → i < length t.places → shows_in u k i y ≡ cond (nat_eq k b) (shows_now t i y) (shows_in t k i y)) → facts_table u b ≡ facts_now t
 table-saved t u b e h =

@@ -22,7 +22,7 @@ use Rattle.regalloc2_checker.proofs.TableSteps.{facts-at, unlisted-holds}
 abbrev pub IsAmong : List ℕ → ℕ → ℕ → Type 0
 IsAmong members k y = (i : ℕ) × (i < k) × (get_or members i 0 ≡ y)
 
--- the vregs of so many bits of a list are found
+-- the vregs of the first k bits of a list are found
 pub record AreFound (members : List ℕ) (k : ℕ) (found : List VirtualRegister) : Type 0 where
   pub members_are : (v : VirtualRegister) → Contains found v ↔ IsAmong members k (bits_of_vreg v)
   pub found_rise : IsStrictlyIncreasing (map bits_of_vreg found)
@@ -38,7 +38,7 @@ found_none members found e = subst (λ (vs : List VirtualRegister). AreFound mem
   packed = λ v c. absurd (omega (arith, c.1));
 })
 
--- bits that are those of no vreg
+-- bits that encode no vreg
 pub found_skip : (members : List ℕ) (k y : ℕ) (found : List VirtualRegister) → k < length members → y ≡ get_or members k y →
     ((v : VirtualRegister) → bits_of_vreg v ≢ y) →
     AreFound members k found → AreFound members (k + 1) found

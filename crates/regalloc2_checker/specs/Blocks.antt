@@ -9,7 +9,7 @@ use Rattle.regalloc2_checker.specs.Fixpoint.{nth_of, facts_within}
 use Rattle.regalloc2_checker.specs.CheckInputs.{AreFactsKnown}
 use Rattle.regalloc2_checker.specs.Report.{InstReports}
 
--- the facts at a block's beginning lead, at each of its instructions, to those that hold on every path
+-- the facts at a block's beginning lead, at each of its instructions, to the facts that hold on every path
 abbrev pub IsKnownWithin : FunctionValue → OutputValue → ℕ → Facts → Type 0
 IsKnownWithin f o b F = (n : ℕ) → (block_at f b).range.first + n < (block_at f b).range.end → AreFactsKnown f o (nth_of f b n) (facts_within f o b F n)
 

@@ -21,7 +21,7 @@ IsAllocatablePlace env class NoPlace = ⊥
 IsAllocatablePlace env class (InRegister r) = is_allocatable env class r ≡ true
 IsAllocatablePlace env class (InSlot n) = ⊥
 
--- the sets are those of a machine
+-- the sets are a machine's
 pub record AreCellRegisters (env : MachineValue) (regs : CellRegisters) : Type 0 where
   pub slots : AreStackSlots env regs.slots
   pub by_class : (class : RegClass) (r : Register) → has_register (slice_index_or regs.by_class (class_code class) empty_set) r ≡ is_allocatable env class r

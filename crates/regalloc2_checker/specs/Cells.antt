@@ -36,7 +36,7 @@ units_beside f NoPlace = 1
 units_beside f (InRegister r) = slot_size f.slot_sizes r.class
 units_beside f (InSlot n) = 1
 
--- an operand, an end of a move or a debug location is in the slot, which takes so many units there
+-- operand k of instruction i is in slot n, which takes u units there
 abbrev pub IsTakenByOperand : FunctionValue → OutputValue → ℕ → ℕ → ℕ → ℕ → Type 0
 IsTakenByOperand f out i k n u = (place_at (allocs_of out i) k ≡ InSlot n) × (u ≡ slot_size f.slot_sizes (operand_of f i k).vreg.class)
 
@@ -54,7 +54,7 @@ IsSlotTaken f out n u = ((i : ℕ) × (i < length f.insts) × IsTakenByInst f ou
     ⊎ ((k : ℕ) × (k < length out.edits) × IsTakenByMove f (move_of_index out k) n u)
     ⊎ ((k : ℕ) × (k < length out.debug_locations) × IsTakenByLocation out k n u)
 
--- a slot of so many units is within the frame, of which there are count
+-- slot n, of u units, is within the frame of count slots
 abbrev pub IsInFrame : Bool → ℕ → ℕ → ℕ → Type 0
 IsInFrame true count n u = (u ≤ n + 1) × (n < count)
 IsInFrame false count n u = n + u ≤ count

@@ -16,6 +16,6 @@ use Rattle.regalloc2_checker.specs.Facts.{Facts, facts_for}
 abbrev pub AreStackSlots : MachineValue → PRegSet → Type 0
 AreStackSlots env slots = (r : Register) → (has_register slots r ≡ true) ↔ IsFixedStackSlot env r
 
--- the facts before an instruction's moves are those that hold on every path, at both points at which its uses are read
+-- the facts before an instruction's moves are the facts that hold on every path, at both points at which its uses are read
 abbrev pub AreFactsKnown : FunctionValue → OutputValue → Location → Facts → Type 0
 AreFactsKnown f o l F = (position : OperandPos) (p : Place) (v : VirtualRegister) → (facts_for f o l position F p v ≡ true) ↔ Holds f o l position p v

@@ -1,4 +1,4 @@
--- Which vregs places hold, in tables by number and in the one that is worked on. Places are named by their positions.
+-- Which vregs places hold, in tables by number and in the current table. Places are named by their positions.
 use Rattle.std.specs.Prelude.{ℕ, ◌≡◌, ◌+◌, ◌*◌, ◌/◌, ◌<◌, ◌≤◌, ◌⊎◌, Bool, true, false, ◌&&◌, nat_eq, List, length, get_or}
 use Rattle.std.specs.List.{list_any}
 use Rattle.std.specs.List.Sorted.{IsStrictlyIncreasing}
@@ -20,11 +20,11 @@ pub record Holding : Type 0 where
 abbrev pub count_of : Holding → ℕ
 count_of t = copy_count t.entries
 
--- whether the place at a position holds the vreg with bits, in the table that is worked on
+-- whether place i holds the vreg of bits y, in the current table
 abbrev pub holds_now : Holding → ℕ → ℕ → Bool
 holds_now t i y = held t.sets t.entries i y
 
--- and in a table
+-- whether place i holds the vreg of bits y, in table k
 abbrev pub holds_in : Holding → ℕ → ℕ → ℕ → Bool
 holds_in t k i y = is_member t.sets (saved_number t.entries k i) y
 
@@ -59,7 +59,7 @@ pub record AreKeptTables (old new : Holding) : Type 0 where
   pub count : count_of new ≡ count_of old
   pub tables : (k i y : ℕ) → i < length old.places → holds_in new k i y ≡ holds_in old k i y
 
--- what the table that is worked on holds
+-- what the current table holds
 abbrev pub HoldsNow : Holding → (ℕ → ℕ → Bool) → Type 0
 HoldsNow t has = (i y : ℕ) → i < length t.places → holds_now t i y ≡ has i y
 

@@ -1,6 +1,6 @@
 -- Which vregs each place holds, by block: tables by number, of which blocks share the chunks in which they agree. Facts (which write
 -- a place holds), their fixpoint, and the errors reported. What a checker holds, and what it found; the places that an output names,
--- apart, and the faults of those that aren't.
+-- apart, and the faults of places that aren't.
 -- Read first: `Showing`, what tables show, over `Holding`; `Facts`, then `AcceptedIsFaithful` in `Fixpoint`, then `IsReport` in
 -- `Report`; `Prepared`; `Cells`.
 -- Depends on regalloc2_function (paths, both runs, faithful outputs), and on regalloc2_checker_sets: the sets, the saved copies, and

@@ -7,11 +7,11 @@ use Rattle.regalloc2_function.specs.declared.listing.Edit.{Edit}
 use Rattle.regalloc2_checker.specs.declared.listing.Listed.{Listed}
 use Rattle.regalloc2_checker.specs.Listing.{listed_move, edits_in, IsPart}
 
--- so many edits are before a point
+-- the first n edits are before a point
 abbrev pub AreBeforePoint : List (ℕ × Edit) → ℕ → ℕ → Type 0
 AreBeforePoint edits n point = (k : ℕ) (d : ℕ × Edit) → k < n → (get_or edits k d).0 < point
 
--- so many are, and no others
+-- the first n edits are before a point, and no others
 pub record IsSplit (edits : List (ℕ × Edit)) (n point : ℕ) : Type 0 where
   pub within : n ≤ length edits
   pub passed : AreBeforePoint edits n point

@@ -11,7 +11,7 @@ use Rattle.regalloc2_checker.specs.Facts.{Facts, facts_over_edge}
 use Rattle.regalloc2_checker.specs.Fixpoint.{facts_within}
 use Rattle.regalloc2_checker.specs.Tables.{BlockView, view_at, IsMeet, AreSoundViews, EdgesSolved, BlockSolved}
 
--- the facts at a block's end, from those at its beginning
+-- the facts at a block's end, from the facts at its beginning
 abbrev pub IsBlockEnd : FunctionValue → OutputValue → ℕ → Facts → Facts → Type 0
 IsBlockEnd f o b F G = (p : Place) (v : VirtualRegister) → G p v ≡ facts_within f o b F ((block_at f b).range.end - (block_at f b).range.first) p v
 
@@ -19,7 +19,7 @@ IsBlockEnd f o b F G = (p : Place) (v : VirtualRegister) → G p v ≡ facts_wit
 abbrev pub mark_at : List Bool → ℕ → Bool
 mark_at marks b = get_or marks b true
 
--- the facts that an edge makes of those at its block's end
+-- the facts past edge k of block b, from the facts at the block's end
 abbrev pub over : FunctionValue → ℕ → ℕ → Facts → Facts
 over f b k F = facts_over_edge f (first_of f b) (ToSuccessor k) F
 
@@ -33,7 +33,7 @@ pub record UnmarkedAreSolved (f : FunctionValue) (o : OutputValue) (t : List Blo
   pub size : length marks ≡ length f.blocks
   pub settled : (b : ℕ) → b < length f.blocks → mark_at marks b ≡ false → BlockSolved f o t b
 
--- so many of a block's edges are passed on since the table was old: where it has no mark, it is as it was, and these are solved
+-- the first k edges of block b are propagated since the table was old: where it has no mark, it is as it was, and these edges are solved
 pub record ArePropagated (f : FunctionValue) (o : OutputValue) (old t : List BlockView) (marks : List Bool) (b k : ℕ) : Type 0 where
   pub size : length marks ≡ length f.blocks
   pub others : (c : ℕ) → c < length f.blocks → (c ≡ b → ⊥) → mark_at marks c ≡ false → BlockSolved f o t c

@@ -15,12 +15,12 @@ facts_renamed params arguments F = λ p v. F p (renaming params arguments (λ u.
 abbrev pub stands_in : List ℕ → List ℕ → Place → Bool
 stands_in places positions p = is_packed p && held_at (place_in places p) (λ i y. is_in positions i) 0
 
--- positions are those of the places that hold a vreg
+-- exactly the places at the positions hold a vreg
 pub record HoldersAre (places : List ℕ) (has : ℕ → ℕ → Bool) (v : VirtualRegister) (positions : List ℕ) : Type 0 where
   pub within : (i : ℕ) → is_in positions i ≡ true → i < length places
   pub holders : (p : Place) → stands_in places positions p ≡ facts_in places has p v
 
--- and lists have those that hold each of some vregs
+-- list k has the positions of the places that hold vreg k
 abbrev pub AreHoldersOf : {A : Type 0} → List ℕ → (ℕ → ℕ → Bool) → List VirtualRegister → List (Vec ℕ A) → Type 0
 AreHoldersOf places has vs had = (k : ℕ) (d : Vec ℕ _) (u : VirtualRegister) → k < length had → HoldersAre places has (get_or vs k u) (get_or had k d).items
 

@@ -1,5 +1,5 @@
 -- The errors that a check reports, and their order.
--- Kinds and fields are those of upstream's `CheckerError`. Which error of an operand is reported first, and that a place holds what it holds on every path, is
+-- Kinds and fields are upstream's, of `CheckerError`. Which error of an operand is reported first, and that a place holds what it holds on every path, is
 -- this project's own.
 use Rattle.std.specs.Prelude.{ℕ, suc, ◌≡◌, ◌≢◌, ◌-◌, ◌<◌, ◌≤◌, ◌↔◌, true, false, List, [], ◌∷◌, ◌++◌, map, length, slice_index_or, Contains, Option, None, Some}
 use Rattle.std.specs.Option.{option_to_list}
@@ -42,13 +42,13 @@ pub record AreVRegsInValue (Has : VirtualRegister → Type 0) (vs : List Virtual
   pub members : (v : VirtualRegister) → Contains vs v ↔ Has v
   pub rising : IsStrictlyIncreasing (map bits_of_vreg vs)
 
--- the error of a use that reads, by what its place holds: no vreg's value, or those of others and not its own
+-- the error of a use that reads, by what its place holds: no vreg's value, or other vregs' values and not its own
 pub data IsValueFault {A : Type 0} (inst : ℕ) (op : OperandValue) (p : Place) (Has : VirtualRegister → Type 0) : CheckerError A → Type 0 where
   unknown : ((v : VirtualRegister) → Has v → ⊥) → IsValueFault inst op p Has (UnknownValueInAllocation inst op p)
   incorrect : (Has op.vreg → ⊥) → (v : VirtualRegister) → Has v → (actual : Vec VirtualRegister A) → AreVRegsInValue Has actual.items →
       IsValueFault inst op p Has (IncorrectValuesInAllocation inst op p actual)
 
--- the error of a constraint that a place doesn't meet; places are those of the instruction's operands, of which there are so many
+-- the error of a constraint that a place doesn't meet; count is the number of the instruction's operands, and places are their places
 pub data IsConstraintFault {A : Type 0} (env : MachineValue) (inst : ℕ) (op : OperandValue) (count : ℕ) (places : List Place) (p : Place) : OperandConstraint →
     CheckerError A → Type 0 where
   no_register : (IsPlainRegister env p → ⊥) → IsConstraintFault env inst op count places p Reg (AllocationIsNotReg inst op p)
@@ -95,7 +95,7 @@ AreOperandsJudged env inst operands places position Has (Some e) = (k : ℕ) × 
     × AreFineBelow env operands places position Has k
     × IsFaultAt env inst operands places Has k e
 
--- the errors of moves, as listed: those between two stack places
+-- the errors of moves, in their order: of each move between two stack places
 pub data AreMoveFaults {A : Type 0} (env : MachineValue) : List MoveValue → List (CheckerError A) → Type 0 where
   none : AreMoveFaults env [] []
   fault : (m : MoveValue) (ms : List MoveValue) (es : List (CheckerError A)) → IsStackToStack env m → AreMoveFaults env ms es →
@@ -103,7 +103,7 @@ pub data AreMoveFaults {A : Type 0} (env : MachineValue) : List MoveValue → Li
   fine : (m : MoveValue) (ms : List MoveValue) (es : List (CheckerError A)) → (IsStackToStack env m → ⊥) → AreMoveFaults env ms es →
       AreMoveFaults env (m ∷ ms) es
 
--- the errors of an instruction: those of the moves before it, then at most one of its early operands, then at most one of its late ones
+-- the errors of an instruction: of the moves before it, then of at most one early operand, then of at most one late operand
 pub record InstReport {A : Type 0} (f : FunctionValue) (env : MachineValue) (o : OutputValue) (l : Location) (es : List (CheckerError A)) : Type 0 where
   pub of_moves : List (CheckerError A)
   pub of_early : Option (CheckerError A)
@@ -113,17 +113,17 @@ pub record InstReport {A : Type 0} (f : FunctionValue) (env : MachineValue) (o :
   pub late : AreOperandsJudged env l.inst (inst_at f l.inst).operands (allocs_of o l.inst) Late (Holds f o l Late) of_late
   pub all : es ≡ of_moves ++ (option_to_list of_early ++ option_to_list of_late)
 
--- the errors of so many of a block's instructions, in turn
+-- the errors of a block's first instructions, in turn
 pub data InstReports {A : Type 0} (f : FunctionValue) (env : MachineValue) (o : OutputValue) (b : ℕ) : ℕ → List (CheckerError A) → Type 0 where
   none : InstReports f env o b 0 []
   next : (n : ℕ) (es fs : List (CheckerError A)) → InstReports f env o b n es → InstReport f env o (nth_of f b n) fs → InstReports f env o b (suc n) (es ++ fs)
 
--- the errors of a block: those of its instructions where a path reaches it, else none
+-- the errors of a block: of its instructions where a path reaches it, else none
 pub record BlockReport {A : Type 0} (f : FunctionValue) (env : MachineValue) (o : OutputValue) (b : ℕ) (es : List (CheckerError A)) : Type 0 where
   pub reached : IsReachedBlock f b → InstReports f env o b ((block_at f b).range.end - (block_at f b).range.first) es
   pub unreached : (IsReachedBlock f b → ⊥) → es ≡ []
 
--- the errors of so many blocks, in turn
+-- the errors of the first blocks, in turn
 pub data BlockReports {A : Type 0} (f : FunctionValue) (env : MachineValue) (o : OutputValue) : ℕ → List (CheckerError A) → Type 0 where
   none : BlockReports f env o 0 []
   next : (b : ℕ) (es fs : List (CheckerError A)) → BlockReports f env o b es → BlockReport f env o b fs → BlockReports f env o (suc b) (es ++ fs)
@@ -132,7 +132,7 @@ pub data BlockReports {A : Type 0} (f : FunctionValue) (env : MachineValue) (o :
 abbrev pub IsReport : {A : Type 0} → FunctionValue → MachineValue → OutputValue → List (CheckerError A) → Type 0
 IsReport f env o es = BlockReports f env o (length f.blocks) es
 
--- of the outputs of a structurally valid function (`IsFramed`), those without errors are just the faithful ones
+-- an output of a structurally valid function (`IsFramed`) has no errors exactly if it is faithful
 abbrev pub NoneWhereFaithful : Type 0 → Type 0
 NoneWhereFaithful A = (f : FunctionValue) (env : MachineValue) (o : OutputValue) (es : List (CheckerError A)) → IsFramed f → IsReport f env o es →
     (es ≡ []) ↔ IsFaithful f env o

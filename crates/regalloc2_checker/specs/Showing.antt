@@ -6,7 +6,7 @@ use Rattle.regalloc2_checker_sets.specs.Homes.{HomePlaces}
 use Rattle.regalloc2_checker.specs.Holding.{Holding, count_of, holds_now, holds_in}
 use Rattle.regalloc2_checker.specs.declared.passing.Passed.{Passed}
 
--- what is held, the parameter that was passed in the table that is worked on, and those in each table
+-- what is held, the parameter that was passed in the current table, and the parameter that was passed in each table
 pub record Showing : Type 0 where
   pub places : List ℕ
   pub vregs : List ℕ
@@ -41,11 +41,11 @@ read_as vregs (Some p) y = if nat_eq y (get_or vregs p.parameter 0) then get_or 
 abbrev pub table_count : Showing → ℕ
 table_count t = length t.saved
 
--- whether the place at a position shows the vreg with bits, in the table that is worked on
+-- whether place i shows the vreg of bits y, in the current table
 abbrev pub shows_now : Showing → ℕ → ℕ → Bool
 shows_now t i y = holds_now (bare t) i (read_as t.vregs t.passed y)
 
--- and in a table
+-- whether place i shows the vreg of bits y, in table k
 abbrev pub shows_in : Showing → ℕ → ℕ → ℕ → Bool
 shows_in t k i y = nat_lt k (table_count t) && holds_in (bare t) k i (read_as t.vregs (get_or t.saved k None) y)
 
@@ -70,6 +70,6 @@ pub record AreTablesKept (old new : Showing) : Type 0 where
   pub count : table_count new ≡ table_count old
   pub tables : (k i y : ℕ) → i < length old.places → shows_in new k i y ≡ shows_in old k i y
 
--- what the table that is worked on shows
+-- what the current table shows
 abbrev pub ShowsNow : Showing → (ℕ → ℕ → Bool) → Type 0
 ShowsNow t shows = (i y : ℕ) → i < length t.places → shows_now t i y ≡ shows i y

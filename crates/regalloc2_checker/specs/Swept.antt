@@ -13,7 +13,7 @@ use Rattle.regalloc2_checker.specs.Propagation.{IsPropagatedOver, AreReached, Is
 use Rattle.regalloc2_checker.specs.TableFacts.{AreNamed}
 use Rattle.regalloc2_checker.specs.Tables.{BlockView, view_at, facts_at, ListTheSame, views}
 
--- views of tables, and in place of those of blocks that are done what is known of them
+-- views of tables; for a block that is done, the view that is known of it instead
 unfoldable pub laid : List Bool → List BlockView → List BlockView → List BlockView
 laid [] vs ts = ts
 laid (d ∷ ds) [] ts = ts
@@ -46,7 +46,7 @@ pub record AreKnown (done : List Bool) (vs ts : List BlockView) : Type 0 where
 abbrev pub IsClean : Type 0 → FunctionValue → OutputValue → PRegSet → ℕ → Facts → Type 0
 IsClean A f o slots b F = (env : MachineValue) → AreStackSlots env slots → IsBlockJudged {A = A} f env o b F [] []
 
--- what is known of blocks: of those that are done that they have no error, of others what their tables have
+-- what is known of blocks: a block that is done has no error, of another block the view of its table is known
 pub record IsSwept (A : Type 0) (f : FunctionValue) (o : OutputValue) (slots : PRegSet) (done : List Bool) (vs ts : List BlockView) : Type 0 where
   pub known : AreKnown done vs ts
   pub clean : (b : ℕ) → done_at done b ≡ true → IsClean A f o slots b (facts_at vs b)
@@ -62,7 +62,7 @@ pub record AreSweepTables (f : FunctionValue) (o : OutputValue) (t : Showing) (r
   pub reached : length rs ≡ length f.blocks
   pub done : length ds ≡ length f.blocks
 
--- a sweep goes on: tables list the same, the same blocks are reached, and those that were done are done
+-- a sweep goes on: tables list the same, the same blocks are reached, and blocks that were done are done
 pub record IsFurther (t u : Showing) (rs now ds after : List Bool) : Type 0 where
   pub alike : ListTheSame t u
   pub reached : now ≡ rs

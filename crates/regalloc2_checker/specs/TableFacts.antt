@@ -38,10 +38,11 @@ held_at (Some i) has y = has i y
 unfoldable pub facts_in : List ℕ → (ℕ → ℕ → Bool) → Facts
 facts_in places has p v = is_packed p && (is_packed_vreg v && held_at (place_in places p) has (bits_of_vreg v))
 
--- the facts of the table that is worked on, and of one by number
+-- the facts of the current table
 abbrev pub facts_now : Showing → Facts
 facts_now t = facts_in t.places (shows_now t)
 
+-- the facts of table k
 abbrev pub facts_table : Showing → ℕ → Facts
 facts_table t k = facts_in t.places (shows_in t k)
 

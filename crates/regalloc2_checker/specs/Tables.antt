@@ -61,7 +61,7 @@ unfoldable pub views_from : Showing → ℕ → List Bool → List BlockView
 views_from t k [] = []
 views_from t k (r ∷ rs) = view_of t k r ∷ views_from t (k + 1) rs
 
--- each block's
+-- each block's view
 abbrev pub views : Showing → List Bool → List BlockView
 views t reached = views_from t 0 reached
 
@@ -78,7 +78,7 @@ pub record EdgeSolved (f : FunctionValue) (o : OutputValue) (t : List BlockView)
   pub reached : (view_at t (slice_index (block_at f b).succs k)).reached ≡ true
   pub within : (p : Place) (v : VirtualRegister) → facts_at t (slice_index (block_at f b).succs k) p v ≡ true → facts_passed f o b k (facts_at t b) p v ≡ true
 
--- so many of the edges of a block that is marked do
+-- the first n edges of a marked block require nothing more
 abbrev pub EdgesSolved : FunctionValue → OutputValue → List BlockView → ℕ → ℕ → Type 0
 EdgesSolved f o t b n = (view_at t b).reached ≡ true → (k : ℕ) → k < n → EdgeSolved f o t b k
 

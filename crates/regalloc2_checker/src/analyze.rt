@@ -1,4 +1,4 @@
-//! What holds at the blocks' beginnings, passed on until it stands still.
+//! Propagates the facts at the blocks' beginnings until nothing changes.
 
 ghost use Rattle.std.specs.Prelude.{◌≡◌, ◌<◌, ◌≤◌, ◌+◌, ℕ, List, Bool, true, false, IfOk, OnOk, length, get_or, nat_eq, sum_by};
 ghost use Rattle.std.specs.BinaryHeap.{heap_items, heap_len};
@@ -25,7 +25,7 @@ use regalloc2_index::Block;
 use std::alloc::{AllocError, Allocator};
 use std::collections::BinaryHeap;
 
-/// Passes on what is worked on, which holds at a block's end, over its edges.
+/// Propagates the current table, the facts at the end of `block`, along each of its edges.
 fn propagate_edges<F: Function, A: Allocator + Copy>(
     alloc: A,
     f: &F,
@@ -61,7 +61,7 @@ fn propagate_edges<F: Function, A: Allocator + Copy>(
     Ok(())
 }
 
-/// Passes on what a block has over its edges.
+/// Propagates the facts at the beginning of `block` through its instructions and along its edges.
 pub fn propagate_block<F: Function, A: Allocator + Copy>(
     alloc: A,
     f: &F,
@@ -102,7 +102,7 @@ pub fn propagate_block<F: Function, A: Allocator + Copy>(
     Ok(())
 }
 
-/// So many marks, of which none is set.
+/// Returns `count` marks, none of them set.
 pub fn no_marks<A: Allocator>(alloc: A, count: usize) -> Result<Vec<bool, A>, AllocError>
     ensures long { IfOk result (λ marks. length marks.items ≡ count) }
     ensures none { IfOk result (λ marks. (b : ℕ) (d : Bool) → b < count → get_or marks.items b d ≡ false) }
@@ -110,7 +110,7 @@ pub fn no_marks<A: Allocator>(alloc: A, count: usize) -> Result<Vec<bool, A>, Al
     Vec::from_elem(alloc, false, count)
 }
 
-/// So many marks, of which one is set.
+/// Returns `count` marks, with the mark `at` alone set.
 fn one_mark<A: Allocator>(alloc: A, count: usize, at: usize) -> Result<Vec<bool, A>, AllocError>
     requires { at < count }
     ensures long { IfOk result (λ marks. length marks.items ≡ count) }
@@ -121,8 +121,7 @@ fn one_mark<A: Allocator>(alloc: A, count: usize, at: usize) -> Result<Vec<bool,
     Ok(marks)
 }
 
-/// The marks of the blocks that a path is known to reach, and the queue, before anything is passed on: the entry is marked and
-/// queued.
+/// Returns the state of a propagation that begins: the entry block alone is marked as reached, and queued.
 fn first_marks<F: Function, A: Allocator + Copy>(
     alloc: A,
     f: &F,
@@ -141,7 +140,7 @@ fn first_marks<F: Function, A: Allocator + Copy>(
     Ok((reached, queue))
 }
 
-/// Empty tables, one for each block and one beside them, of the places and the vregs that are named.
+/// Returns empty tables over the places and vregs that `f` and `out` name: one for each block, and a spare one.
 fn tables_of<F: Function, A: Allocator + Copy, C: Allocator>(
     alloc: A,
     f: &F,
@@ -159,8 +158,8 @@ fn tables_of<F: Function, A: Allocator + Copy, C: Allocator>(
     Ok(tables)
 }
 
-/// What is known before anything is passed on: a path reaches the entry, and nothing holds there. The tables are made last, since
-/// an error would drop them.
+/// Returns the analysis before the first propagation: a path reaches the entry, where nothing holds. The tables are made
+/// last, because an error would drop them.
 pub fn start<F: Function, A: Allocator + Copy, C: Allocator>(
     alloc: A,
     f: &F,
@@ -182,7 +181,7 @@ pub fn start<F: Function, A: Allocator + Copy, C: Allocator>(
     })
 }
 
-/// Passes on what holds at the blocks' beginnings until nothing changes.
+/// Propagates the facts at the blocks' beginnings until nothing changes.
 pub fn analyze<F: Function, A: Allocator + Copy, C: Allocator>(
     alloc: A,
     f: &F,

@@ -13,7 +13,8 @@ use regalloc2_function::MachineEnv;
 use regalloc2_names::{Allocation, PRegSet, RegClass};
 use std::alloc::Allocator;
 
-/// The registers of a machine: the fixed stack slots, and those that may be allocated, to each class and to any.
+/// The registers of a machine: its fixed stack slots, and the registers that may be allocated, to each class and to any
+/// class.
 #[derive(Drop)]
 pub struct CellRegisters {
     pub slots: PRegSet,
@@ -21,7 +22,7 @@ pub struct CellRegisters {
     pub any: PRegSet,
 }
 
-/// The registers that may be allocated to vregs of a class.
+/// Returns the registers that may be allocated to vregs of `class`.
 pub fn allocatable<B: Allocator>(env: &MachineEnv<B>, class: RegClass) -> PRegSet
     ensures { (r : Register) → has_register result r ≡ is_allocatable (machine_of env.now) class r }
 {
@@ -29,7 +30,7 @@ pub fn allocatable<B: Allocator>(env: &MachineEnv<B>, class: RegClass) -> PRegSe
     env.preferred_regs_by_class[index] | env.non_preferred_regs_by_class[index]
 }
 
-/// Whether a place is one of some registers.
+/// Returns whether `place` is one of `regs`.
 #[inline(always)]
 fn is_one_of(regs: &PRegSet, place: Allocation) -> bool
     ensures { IsTrue result ↔ IsPlaceIn regs.now place }
@@ -41,7 +42,7 @@ fn is_one_of(regs: &PRegSet, place: Allocation) -> bool
 }
 
 impl CellRegisters {
-    /// Those of a machine.
+    /// Returns the registers of `env`.
     pub fn of<B: Allocator>(env: &MachineEnv<B>) -> CellRegisters
         ensures { AreCellRegisters (machine_of env.now) result }
     {
@@ -55,7 +56,7 @@ impl CellRegisters {
         }
     }
 
-    /// Whether a place is a register that may be allocated to a class.
+    /// Returns whether `place` is a register that may be allocated to `class`.
     #[inline(always)]
     pub fn may_hold(&self, class: RegClass, place: Allocation) -> bool
         ensures { (env : MachineValue) → AreCellRegisters env self.now → IsTrue result ↔ IsAllocatablePlace env class place }
@@ -63,7 +64,7 @@ impl CellRegisters {
         is_one_of(&self.by_class[class.code()], place)
     }
 
-    /// Whether a place is a register that may be allocated to some class.
+    /// Returns whether `place` is a register that may be allocated to some class.
     #[inline(always)]
     pub fn may_hold_any(&self, place: Allocation) -> bool
         ensures { (env : MachineValue) → AreCellRegisters env self.now → IsTrue result ↔ ((class : RegClass) × IsAllocatablePlace env class place) }

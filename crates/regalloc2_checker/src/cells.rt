@@ -32,14 +32,14 @@ use std::fmt;
 /// Why the places that an output names aren't cells.
 #[derive(Clone, Copy, Debug, PartialEq, Eq)]
 pub enum CellFault {
-    /// The operand of that index in the instruction is in no register for its class, in no slot of the frame, or in another register than the one
-    /// that it names in place of a vreg.
+    /// The operand of this index is in no register for its class, in no slot of the frame, or in another register than
+    /// the one that it names in place of a vreg.
     Operand(Inst, usize),
-    /// An end of the move of that index in the list is no place of the machine's, and no slot of the frame.
+    /// An end of the move of this index in the list is no place of the machine's, and no slot of the frame.
     MoveEnd(usize),
-    /// The move of that index goes from a register to one of another class.
+    /// The move of this index goes from a register to one of another class.
     OtherClass(usize),
-    /// The debug location of that index is no place of the machine's, and no slot of the frame.
+    /// The debug location of this index is no place of the machine's, and no slot of the frame.
     Location(usize),
     /// The slot isn't within the frame with all units that it takes.
     Slot(usize),
@@ -128,14 +128,14 @@ impl fmt::Display for CellFault {
     }
 }
 
-/// Whether two classes are one.
+/// Returns whether `a` and `b` are the same class.
 fn is_class(a: RegClass, b: RegClass) -> bool
     ensures { IsTrue result ↔ (a ≡ b) }
 {
     a as usize == b as usize
 }
 
-/// Whether a value of a class may be in a register, which may stand for a fixed stack slot.
+/// Returns whether a value of `class` may be in `reg`, which may stand for a fixed stack slot.
 fn may_be_in<B: Allocator>(env: &MachineEnv<B>, slots: PRegSet, class: RegClass, reg: PReg) -> bool
     requires { AreStackSlots (machine_of env.now) slots }
     ensures { IsTrue result ↔ ((is_allocatable (machine_of env.now) class reg ≡ true) ⊎ (IsFixedStackSlot (machine_of env.now) reg × (reg.class ≡ class))) }
@@ -143,7 +143,7 @@ fn may_be_in<B: Allocator>(env: &MachineEnv<B>, slots: PRegSet, class: RegClass,
     allocatable(env, class).contains(reg) || (slots.contains(reg) && is_class(reg.class(), class))
 }
 
-/// Whether a value of a class may be in a place.
+/// Returns whether a value of `class` may be in `place`.
 fn is_proper<B: Allocator, C: Allocator>(
     env: &MachineEnv<B>,
     slots: PRegSet,
@@ -160,7 +160,7 @@ fn is_proper<B: Allocator, C: Allocator>(
     }
 }
 
-/// Whether a value of some class may be in a place.
+/// Returns whether a value of some class may be in `place`.
 fn is_proper_of_any<B: Allocator, C: Allocator>(
     env: &MachineEnv<B>,
     slots: PRegSet,
@@ -175,7 +175,8 @@ fn is_proper_of_any<B: Allocator, C: Allocator>(
         || is_proper(env, slots, output, RegClass::Vector, place)
 }
 
-/// Whether a value of a class may be in a place. Registers that may be allocated are tested first, since most places are.
+/// Returns whether a value of `class` may be in `place`. Registers that may be allocated are tested first, since most
+/// places are.
 #[inline(always)]
 fn is_cell_of<B: Allocator, C: Allocator>(
     env: &MachineEnv<B>,
@@ -193,7 +194,7 @@ fn is_cell_of<B: Allocator, C: Allocator>(
     is_proper(env, regs.slots, output, class, place)
 }
 
-/// Whether a value of some class may be in a place.
+/// Returns whether a value of some class may be in `place`.
 #[inline(always)]
 fn is_cell_of_any<B: Allocator, C: Allocator>(
     env: &MachineEnv<B>,
@@ -210,7 +211,7 @@ fn is_cell_of_any<B: Allocator, C: Allocator>(
     is_proper_of_any(env, regs.slots, output, place)
 }
 
-/// Whether a place is the register of a class that is set aside for moves.
+/// Returns whether `place` is the register of `class` that is set aside for moves.
 fn is_scratch<B: Allocator>(env: &MachineEnv<B>, class: RegClass, place: Allocation) -> bool
     ensures { IsTrue result ↔ ((r : Register) × (scratch_of (machine_of env.now) class ≡ Some r) × (place ≡ InRegister r)) }
 {
@@ -220,7 +221,7 @@ fn is_scratch<B: Allocator>(env: &MachineEnv<B>, class: RegClass, place: Allocat
     }
 }
 
-/// Whether a move may read or write a place.
+/// Returns whether a move may read or write `place`.
 fn is_move_end<B: Allocator, C: Allocator>(
     env: &MachineEnv<B>,
     regs: &CellRegisters,
@@ -236,7 +237,7 @@ fn is_move_end<B: Allocator, C: Allocator>(
         || is_scratch(env, RegClass::Vector, place)
 }
 
-/// Whether a move may go from a place to another one.
+/// Returns whether a move may go from `from` to `to`.
 fn are_move_ends<B: Allocator, C: Allocator>(
     env: &MachineEnv<B>,
     regs: &CellRegisters,
@@ -250,7 +251,7 @@ fn are_move_ends<B: Allocator, C: Allocator>(
     is_move_end(env, regs, output, from) && is_move_end(env, regs, output, to)
 }
 
-/// Whether an operand may be in a place.
+/// Returns whether `op` may be in `place`.
 fn is_operand_cell<B: Allocator, C: Allocator>(
     env: &MachineEnv<B>,
     regs: &CellRegisters,
@@ -271,7 +272,7 @@ fn is_operand_cell<B: Allocator, C: Allocator>(
     }
 }
 
-/// Whether a move stays within a class.
+/// Returns whether a move from `from` to `to` stays within a class.
 fn is_within_class(from: Allocation, to: Allocation) -> bool
     ensures { IsTrue result ↔ IsWithinClass (record { from = from; to = to }) }
 {
@@ -281,7 +282,7 @@ fn is_within_class(from: Allocation, to: Allocation) -> bool
     }
 }
 
-/// How many units a slot takes beside the other end of a move.
+/// Returns how many units a slot takes in a move whose other end is `other`.
 fn units_beside<F: Function>(f: &F, other: Allocation) -> usize
     ensures { result ≡ units_beside (F.function f.now) other }
 {
@@ -291,7 +292,7 @@ fn units_beside<F: Function>(f: &F, other: Allocation) -> usize
     }
 }
 
-/// Adds an end of a move to the slots that are named if it is one, with the units that it takes beside the other end.
+/// Adds `place`, an end of a move, to `named` if it is a slot, with the units that it takes beside the end `other`.
 #[inline(always)]
 fn add_end<F: Function, A: Allocator>(
     f: &F,
@@ -307,7 +308,7 @@ fn add_end<F: Function, A: Allocator>(
     add_slot(named, place, units_beside(f, other))
 }
 
-/// Tests the places of an instruction's operands, and adds the slots that they name.
+/// Tests the places of the operands of `inst`, and adds the slots that they name.
 fn test_inst<F: Function, A: Allocator, B: Allocator, C: Allocator>(
     f: &F,
     env: &MachineEnv<B>,
@@ -416,7 +417,7 @@ fn test_locations<A: Allocator, B: Allocator, C: Allocator>(
     Ok(())
 }
 
-/// Whether a slot is within the frame with all its units.
+/// Returns whether `slot` is within the frame with all its `units`.
 fn is_in_frame(by_last: bool, count: usize, slot: usize, units: usize) -> bool
     ensures { IsTrue result ↔ IsInFrame by_last count slot units }
 {
@@ -441,7 +442,7 @@ fn test_frame(by_last: bool, count: usize, named: &[(usize, usize)]) -> Result<(
     Ok(())
 }
 
-/// Goes on to a slot: the current one, and the one before it that has another number.
+/// Goes on to `slot`: returns the current slot, and the last one before it that has another number.
 fn go_on(slots: (Option<usize>, Option<usize>), slot: usize) -> (Option<usize>, Option<usize>)
     ensures { IsNextSlot slot slots result }
 {
@@ -451,7 +452,7 @@ fn go_on(slots: (Option<usize>, Option<usize>), slot: usize) -> (Option<usize>, 
     }
 }
 
-/// Whether a slot with its units reaches another one.
+/// Returns whether `slot`, with its units, reaches the slot `other`.
 fn reaches(by_last: bool, slot: (usize, usize), other: usize) -> bool
     ensures { IsTrue result ↔ SlotReaches by_last slot other }
 {
@@ -462,7 +463,7 @@ fn reaches(by_last: bool, slot: (usize, usize), other: usize) -> bool
     }
 }
 
-/// The error that a slot shares a unit with another one, which comes before it.
+/// Returns the error that `slot` shares a unit with `other`, which comes before it.
 fn shared(by_last: bool, slot: usize, other: usize) -> CellFault
     ensures rising { by_last ≡ true → result ≡ CellFault.Shared other slot }
     ensures falling { by_last ≡ false → result ≡ CellFault.Shared slot other }
@@ -493,7 +494,8 @@ fn test_apart(by_last: bool, named: &[(usize, usize)]) -> Result<(), CellFault>
     Ok(())
 }
 
-/// Puts slots into the order in which they are compared: by rising numbers if they are named by their last units, else by falling ones.
+/// Reverses `named` unless `by_last`: slots are compared by rising numbers if they are named by their last units, else by
+/// falling numbers.
 fn turn(by_last: bool, named: &mut [(usize, usize)])
     ensures turned { AreTurned by_last named.new }
     ensures members { (s : ℕ × ℕ) → Contains named.old s ↔ Contains named.new s }
@@ -515,7 +517,8 @@ fn test_slots(by_last: bool, count: usize, named: &mut [(usize, usize)]) -> Resu
     test_apart(by_last, named)
 }
 
-/// The slots that an output names, with the units that they take, once the places of operands, moves and debug locations are tested.
+/// Returns the slots that `output` names, with the units that they take, once the places of operands, moves and debug
+/// locations are tested.
 fn named_slots<F: Function, A: Allocator + Copy, B: Allocator, C: Allocator>(
     alloc: A,
     f: &F,
@@ -536,12 +539,13 @@ fn named_slots<F: Function, A: Allocator + Copy, B: Allocator, C: Allocator>(
     Ok(named.into_slots())
 }
 
-/// Tests that the places which an output names are cells of their own, and says where that fails.
+/// Tests that the places that `output` names are cells of their own, and reports the first that isn't.
 ///
-/// - Each operand is in a register that may be allocated to its class, in a fixed stack slot of its class, or in a slot below the
-///   count; one that names a register in place of a vreg is in that register. Each end of a move is such a place of some class,
-///   or the scratch register of some class; each debug location is such a place of some class.
-/// - A move from a register to another one stays within a class.
+/// - Each operand is in a register that may be allocated to its class, in a fixed stack slot of its class, or in a slot
+/// below the count; an operand that names a register in place of a vreg is in that register. Each end of a move is a
+/// place of this kind for some class, or the scratch register of some class; each debug location is a place of this kind
+/// for some class.
+/// - A move from a register to another register stays within a class.
 /// - Each slot is within the frame with all units that it takes: as many as the class of each operand that is there and the class of
 ///   each register that a move copies it from or to; no two slots share a unit.
 ///
@@ -563,14 +567,14 @@ pub fn test_cells<F: Function, A: Allocator + Copy, B: Allocator, C: Allocator>(
     test_slots(by_last, output.num_spillslots, named.as_mut_slice())
 }
 
-/// Whether an error is that a memory allocation failed.
+/// Returns whether `fault` is that a memory allocation failed.
 fn is_memory(fault: CellFault) -> bool
     ensures { IsTrue result ↔ (fault ≡ CellFault.Memory) }
 {
     matches!(fault, CellFault::Memory)
 }
 
-/// Whether the places which an output names are cells of their own, as [`test_cells`] tests it.
+/// Returns whether the places that `output` names are cells of their own, as [`test_cells`] tests it.
 pub fn places_are_cells<F: Function, A: Allocator + Copy, B: Allocator, C: Allocator>(
     alloc: A,
     f: &F,

@@ -46,7 +46,7 @@ struct Placed<'a> {
     places: &'a [Allocation],
 }
 
-/// The error of an operand that reads, if what its place holds is wrong.
+/// Returns the error of what `place` holds, if `op` reads and `place` doesn't hold its vreg.
 #[inline(always)]
 fn check_val<A: Allocator + Copy>(
     alloc: A,
@@ -61,7 +61,7 @@ fn check_val<A: Allocator + Copy>(
     if op.is_def() {
         return Ok(None);
     }
-    // Nearly all that is read is right, and then it needn't be asked whether the operand names a register.
+    // Nearly every use is right, and then needn't be tested for whether it names a register.
     if holds(values, place, op.vreg()) {
         return Ok(None);
     }
@@ -84,7 +84,7 @@ fn check_val<A: Allocator + Copy>(
     }))
 }
 
-/// The error of the operand with an index, by what places hold.
+/// Returns the error of operand `k`, if what the places hold or its constraint is wrong.
 #[inline(always)]
 fn check_operand<A: Allocator + Copy>(
     alloc: A,
@@ -114,7 +114,7 @@ fn check_operand<A: Allocator + Copy>(
     Ok(check_constraint(slots, inst, op, place, count, places))
 }
 
-/// The first error among the operands of a position, by what places hold there.
+/// Returns the first error among the operands at `position`, by what the places hold there.
 #[inline(always)]
 fn check_position<A: Allocator + Copy>(
     alloc: A,
@@ -139,7 +139,7 @@ fn check_position<A: Allocator + Copy>(
     Ok(None)
 }
 
-/// The error of a move: it goes from a stack place to another.
+/// Returns the error of `edit`, if it moves from one stack place to another.
 #[inline(always)]
 fn move_fault<A: Allocator>(slots: &PRegSet, edit: Edit) -> Option<CheckerError<A>>
     ensures { (env : MachineValue) → AreStackSlots env slots.now → MatchOption result (IsStackToStack env (move_of edit) → ⊥)
@@ -155,7 +155,7 @@ fn move_fault<A: Allocator>(slots: &PRegSet, edit: Edit) -> Option<CheckerError<
     Some(CheckerError::StackToStackMove { into, from })
 }
 
-/// Adds the errors of moves, as listed.
+/// Adds the errors of `moves`, in their order.
 #[inline(always)]
 fn check_moves<A: Allocator>(
     slots: &PRegSet,
@@ -175,7 +175,7 @@ fn check_moves<A: Allocator>(
     Ok(())
 }
 
-/// Adds an error, if there is one.
+/// Adds `fault`, if there is one.
 #[inline(always)]
 fn add<A: Allocator>(
     errors: &mut Vec<CheckerError<A>, A>,
@@ -189,8 +189,8 @@ fn add<A: Allocator>(
     Ok(())
 }
 
-/// Adds the errors of an instruction: those of the moves before it, then the first of its early operands, then the first
-/// of its late ones. Goes on past it.
+/// Adds the errors of `inst`: of the moves before it, then of its first wrong early operand, then of its first wrong late
+/// operand. Goes on past `inst`.
 #[inline(always)]
 pub fn check_inst<F: Function, A: Allocator + Copy>(
     by: &Judging<'_, '_, F, A>,

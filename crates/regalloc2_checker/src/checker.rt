@@ -16,9 +16,9 @@ use crate::handle::handle_output;
 use regalloc2_function::{Function, MachineEnv, Output};
 use std::alloc::{Allocator, Global};
 
-/// Checks an output as [`Checker`] does, where it lies. Answers the errors, of which there are none if it is accepted.
+/// Checks `out` as [`Checker`] does, without a copy. Returns the errors: none if `out` is accepted.
 ///
-/// It fails with `MalformedOutput` exactly where the output isn't well-ordered, and with `Memory` where a memory allocation
+/// Fails with `MalformedOutput` exactly where `out` isn't well-ordered, and with `Memory` where a memory allocation
 /// failed.
 pub fn check_output<F: Function, A: Allocator + Copy, B: Allocator, C: Allocator>(
     alloc: A,
@@ -44,7 +44,7 @@ pub fn check_output<F: Function, A: Allocator + Copy, B: Allocator, C: Allocator
 
 /// Checks what an allocation gave for one function on one machine.
 ///
-/// It checks the output that [`Checker::prepare`] was last given, of which it holds a copy.
+/// The output is the one that [`Checker::prepare`] was last given, of which the checker holds a copy.
 #[derive(Debug, Drop)]
 pub struct Checker<'a, F: Function, A: Allocator = Global, B: Allocator = Global> {
     f: &'a F,
@@ -58,7 +58,7 @@ pub struct Checker<'a, F: Function, A: Allocator = Global, B: Allocator = Global
     ghost room_for_one: { 0 < vec_capacity room },
 }
 
-/// The list of `error` alone, in `room` that was taken for it before.
+/// Returns a list of `error` alone, in `room`, which was allocated earlier.
 fn alone<E: Drop, A: Allocator>(mut room: Vec<E, A>, error: E) -> Vec<E, A>
     requires empty { vec_len room ≡ 0 }
     requires space { 0 < vec_capacity room }
@@ -72,8 +72,7 @@ impl<'a, F: Function, A: Allocator + Copy, B: Allocator> Checker<'a, F, A, B> {
     ghost use Rattle.regalloc2_checker.specs.ErrorsFound.{errors_of};
     ghost use Rattle.regalloc2_checker.specs.Prepared.{subject_of, machine_in, output_in};
 
-    /// A checker that no output was given yet. It takes room for one error, and fails with `Memory`
-    /// where there is none.
+    /// Returns a checker without an output. Allocates room for one error, and fails with `Memory` if it can't.
     pub fn new(
         alloc: A,
         f: &'a F,
@@ -95,10 +94,10 @@ impl<'a, F: Function, A: Allocator + Copy, B: Allocator> Checker<'a, F, A, B> {
         }
     }
 
-    /// Takes a copy of an output, in place of what was prepared before.
+    /// Copies `out`, in place of what was prepared before.
     ///
-    /// It fails with `MalformedOutput` exactly where the output isn't well-ordered, and with
-    /// `Memory` where a memory allocation failed. The checker is unprepared then.
+    /// Fails with `MalformedOutput` exactly where `out` isn't well-ordered, and with `Memory` where a memory allocation
+    /// failed. The checker is unprepared then.
     pub fn prepare<C: Allocator>(&mut self, out: &Output<C>) -> Result<(), CheckerError<A>>
         ensures subject { subject_of self.new ≡ subject_of self.old }
         ensures machine { machine_in self.new ≡ machine_in self.old }
@@ -120,8 +119,8 @@ impl<'a, F: Function, A: Allocator + Copy, B: Allocator> Checker<'a, F, A, B> {
         }
     }
 
-    /// The errors of the prepared output: `MalformedOutput` alone where none is prepared, and `Memory` alone where a memory
-    /// allocation failed.
+    /// Returns the errors of the prepared output: `MalformedOutput` alone if none is prepared, and `Memory` alone if a
+    /// memory allocation failed.
     fn found(self) -> Vec<CheckerError<A>, A>
         ensures unprepared { output_in self.entry ≡ None → result.items ≡ CheckerError.MalformedOutput ∷ [] }
         ensures prepared { (o : OutputValue) → output_in self.entry ≡ Some o → (result.items ≡ CheckerError.Memory ∷ [])

@@ -15,7 +15,7 @@ use regalloc2_index::Inst;
 use regalloc2_names::{Allocation, Operand, OperandConstraint, PRegSet};
 use std::alloc::Allocator;
 
-/// The fixed stack slots of a machine, as a set.
+/// Returns the fixed stack slots of `env`, as a set.
 pub fn stack_slots<B: Allocator>(env: &MachineEnv<B>) -> PRegSet
     ensures { AreStackSlots (machine_of env.now) result }
 {
@@ -26,7 +26,7 @@ pub fn stack_slots<B: Allocator>(env: &MachineEnv<B>) -> PRegSet
     slots
 }
 
-/// Whether a place is on the stack.
+/// Returns whether `place` is on the stack.
 #[inline(always)]
 pub fn is_stack(slots: &PRegSet, place: Allocation) -> bool
     ensures { (env : MachineValue) → AreStackSlots env slots.now → IsTrue result ↔ IsStackPlace env place }
@@ -37,7 +37,7 @@ pub fn is_stack(slots: &PRegSet, place: Allocation) -> bool
     }
 }
 
-/// Whether a place is a register that isn't on the stack.
+/// Returns whether `place` is a register that isn't on the stack.
 #[inline(always)]
 fn is_plain_reg(slots: &PRegSet, place: Allocation) -> bool
     ensures { (env : MachineValue) → AreStackSlots env slots.now → IsTrue result ↔ IsPlainRegister env place }
@@ -48,7 +48,7 @@ fn is_plain_reg(slots: &PRegSet, place: Allocation) -> bool
     }
 }
 
-/// Whether a place is a register with a number below a bound.
+/// Returns whether `place` is a register with a number below `bound`.
 fn is_numbered_below(place: Allocation, bound: usize) -> bool
     ensures { IsTrue result ↔ IsNumberedBelow place bound }
 {
@@ -58,7 +58,7 @@ fn is_numbered_below(place: Allocation, bound: usize) -> bool
     }
 }
 
-/// The error of a reuse of operand `index`, of `count` operands, if the place `alloc` doesn't meet it.
+/// Returns the error of a reuse of operand `index` of `count`, if `alloc` doesn't meet it.
 fn check_reuse<A: Allocator>(
     inst: Inst,
     op: Operand,
@@ -88,7 +88,7 @@ fn check_reuse<A: Allocator>(
     })
 }
 
-/// The error of a bound on the register's number, if the place doesn't meet it.
+/// Returns the error of the bound `max` on the register's number, if `alloc` doesn't meet it.
 fn check_limit<A: Allocator>(
     slots: &PRegSet,
     inst: Inst,
@@ -114,8 +114,8 @@ fn check_limit<A: Allocator>(
     })
 }
 
-/// The error of an operand's constraint, if its place, which is there, doesn't meet it. The
-/// instruction has so many operands, and these are their places.
+/// Returns the error of the constraint of `op`, if `alloc`, which isn't missing, doesn't meet it. `count` is the number
+/// of the instruction's operands, and `places` are their places.
 #[inline(always)]
 pub fn check_constraint<A: Allocator>(
     slots: &PRegSet,

@@ -18,8 +18,8 @@ use regalloc2_function::Function;
 use regalloc2_index::Block;
 use std::alloc::{AllocError, Allocator};
 
-/// What is known at the blocks' beginnings: a table for each, and one beside them, whether a path was found there, and which
-/// changed since they were passed on.
+/// The facts at the blocks' beginnings: a table for each block and a spare one, whether a path reaches each block, and
+/// the blocks whose facts changed since they were propagated.
 #[derive(Drop)]
 pub struct Analysis<A: Allocator> {
     pub values: PassingTables<A>,
@@ -27,7 +27,8 @@ pub struct Analysis<A: Allocator> {
     pub queue: Queue<A>,
 }
 
-/// Goes over an edge: the parameters of its successor take what the arguments have at the block's end.
+/// Transfers the current table along edge `position` of `block`: the parameters of its successor take what the arguments
+/// have at the end of `block`.
 pub fn transfer_edge<F: Function, A: Allocator + Copy>(
     alloc: A,
     f: &F,
@@ -50,7 +51,7 @@ pub fn transfer_edge<F: Function, A: Allocator + Copy>(
     Ok(())
 }
 
-/// Meets what a block has with what is worked on, and returns whether anything changed.
+/// Meets the facts of the block `target` with the current table. Returns whether anything changed.
 fn update<A: Allocator + Copy>(
     values: &mut PassingTables<A>,
     reached: &mut Vec<bool, A>,
@@ -73,8 +74,7 @@ fn update<A: Allocator + Copy>(
     Ok(true)
 }
 
-/// Passes on what is worked on, which holds at a block's end, over one of its edges. Where its successor changed, it is put
-/// into the queue.
+/// Propagates the facts at the end of `block` along its edge `position`. Queues the successor if its facts changed.
 pub fn propagate_over<F: Function, A: Allocator + Copy>(
     alloc: A,
     f: &F,

@@ -27,7 +27,7 @@ pub enum CheckerError<A: Allocator = Global> {
         inst: Inst,
         /// The operand.
         op: Operand,
-        /// Its place.
+        /// The operand's place.
         alloc: Allocation,
     },
     /// Kept from upstream, and never reported.
@@ -36,7 +36,7 @@ pub enum CheckerError<A: Allocator = Global> {
         inst: Inst,
         /// The operand.
         op: Operand,
-        /// Its place.
+        /// The operand's place.
         alloc: Allocation,
     },
     /// A use reads a place that holds values of other vregs on every path, and not of its own.
@@ -45,7 +45,7 @@ pub enum CheckerError<A: Allocator = Global> {
         inst: Inst,
         /// The operand.
         op: Operand,
-        /// Its place.
+        /// The operand's place.
         alloc: Allocation,
         /// The vregs whose values the place holds, by rising bits.
         actual: Vec<VReg, A>,
@@ -56,7 +56,7 @@ pub enum CheckerError<A: Allocator = Global> {
         inst: Inst,
         /// The operand.
         op: Operand,
-        /// Its place.
+        /// The operand's place.
         alloc: Allocation,
     },
     /// The place is no register, or is a fixed stack slot.
@@ -65,7 +65,7 @@ pub enum CheckerError<A: Allocator = Global> {
         inst: Inst,
         /// The operand.
         op: Operand,
-        /// Its place.
+        /// The operand's place.
         alloc: Allocation,
     },
     /// The place isn't the register that the operand is fixed to.
@@ -74,7 +74,7 @@ pub enum CheckerError<A: Allocator = Global> {
         inst: Inst,
         /// The operand.
         op: Operand,
-        /// Its place.
+        /// The operand's place.
         alloc: Allocation,
     },
     /// The place isn't that of the operand that is to be reused.
@@ -83,7 +83,7 @@ pub enum CheckerError<A: Allocator = Global> {
         inst: Inst,
         /// The operand.
         op: Operand,
-        /// Its place.
+        /// The operand's place.
         alloc: Allocation,
         /// The named operand's place, `none` where it is missing.
         expected_alloc: Allocation,
@@ -94,7 +94,7 @@ pub enum CheckerError<A: Allocator = Global> {
         inst: Inst,
         /// The operand.
         op: Operand,
-        /// Its place.
+        /// The operand's place.
         alloc: Allocation,
     },
     /// A move goes from one stack place to another.
@@ -110,7 +110,7 @@ pub enum CheckerError<A: Allocator = Global> {
         inst: Inst,
         /// The operand.
         op: Operand,
-        /// Its place.
+        /// The operand's place.
         alloc: Allocation,
         /// The numbers below the bound.
         range: Range<usize>,

@@ -26,7 +26,7 @@ use regalloc2_index::{Block, Inst};
 use regalloc2_names::PRegSet;
 use std::alloc::{AllocError, Allocator};
 
-/// Checks a block's instructions, from what holds at its beginning.
+/// Checks the instructions of `block`, from the facts at its beginning, and adds their errors.
 #[inline(always)]
 pub fn check_block<F: Function, A: Allocator + Copy>(
     by: &Judging<'_, '_, F, A>,
@@ -53,7 +53,7 @@ pub fn check_block<F: Function, A: Allocator + Copy>(
     Ok(())
 }
 
-/// Checks the blocks that a path reaches.
+/// Returns the errors of the blocks that a path reaches.
 fn check_all<F: Function, A: Allocator + Copy>(
     alloc: A,
     f: &F,
@@ -88,7 +88,7 @@ fn check_all<F: Function, A: Allocator + Copy>(
     Ok(errors)
 }
 
-/// The errors of an output, from what holds at the blocks' beginnings.
+/// Returns the errors of `out`, by a full analysis: every block's table is kept until all are checked.
 fn analyzed_errors<F: Function, A: Allocator + Copy, C: Allocator>(
     alloc: A,
     f: &F,
@@ -107,7 +107,7 @@ fn analyzed_errors<F: Function, A: Allocator + Copy, C: Allocator>(
     check_all(alloc, f, slots, listing, &state.reached, &mut state.values)
 }
 
-/// The errors of an output.
+/// Returns the errors of `out`.
 pub fn find_errors<F: Function, A: Allocator + Copy, B: Allocator, C: Allocator>(
     alloc: A,
     f: &F,

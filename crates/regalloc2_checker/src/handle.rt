@@ -1,4 +1,4 @@
-//! What an output lists, and a copy of an output.
+//! Lists an output's moves before each instruction, and copies an output.
 
 ghost use Rattle.std.specs.Prelude.{◌≡◌, ◌<◌, ◌≤◌, ◌+◌, OnOk, IfOk, length};
 ghost use Rattle.std.specs.List.Sorted.{IsNonDecreasingBy};
@@ -15,7 +15,7 @@ use regalloc2_index::{Block, Inst};
 use regalloc2_names::ProgPoint;
 use std::alloc::{AllocError, Allocator};
 
-/// The first edit from a position on that isn't before a point.
+/// Returns the position of the first edit from `from` on that isn't before `point`.
 fn first_from(edits: &[(ProgPoint, Edit)], from: usize, point: u64) -> usize
     requires sorted { IsNonDecreasingBy (λ e. e.0) edits.now }
     requires from { from ≤ length edits.now }
@@ -31,7 +31,7 @@ fn first_from(edits: &[(ProgPoint, Edit)], from: usize, point: u64) -> usize
     edits.len()
 }
 
-/// Lists an instruction: where the moves before it begin and end.
+/// Lists the next instruction, whose moves are the edits from `from` up to `end`.
 fn handle_inst<A: Allocator>(
     from: usize,
     end: usize,
@@ -43,8 +43,8 @@ fn handle_inst<A: Allocator>(
     Ok(())
 }
 
-/// Lists a block's instructions, after those of the blocks before. Returns how many edits are
-/// passed then.
+/// Lists the instructions of `block`, of whose moves the first `passed` edits are none. Returns the number of edits up to
+/// the end of `block`.
 fn handle_block<F: Function, A: Allocator, B: Allocator>(
     f: &F,
     out: &Output<B>,
@@ -75,7 +75,7 @@ fn handle_block<F: Function, A: Allocator, B: Allocator>(
     Ok(from)
 }
 
-/// Lists the instructions of each block.
+/// Returns, for each instruction, the range of the moves before it.
 pub fn handle_listing<F: Function, A: Allocator + Copy, B: Allocator>(
     alloc: A,
     f: &F,
@@ -93,7 +93,7 @@ pub fn handle_listing<F: Function, A: Allocator + Copy, B: Allocator>(
     Ok(listing)
 }
 
-/// A copy of an output.
+/// Returns a copy of `out`.
 pub fn handle_output<A: Allocator + Copy, B: Allocator>(
     alloc: A,
     out: &Output<B>,

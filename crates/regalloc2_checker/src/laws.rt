@@ -7,9 +7,8 @@ ghost use Rattle.regalloc2_checker.specs.Report.{NoneWhereFaithful};
 use regalloc2_function::finds_earlier_writes;
 use std::alloc::Allocator;
 
-/// A lemma: facts at the blocks' beginnings of which no edge requires more, and of which each
-/// missing one fails on a path, are those that hold on every path, and they accept just what is
-/// faithful.
+/// A lemma: facts at the blocks' beginnings of which no edge requires more, and of which each missing fact fails on a
+/// path, are exactly the facts that hold on every path. They accept exactly the faithful outputs.
 pub fn stands_for_every_path()
     ensures traced { FactsAreTraced }
     ensures exact { FactsAreExact }
@@ -20,8 +19,7 @@ pub fn stands_for_every_path()
     finds_earlier_writes();
 }
 
-/// A lemma: of the outputs of a structurally valid function (`IsFramed`), those without errors are
-/// just the faithful ones.
+/// A lemma: an output of a structurally valid function (`IsFramed`) has no errors exactly if it is faithful.
 pub fn finds_no_error_where_faithful<A: Allocator>()
     ensures { NoneWhereFaithful A }
 {}

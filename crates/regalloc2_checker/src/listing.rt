@@ -1,4 +1,4 @@
-//! What is listed before each instruction.
+//! The moves before each instruction, and the places of its operands.
 
 ghost use Rattle.std.specs.Prelude.{◌≡◌, ◌<◌, length, get_or};
 ghost use Rattle.regalloc2_function.specs.OutputValue.{OffsetsInOrder, allocs_of};
@@ -9,15 +9,14 @@ use regalloc2_function::Edit;
 use regalloc2_index::Inst;
 use regalloc2_names::{Allocation, ProgPoint};
 
-/// Where the moves before an instruction begin and end among an output's edits.
+/// The range of the moves before an instruction, in an output's edits.
 #[derive(Clone, Copy)]
 pub struct Listed {
     pub from: usize,
     pub end: usize,
 }
 
-/// What an output lists: its edits, and which of them are before each instruction; its places, and where those of each
-/// instruction begin.
+/// An output's edits and places, with the range of edits before each instruction and the index of its first place.
 #[derive(Clone, Copy)]
 pub struct Listing<'a> {
     pub edits: &'a [(ProgPoint, Edit)],
@@ -27,7 +26,7 @@ pub struct Listing<'a> {
 }
 
 impl<'a> Listing<'a> {
-    /// The moves before an instruction, as the output has them.
+    /// Returns the moves before `inst`, as the output has them.
     #[inline(always)]
     pub fn moves(&self, inst: Inst) -> &'a [(ProgPoint, Edit)]
         requires inst { inst < length self.now.listed.now }
@@ -38,7 +37,7 @@ impl<'a> Listing<'a> {
         &self.edits[listed.from..listed.end]
     }
 
-    /// The places of an instruction's operands, as the output has them.
+    /// Returns the places of the operands of `inst`, as the output has them.
     #[inline(always)]
     pub fn places(&self, inst: Inst) -> &'a [Allocation]
         requires inst { inst < length self.now.offsets.now }

@@ -9,7 +9,7 @@ use crate::PassingTables;
 use regalloc2_names::{Allocation, VReg};
 use std::alloc::Allocator;
 
-/// The place of an operand; `none` where the list ends before.
+/// Returns the place of operand `k`, or `none` where the list ends before.
 pub fn place_at(places: &[Allocation], k: usize) -> Allocation
     ensures { result ≡ place_at places.now k }
 {
@@ -20,7 +20,7 @@ pub fn place_at(places: &[Allocation], k: usize) -> Allocation
     }
 }
 
-/// Where a place is listed.
+/// Returns the position at which `place` is listed, if it is.
 pub fn position<A: Allocator + Copy>(values: &PassingTables<A>, place: Allocation) -> Option<usize>
     ensures position { result ≡ place_in values.now.places place }
     ensures packed { is_packed place ≡ true }
@@ -28,7 +28,7 @@ pub fn position<A: Allocator + Copy>(values: &PassingTables<A>, place: Allocatio
     values.place(place)
 }
 
-/// Where a vreg is listed.
+/// Returns the position at which `vreg` is listed, if it is.
 pub fn vreg_position<A: Allocator + Copy>(values: &PassingTables<A>, vreg: VReg) -> Option<usize>
     ensures position { result ≡ vreg_in values.now.vregs vreg }
     ensures packed { is_packed_vreg vreg ≡ true }

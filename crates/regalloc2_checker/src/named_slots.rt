@@ -6,10 +6,11 @@ ghost use Rattle.regalloc2_checker.specs.NamedSlots.{AddsSlots};
 use std::alloc::{AllocError, Allocator};
 use std::marker::Model;
 
-/// There is room for so many slots from the beginning.
+/// The number of slots for which there is room from the beginning.
 const ROOM: usize = 32;
 
-/// Slots that were named, each with the units that it takes there. One that is named again with as many units is mostly left out.
+/// Slots that were named, each with the units that it takes there. A slot that is named again with as many units is
+/// mostly left out.
 #[derive(Drop)]
 pub struct NamedSlots<A: Allocator> {
     slots: Vec<(usize, usize), A>,
@@ -26,7 +27,7 @@ impl<A: Allocator> Model for NamedSlots<A> {
 }
 
 impl<A: Allocator + Copy> NamedSlots<A> {
-    /// An empty list, which recognises slots below a bound.
+    /// Returns an empty list, which recognises slots below `bound`.
     pub fn new(alloc: A, bound: usize) -> Result<NamedSlots<A>, AllocError>
         ensures { IfOk result (λ s. s ≡ []) }
     {
@@ -37,7 +38,7 @@ impl<A: Allocator + Copy> NamedSlots<A> {
 }
 
 impl<A: Allocator> NamedSlots<A> {
-    /// Whether a slot is where it was last added, with so many units.
+    /// Returns whether `slot` was last added with as many units as `units`.
     #[inline(always)]
     fn is_known(&self, slot: usize, units: usize) -> bool
         ensures { result ≡ true → Contains self.now (slot, units) }
@@ -53,7 +54,7 @@ impl<A: Allocator> NamedSlots<A> {
         known == slot && taken == units
     }
 
-    /// Adds a slot that takes so many units.
+    /// Adds `slot`, which takes `units` units.
     #[inline(always)]
     pub fn add(&mut self, slot: usize, units: usize) -> Result<(), AllocError>
         ensures { OnOk result (AddsSlots (λ n u. (n ≡ slot) × (u ≡ units)) self.old self.new) }
@@ -69,7 +70,7 @@ impl<A: Allocator> NamedSlots<A> {
         Ok(())
     }
 
-    /// The slots, as a list.
+    /// Returns the slots, as a list.
     pub fn into_slots(self) -> Vec<(usize, usize), A>
         ensures { result.items ≡ self }
     {

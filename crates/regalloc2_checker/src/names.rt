@@ -19,7 +19,7 @@ use regalloc2_index::{Block, Inst};
 use regalloc2_names::{Allocation, Operand, PRegSet, ProgPoint, VReg};
 use std::alloc::{AllocError, Allocator};
 
-/// Lists both places of each move.
+/// Lists both places of each of `moves`.
 fn list_moves<A: Allocator>(
     bits: &mut PlaceList<A>,
     moves: &[(ProgPoint, Edit)],
@@ -34,7 +34,7 @@ fn list_moves<A: Allocator>(
     Ok(())
 }
 
-/// Lists places.
+/// Lists `places`.
 fn list_places<A: Allocator>(
     bits: &mut PlaceList<A>,
     places: &[Allocation],
@@ -47,7 +47,7 @@ fn list_places<A: Allocator>(
     Ok(())
 }
 
-/// The registers that some instruction clobbers.
+/// Returns the registers that some instruction clobbers.
 fn all_clobbers<F: Function>(f: &F) -> PRegSet
     ensures { (r : Register) → (has_register result r ≡ true)
         ↔ ((i : ℕ) × (i < length (F.function f.now).insts) × (has_register (inst_at (F.function f.now) i).clobbers r ≡ true)) }
@@ -59,7 +59,7 @@ fn all_clobbers<F: Function>(f: &F) -> PRegSet
     clobbers
 }
 
-/// The places that an output and the clobbers name.
+/// Returns the places that `out` and the clobbers of `f` name.
 pub fn named_places<F: Function, A: Allocator + Copy, B: Allocator>(
     alloc: A,
     f: &F,
@@ -75,7 +75,7 @@ pub fn named_places<F: Function, A: Allocator + Copy, B: Allocator>(
     Ok(Positions::of(bits.into_numbers(alloc)?))
 }
 
-/// Lists a vreg.
+/// Lists `vreg`.
 fn list_vreg<A: Allocator>(bits: &mut NumberList<A>, vreg: VReg) -> Result<(), AllocError>
     ensures more { OnOk result (IsMore bits.old bits.new) }
     ensures listed { OnOk result (IsListedVReg bits.new vreg) }
@@ -84,7 +84,7 @@ fn list_vreg<A: Allocator>(bits: &mut NumberList<A>, vreg: VReg) -> Result<(), A
     Ok(())
 }
 
-/// Lists the vregs of operands.
+/// Lists the vregs of `operands`.
 fn list_operands<A: Allocator>(
     bits: &mut NumberList<A>,
     operands: &[Operand],
@@ -98,7 +98,7 @@ fn list_operands<A: Allocator>(
     Ok(())
 }
 
-/// Lists vregs.
+/// Lists `vregs`.
 fn list_vregs<A: Allocator>(bits: &mut NumberList<A>, vregs: &[VReg]) -> Result<(), AllocError>
     ensures more { OnOk result (IsMore bits.old bits.new) }
     ensures listed { OnOk result (All (IsListedVReg bits.new) vregs.now) }
@@ -124,7 +124,7 @@ fn list_inst_vregs<F: Function, A: Allocator>(
     Ok(())
 }
 
-/// Lists what a block passes over its edges.
+/// Lists the arguments that `block` passes along its edges.
 fn list_arguments<F: Function, A: Allocator>(
     bits: &mut NumberList<A>,
     f: &F,
@@ -143,7 +143,7 @@ fn list_arguments<F: Function, A: Allocator>(
     Ok(())
 }
 
-/// Lists a block's parameters, and what it passes over its edges.
+/// Lists the parameters of `block`, and the arguments that it passes along its edges.
 fn list_block_vregs<F: Function, A: Allocator>(
     bits: &mut NumberList<A>,
     f: &F,
@@ -161,7 +161,7 @@ fn list_block_vregs<F: Function, A: Allocator>(
     Ok(())
 }
 
-/// Lists the parameters of all blocks, and what they pass over their edges.
+/// Lists the parameters of all blocks, and the arguments that they pass along their edges.
 fn list_all_blocks<F: Function, A: Allocator>(
     bits: &mut NumberList<A>,
     f: &F,
@@ -179,7 +179,7 @@ fn list_all_blocks<F: Function, A: Allocator>(
     Ok(())
 }
 
-/// The vregs of a function's operands, parameters and arguments.
+/// Returns the vregs of the operands, parameters and arguments of `f`.
 pub fn named_vregs<F: Function, A: Allocator + Copy>(
     alloc: A,
     f: &F,

@@ -1,16 +1,16 @@
-//! A list of numbers that leaves out most of those that it has.
+//! A list of numbers that leaves out most repetitions.
 
 ghost use Rattle.std.specs.Prelude.{◌≡◌, ◌<◌, ◌%◌, ◌↔◌, ◌⊎◌, ℕ, [], OnOk, IfOk, Contains};
 
 use std::alloc::{AllocError, Allocator};
 use std::marker::Model;
 
-/// Numbers that were listed. One that is listed again is left out, unless another number has its cell.
+/// Numbers that were listed. A repeated number is left out, unless another number has its cell.
 #[derive(Drop)]
 pub struct NumberList<A: Allocator> {
     /// The first number of each cell.
     cells: Vec<Option<u32>, A>,
-    /// The numbers whose cells have another one.
+    /// The numbers whose cells have another number.
     others: Vec<u32, A>,
 }
 
@@ -27,11 +27,11 @@ impl<A: Allocator> Model for NumberList<A> {
 }
 
 impl<A: Allocator + Copy> NumberList<A> {
-    /// An empty list, with a cell for each of so many keys.
+    /// Returns an empty list, with a cell for each of about `keys` keys.
     pub fn new(alloc: A, keys: usize) -> Result<NumberList<A>, AllocError>
         ensures { IfOk result (λ l. l ≡ []) }
     {
-        // At least one, and odd: numbers that are two or four apart take all remainders.
+        // An odd count: numbers that are two or four apart take all remainders.
         let cells = Vec::from_elem(alloc, None, keys / 2 * 2 + 1)?;
         Ok(NumberList {
             cells,
@@ -39,7 +39,7 @@ impl<A: Allocator + Copy> NumberList<A> {
         })
     }
 
-    /// What was listed: the cells in their order, then the others.
+    /// Returns the numbers that were listed: the cells in their order, then the others.
     pub fn into_numbers(self, alloc: A) -> Result<Vec<u32, A>, AllocError>
         ensures { IfOk result (λ numbers. numbers.items ≡ self) }
     {
@@ -54,7 +54,7 @@ impl<A: Allocator + Copy> NumberList<A> {
     }
 }
 
-/// The cell of a key among so many.
+/// Returns the cell of `key` among `count` cells.
 fn cell_of(key: usize, count: usize) -> usize
     requires { 0 < count }
     ensures cell { result ≡ key % count }
@@ -65,7 +65,7 @@ fn cell_of(key: usize, count: usize) -> usize
 }
 
 impl<A: Allocator> NumberList<A> {
-    /// Lists a number, unless its cell has it. Its cell is the key's, or that of the key's remainder.
+    /// Lists `number`, unless the cell of `key` has it already.
     pub fn list(&mut self, key: usize, number: u32) -> Result<(), AllocError>
         ensures { OnOk result ((n : ℕ) → Contains self.new n ↔ (Contains self.old n ⊎ (n ≡ number))) }
     {

@@ -1,4 +1,4 @@
-//! The set of vregs that one place holds: a vreg leaves it, or it is met with another set.
+//! The set of vregs that one place holds: taking a vreg out of it, and meeting it with another set.
 
 ghost use Rattle.std.specs.Prelude.{◌≡◌, ◌≢◌, ◌⊎◌, ℕ, ◌<◌, true, false, ◌&&◌, nat_eq, if◌then◌else◌, length, IfOk, OnOk, OnErr};
 ghost use Rattle.regalloc2_checker_sets.specs.SavedNumbers.{number_now};

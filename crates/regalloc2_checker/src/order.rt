@@ -13,7 +13,8 @@ struct Frame {
     taken: usize,
 }
 
-/// The successor that a walk takes after so many: of two that which is laid out later, and of more the last that is left.
+/// Returns the successor that a walk takes after `taken` others: of two successors the one laid out later first, of more
+/// the last one that is left.
 fn successor(succs: &[Block], taken: usize) -> Option<Block> {
     if let [first, second] = succs {
         if first.index() > second.index() {
@@ -24,7 +25,7 @@ fn successor(succs: &[Block], taken: usize) -> Option<Block> {
     succs.get(left.checked_sub(1)?).copied()
 }
 
-/// Marks a block as visited; returns whether it wasn't.
+/// Marks `block` as visited. Returns whether it wasn't.
 fn is_new(visited: &mut [bool], block: Block) -> bool {
     let index = block.index();
     if index >= visited.len() {
@@ -37,7 +38,7 @@ fn is_new(visited: &mut [bool], block: Block) -> bool {
     true
 }
 
-/// A walk in depth: the blocks that it is in, which it visited, and those that it left, in that order.
+/// A walk in depth: the blocks that it is in, a mark for each visited block, and the blocks that it left, in that order.
 #[derive(Drop)]
 struct Walk<A: Allocator> {
     stack: Vec<Frame, A>,
@@ -46,7 +47,7 @@ struct Walk<A: Allocator> {
 }
 
 impl<A: Allocator> Walk<A> {
-    /// Goes into a block that wasn't visited.
+    /// Enters `block`, unless it was visited.
     fn enter(&mut self, block: Block) -> Result<(), AllocError> {
         if is_new(&mut self.visited, block) {
             self.stack.push(Frame { block, taken: 0 })?;
@@ -54,7 +55,7 @@ impl<A: Allocator> Walk<A> {
         Ok(())
     }
 
-    /// Goes on from a block to its next successor, or leaves it.
+    /// Goes on from the block of `frame` to its next successor, or leaves it.
     fn go_on<F: Function>(&mut self, f: &F, frame: Frame) -> Result<(), AllocError> {
         let Frame { block, taken } = frame;
         if block.index() >= f.num_blocks() {
@@ -70,10 +71,10 @@ impl<A: Allocator> Walk<A> {
     }
 }
 
-/// The blocks that a path reaches, in the order in which a walk in depth leaves them.
+/// Returns the blocks that a path reaches, in the order in which a walk in depth leaves them.
 ///
-/// It takes the exit of a loop before its body, where the body is laid out first; so in this order reversed, a loop's blocks
-/// come before those past it.
+/// The walk takes the exit of a loop before its body, where the body is laid out first. In the reversed order, therefore,
+/// a loop's blocks come before the blocks past the loop.
 fn leave_order<F: Function, A: Allocator + Copy>(
     alloc: A,
     f: &F,
@@ -95,7 +96,7 @@ fn leave_order<F: Function, A: Allocator + Copy>(
     Ok(order)
 }
 
-/// Each block's rank in reverse postorder. A block that no path reaches has none of its own.
+/// Returns each block's rank in reverse postorder. A block that no path reaches has rank 0.
 pub fn ranks<F: Function, A: Allocator + Copy>(alloc: A, f: &F) -> Result<Vec<usize, A>, AllocError>
     requires { IsFramed (F.function f.now) }
 {

@@ -1,9 +1,8 @@
 //! Tables in which a parameter may be passed without a walk over the places of its argument.
 //!
-//! A branch to many blocks may pass one vreg, which many places hold, to a parameter of each. A
-//! block that is entered over one edge alone needn't have its parameter noted at each of these
-//! places: a question about the parameter is answered from its argument, until one of the two is
-//! written, or another edge is met in.
+//! A branch to many blocks may pass one vreg, which many places hold, to a parameter of each. A block that is entered
+//! over one edge alone needn't have its parameter noted at each of these places: a question about the parameter is
+//! answered from its argument, until the parameter or the argument is written, or another edge is met in.
 
 ghost use Rattle.std.specs.Prelude.{◌≡◌, ◌<◌, ◌≢◌, ℕ, true, false, ◌==◌, ◌&&◌, ◌↔◌, nat_eq, nat_lt, if◌then◌else◌, length, get_or, None, Contains, IfOk, OnOk};
 ghost use Rattle.std.specs.Prelude.{min};
@@ -21,14 +20,15 @@ use regalloc2_names::{Allocation, VReg};
 use std::alloc::{AllocError, Allocator};
 use std::marker::Model;
 
-/// A parameter that was passed for an argument, by their positions: what the argument has, the parameter has.
+/// A parameter that was passed for an argument, by their positions: each place that holds the argument holds the
+/// parameter.
 #[derive(Clone, Copy, Drop)]
 pub struct Passed {
     pub parameter: usize,
     pub argument: usize,
 }
 
-/// Tables, and for each the parameter that was passed there and isn't noted at the places of its argument.
+/// Tables, and for each table the parameter that was passed there and isn't noted at the places of its argument.
 #[derive(Drop)]
 pub struct PassingTables<A: Allocator> {
     tables: Tables<A>,
@@ -47,7 +47,7 @@ impl<A: Allocator> Model for PassingTables<A> {
     ghost invariant = { λ t. AreShown (showing t.tables t.passed t.saved.items) };
 }
 
-/// Notes a parameter at the places of its argument.
+/// Notes the parameter of `passed`, if any, at the places of its argument in the current table.
 fn settle<A: Allocator + Copy>(
     alloc: A,
     tables: &mut Tables<A>,
@@ -64,7 +64,7 @@ fn settle<A: Allocator + Copy>(
     tables.give(passed.parameter, &holders)
 }
 
-/// Notes a parameter that was passed in a table there. A spare table takes what is worked on meanwhile.
+/// Notes the parameter of `passed`, if any, in the saved `table`. The table `spare` keeps the current table meanwhile.
 fn settle_in<A: Allocator + Copy>(
     alloc: A,
     tables: &mut Tables<A>,
@@ -91,7 +91,7 @@ fn settle_in<A: Allocator + Copy>(
     Ok(())
 }
 
-/// All numbers of a list but one.
+/// Returns the numbers other than `number`.
 fn all_but<A: Allocator + Copy>(
     alloc: A,
     numbers: &[u32],
@@ -110,7 +110,7 @@ fn all_but<A: Allocator + Copy>(
     Ok(left)
 }
 
-/// Numbers, of which one is in or out.
+/// Returns `numbers` with `number` if `is_in`, and without it otherwise.
 fn with_or_without<A: Allocator + Copy>(
     alloc: A,
     numbers: &[u32],
@@ -129,8 +129,7 @@ fn with_or_without<A: Allocator + Copy>(
 }
 
 impl<A: Allocator + Copy> PassingTables<A> {
-    /// Tables without a member, over listed places and vregs. Past 2^38 places the memory
-    /// allocation fails.
+    /// Returns tables without a member, over listed places and vregs. Past 2^38 places the memory allocation fails.
     pub fn new(
         alloc: A,
         count: usize,
@@ -158,21 +157,21 @@ impl<A: Allocator + Copy> PassingTables<A> {
         })
     }
 
-    /// The position of a place, by its bits.
+    /// Returns the position of `place`, if it is listed.
     pub fn place(&self, place: Allocation) -> Option<usize>
         ensures { result ≡ position (λ n. n == bits_of_place place) self.now.places }
     {
         self.tables.place(place)
     }
 
-    /// The position of a vreg, by its bits.
+    /// Returns the position of the vreg of `bits`, if it is listed.
     pub fn vreg(&self, bits: u32) -> Option<usize>
         ensures { result ≡ position (λ n. n == bits) self.now.vregs }
     {
         self.tables.vreg(bits)
     }
 
-    /// The bits under which a vreg is held.
+    /// Returns the bits under which the vreg of `bits` is held: its argument's, for the parameter that was passed.
     fn read(&self, bits: u32) -> u32
         ensures { result ≡ read_as self.now.vregs self.now.passed bits }
     {
@@ -186,7 +185,7 @@ impl<A: Allocator + Copy> PassingTables<A> {
         bits
     }
 
-    /// Whether a place holds a vreg.
+    /// Returns whether `place` holds the vreg of `bits`.
     pub fn has(&self, place: usize, bits: u32) -> bool
         requires { place < length self.now.places }
         ensures { result ≡ shows_now self.now place bits }
@@ -194,7 +193,7 @@ impl<A: Allocator + Copy> PassingTables<A> {
         self.tables.has(place, self.read(bits))
     }
 
-    /// The vregs that a place holds, by rising bits.
+    /// Returns the bits of the vregs that `place` holds, rising.
     pub fn members(&self, place: usize) -> Result<Vec<u32, A>, AllocError>
         requires { place < length self.now.places }
         ensures rising { IfOk result (λ members. IsStrictlyIncreasing members.items) }
@@ -211,7 +210,7 @@ impl<A: Allocator + Copy> PassingTables<A> {
         Ok(Positions::of(shown).into_numbers())
     }
 
-    /// Empties a place.
+    /// Empties `place`.
     pub fn clear(&mut self, place: usize)
         requires { place < length self.old.places }
         ensures kept { AreTablesKept self.old self.new }
@@ -220,7 +219,7 @@ impl<A: Allocator + Copy> PassingTables<A> {
         self.tables.clear(place);
     }
 
-    /// Gives a place what another has.
+    /// Copies what `from` holds to `to`.
     #[inline(always)]
     pub fn copy(&mut self, from: usize, to: usize) -> Result<(), AllocError>
         requires from { from < length self.old.places }
@@ -231,7 +230,7 @@ impl<A: Allocator + Copy> PassingTables<A> {
         self.tables.copy(from, to)
     }
 
-    /// Notes the parameter that was passed, if one was, at the places of its argument.
+    /// Notes the parameter that was passed in the current table, if any, at the places of its argument.
     #[inline(never)]
     fn settle(&mut self) -> Result<(), AllocError>
         ensures kept { AreTablesKept self.old self.new }
@@ -243,7 +242,7 @@ impl<A: Allocator + Copy> PassingTables<A> {
         Ok(())
     }
 
-    /// Notes the parameter that was passed at the places of its argument, if one of the two is a vreg.
+    /// Notes the parameter that was passed at the places of its argument, if `vreg` is the parameter or the argument.
     #[inline(always)]
     fn settle_for(&mut self, vreg: usize) -> Result<(), AllocError>
         requires { vreg < length self.old.vregs }
@@ -266,7 +265,7 @@ impl<A: Allocator + Copy> PassingTables<A> {
         Ok(())
     }
 
-    /// Takes a vreg out of every place.
+    /// Takes `vreg` out of every place.
     pub fn forget(&mut self, vreg: usize) -> Result<(), AllocError>
         requires { vreg < length self.old.vregs }
         ensures kept { AreTablesKept self.old self.new }
@@ -276,7 +275,7 @@ impl<A: Allocator + Copy> PassingTables<A> {
         self.tables.forget(vreg)
     }
 
-    /// Gives a place one vreg alone, which no other place holds any more.
+    /// Makes `place` hold `vreg` alone, and takes `vreg` out of every other place.
     #[inline(always)]
     pub fn define(&mut self, place: usize, vreg: usize) -> Result<(), AllocError>
         requires place { place < length self.old.places }
@@ -289,7 +288,7 @@ impl<A: Allocator + Copy> PassingTables<A> {
         self.tables.define(place, vreg)
     }
 
-    /// The places that hold a vreg.
+    /// Returns the places that hold `vreg`.
     pub fn holders(&self, alloc: A, vreg: usize) -> Result<Vec<usize, A>, AllocError>
         requires { vreg < length self.now.vregs }
         ensures { IfOk result (λ holders. (i : ℕ) → is_in holders.items i
@@ -306,7 +305,7 @@ impl<A: Allocator + Copy> PassingTables<A> {
         self.tables.holders(alloc, vreg)
     }
 
-    /// Gives a vreg other places, which hold it beside what they hold.
+    /// Makes exactly `places` hold `vreg`, beside what they hold.
     pub fn give(&mut self, vreg: usize, places: &[usize]) -> Result<(), AllocError>
         requires vreg { vreg < length self.old.vregs }
         requires places { (i : ℕ) → is_in places.now i ≡ true → i < length self.old.places }
@@ -317,7 +316,7 @@ impl<A: Allocator + Copy> PassingTables<A> {
         self.tables.give(vreg, places)
     }
 
-    /// Gives a parameter the places of its argument, without going over them.
+    /// Gives `parameter` the places of `argument`, without a walk over them.
     pub fn pass(&mut self, parameter: usize, argument: usize) -> Result<(), AllocError>
         requires parameter { parameter < length self.old.vregs }
         requires argument { argument < length self.old.vregs }
@@ -348,12 +347,12 @@ impl<A: Allocator + Copy> PassingTables<A> {
         self.tables.pass_all(params, arguments)
     }
 
-    /// How many words the tables take.
+    /// Returns how many words the tables take.
     pub fn word_count(&self) -> usize {
         self.tables.word_count()
     }
 
-    /// Drops the tables that have a mark, unless that makes no room, and the one that is worked on.
+    /// Drops the current table and the marked tables. Keeps the marked tables if dropping them makes no room.
     pub fn drop_marked(&mut self, marks: &[bool]) -> Result<(), AllocError>
         ensures places { self.new.places ≡ self.old.places }
         ensures vregs { self.new.vregs ≡ self.old.vregs }
@@ -364,7 +363,7 @@ impl<A: Allocator + Copy> PassingTables<A> {
         self.tables.drop_marked(self.alloc, marks)
     }
 
-    /// Works on a table.
+    /// Makes `table` the current table.
     pub fn load(&mut self, table: usize)
         requires { table < table_count self.old }
         ensures kept { AreTablesKept self.old self.new }
@@ -374,7 +373,7 @@ impl<A: Allocator + Copy> PassingTables<A> {
         self.passed = self.saved[table];
     }
 
-    /// Keeps the table that is worked on under a number.
+    /// Saves the current table as `table`.
     pub fn save(&mut self, table: usize) -> Result<(), AllocError>
         requires { table < table_count self.old }
         ensures places { self.new.places ≡ self.old.places }
@@ -389,7 +388,7 @@ impl<A: Allocator + Copy> PassingTables<A> {
         Ok(())
     }
 
-    /// Notes the parameter that was passed in a table, if one was, at the places of its argument.
+    /// Notes the parameter that was passed in `table`, if any, at the places of its argument.
     fn settle_saved(&mut self, table: usize) -> Result<(), AllocError>
         requires { table < table_count self.old }
         ensures places { self.new.places ≡ self.old.places }
@@ -410,8 +409,8 @@ impl<A: Allocator + Copy> PassingTables<A> {
         Ok(())
     }
 
-    /// Keeps in a table only what the one that is worked on holds too; returns whether that is less
-    /// than it held. The one that is worked on is lost.
+    /// Keeps in `table` only what the current table holds too. Returns whether that is less than it held. The current
+    /// table is lost.
     pub fn meet(&mut self, table: usize) -> Result<bool, AllocError>
         requires { table < table_count self.old }
         ensures places { self.new.places ≡ self.old.places }

@@ -10,7 +10,7 @@ use regalloc2_names::{Allocation, PRegSet};
 use std::alloc::{AllocError, Allocator};
 use std::marker::Model;
 
-/// The bits of the places that were listed. Missing ones are left out.
+/// The bits of the places that were listed. Missing places are left out.
 #[derive(Drop)]
 pub struct PlaceList<A: Allocator> {
     registers: PRegSet,
@@ -30,7 +30,7 @@ impl<A: Allocator> Model for PlaceList<A> {
 }
 
 impl<A: Allocator + Copy> PlaceList<A> {
-    /// An empty list, with a cell for each of so many slots.
+    /// Returns an empty list, with a cell for each of `slots` slots.
     pub fn new(alloc: A, slots: usize) -> Result<PlaceList<A>, AllocError>
         ensures { IfOk result (λ l. l ≡ []) }
     {
@@ -40,7 +40,7 @@ impl<A: Allocator + Copy> PlaceList<A> {
         })
     }
 
-    /// The bits of registers by rising index, then those of slots.
+    /// Returns the bits of the registers by rising index, then the bits of the slots.
     pub fn into_numbers(self, alloc: A) -> Result<Vec<u32, A>, AllocError>
         ensures { IfOk result (λ numbers. numbers.items ≡ self) }
     {
@@ -55,7 +55,7 @@ impl<A: Allocator + Copy> PlaceList<A> {
 }
 
 impl<A: Allocator> PlaceList<A> {
-    /// Lists a place, unless it is missing.
+    /// Lists `place`, unless it is missing.
     #[inline(always)]
     pub fn list(&mut self, place: Allocation) -> Result<(), AllocError>
         ensures { OnOk result (ArePlacesAdded self.old self.new (place ∷ [])) }
@@ -70,7 +70,7 @@ impl<A: Allocator> PlaceList<A> {
         Ok(())
     }
 
-    /// Lists registers.
+    /// Lists `regs`.
     pub fn list_registers(&mut self, regs: PRegSet)
         ensures { ArePlacesAdded self.old self.new (map InRegister (registers_of regs)) }
     {

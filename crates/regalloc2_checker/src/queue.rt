@@ -9,7 +9,7 @@ use std::alloc::{AllocError, Allocator};
 use std::cmp::Reverse;
 use std::collections::BinaryHeap;
 
-/// The blocks that changed since they were passed on, each once, by rank.
+/// The blocks that changed since they were propagated, each once, by rank.
 #[derive(Drop)]
 pub struct Queue<A: Allocator> {
     pub ranks: Vec<usize, A>,
@@ -18,7 +18,7 @@ pub struct Queue<A: Allocator> {
 }
 
 impl<A: Allocator + Copy> Queue<A> {
-    /// Puts a block into the queue, unless it is there.
+    /// Queues `block`, unless it is queued.
     pub fn push(&mut self, block: usize) -> Result<(), AllocError>
         requires block { block < length self.old.is_queued.items }
         requires queue { IsQueue self.old.is_queued.items (heap_items self.old.heap) }
@@ -37,7 +37,7 @@ impl<A: Allocator + Copy> Queue<A> {
         Ok(())
     }
 
-    /// Takes the first block.
+    /// Takes the block of lowest rank out of the queue.
     pub fn pop(&mut self) -> Option<usize>
         requires { IsQueue self.old.is_queued.items (heap_items self.old.heap) }
         ensures none { result ≡ None → (b : ℕ) → b < length self.old.is_queued.items → mark_at self.old.is_queued.items b ≡ false }

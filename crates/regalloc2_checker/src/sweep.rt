@@ -38,7 +38,7 @@ struct Sweep<A: Allocator> {
     limit: usize,
 }
 
-/// Checks a block, if a path reaches it and it isn't done. Returns whether it has no error.
+/// Checks `block`, if a path reaches it and it isn't done. Returns whether it has no error.
 fn finish<F: Function, A: Allocator + Copy>(
     by: &Judging<'_, '_, F, A>,
     sweep: &mut Sweep<A>,
@@ -70,7 +70,7 @@ fn finish<F: Function, A: Allocator + Copy>(
     Ok(errors.is_empty())
 }
 
-/// Whether a block's rank is below one, if one is given.
+/// Returns whether the rank of `block` is below `rank`, or there is no `rank`.
 fn is_below(ranks: &[usize], block: usize, rank: Option<usize>) -> bool
     ensures { rank ≡ None → result ≡ true }
 {
@@ -80,7 +80,7 @@ fn is_below(ranks: &[usize], block: usize, rank: Option<usize>) -> bool
     ranks.get(block).copied().unwrap_or(rank) < rank
 }
 
-/// Checks the blocks below a rank, if one is given, or else all. Returns whether they have no errors.
+/// Checks the blocks below `rank`, or all of them if there is no `rank`. Returns whether they have no errors.
 fn finish_below<F: Function, A: Allocator + Copy>(
     by: &Judging<'_, '_, F, A>,
     sweep: &mut Sweep<A>,
@@ -109,7 +109,7 @@ fn finish_below<F: Function, A: Allocator + Copy>(
     Ok(true)
 }
 
-/// The lowest rank to which a block leads, or a rank that is lower.
+/// Returns the lowest rank of a successor of `block`, or `rank` if it is lower.
 fn lowest_successor<F: Function>(f: &F, ranks: &[usize], block: Block, rank: usize) -> usize
     requires { block < length (F.function f.now).blocks }
 {
@@ -120,8 +120,8 @@ fn lowest_successor<F: Function>(f: &F, ranks: &[usize], block: Block, rank: usi
     lowest
 }
 
-/// The lowest rank to which a block of a rank, or of a higher one, leads, or the rank itself if that is lower. Blocks below it
-/// can't change while no block below the given rank does.
+/// Returns the lowest rank of a successor of the blocks from `rank` on, or `rank` if it is lower. Blocks below the result
+/// can't change while no block below `rank` does.
 fn lowest_rank<F: Function>(f: &F, ranks: &[usize], rank: usize) -> usize {
     let mut lowest = rank;
     for b in 0..f.num_blocks() {
@@ -133,8 +133,8 @@ fn lowest_rank<F: Function>(f: &F, ranks: &[usize], rank: usize) -> usize {
     lowest
 }
 
-/// Where tables take more words than they may, checks the blocks that can't change any more, and drops the tables of those
-/// that are done. Returns whether no error was found.
+/// Makes room if the tables take more words than they may: checks the blocks that can't change any more, and drops the
+/// tables of the blocks that are done. Returns whether no error was found.
 fn make_room<F: Function, A: Allocator + Copy>(
     by: &Judging<'_, '_, F, A>,
     sweep: &mut Sweep<A>,
@@ -164,7 +164,7 @@ fn make_room<F: Function, A: Allocator + Copy>(
     Ok(true)
 }
 
-/// Whether a block or a successor is done.
+/// Returns whether `block` or one of its successors is done.
 fn leads_to_done<F: Function>(f: &F, is_done: &[bool], block: Block) -> bool
     requires framed { IsFramed (F.function f.now) }
     requires block { block < length (F.function f.now).blocks }
@@ -183,8 +183,8 @@ fn leads_to_done<F: Function>(f: &F, is_done: &[bool], block: Block) -> bool
     false
 }
 
-/// How many words tables may take before some are dropped. It grows with the blocks and edges, because tables are dropped
-/// after a walk over all of these.
+/// Returns how many words the tables may take before some are dropped. The number grows with the blocks and edges,
+/// because dropping tables walks over all of them.
 fn room_for<F: Function>(f: &F) -> usize {
     let mut count: usize = 0;
     for b in 0..f.num_blocks() {
@@ -194,7 +194,8 @@ fn room_for<F: Function>(f: &F) -> usize {
     std::cmp::max(LEAST_ROOM, count.saturating_mul(4))
 }
 
-/// Passes on what a block has. Returns `false` if an error was found, or if the block is done or leads to one that is.
+/// Propagates the facts of `block`. Returns `false` if an error was found, or if `block` or one of its successors is
+/// done.
 fn pass_on<F: Function, A: Allocator + Copy>(
     by: &Judging<'_, '_, F, A>,
     sweep: &mut Sweep<A>,
@@ -219,7 +220,7 @@ fn pass_on<F: Function, A: Allocator + Copy>(
     Ok(true)
 }
 
-/// Passes blocks on until nothing changes, and checks them. Returns whether they have no errors.
+/// Propagates the facts until nothing changes, and checks the blocks. Returns whether they have no errors.
 fn pass_all_on<F: Function, A: Allocator + Copy>(
     by: &Judging<'_, '_, F, A>,
     sweep: &mut Sweep<A>,
@@ -245,7 +246,7 @@ fn pass_all_on<F: Function, A: Allocator + Copy>(
     Ok(false)
 }
 
-/// A check before anything is passed on.
+/// Returns a check before the first propagation.
 fn start_sweep<F: Function, A: Allocator + Copy, C: Allocator>(
     alloc: A,
     f: &F,
@@ -267,8 +268,8 @@ fn start_sweep<F: Function, A: Allocator + Copy, C: Allocator>(
     })
 }
 
-/// Whether an output has no errors. Returns `false` too if an edge from a block that changed leads to one whose table was
-/// dropped.
+/// Returns whether `out` has no errors. Returns `false` too if an edge from a block that changed leads to a block whose
+/// table was dropped.
 pub fn is_clean<F: Function, A: Allocator + Copy, C: Allocator>(
     alloc: A,
     f: &F,

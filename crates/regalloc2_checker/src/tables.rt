@@ -34,10 +34,10 @@ use std::marker::Model;
 /// How many homes of a vreg, the places where it may be, are many.
 const MANY_HOMES: usize = 64;
 
-/// Tables of which vregs places hold, by number, and one that is worked on.
+/// Tables of which vregs places hold, by number, and the current table.
 ///
-/// Places and vregs are listed once, and named by their positions there. Each table has one set of the bits of
-/// vregs for each place. Tables share what they have in common.
+/// Places and vregs are listed once, and named by their positions there. Each table has one set of the bits of vregs for
+/// each place. Tables share equal chunks and sets.
 #[derive(Drop)]
 pub struct Tables<A: Allocator> {
     places: PlacePositions<A>,
@@ -58,7 +58,7 @@ impl<A: Allocator> Model for Tables<A> {
     ghost invariant = { λ t. IsSoundHolding (record { places = t.places; vregs = t.vregs; entries = t.entries; sets = t.sets; homes = t.homes }) };
 }
 
-/// Takes a vreg out of the places of a home's mask and of its two numbers.
+/// Takes the vreg of `bits` out of the places of the mask and the numbers of `home`.
 #[inline(never)]
 fn drop_each<A: Allocator + Copy>(
     entries: &mut Entries<A>,
@@ -78,7 +78,7 @@ fn drop_each<A: Allocator + Copy>(
     Ok(())
 }
 
-/// Takes a vreg out of the places of a home's mask and of its two numbers.
+/// Takes the vreg of `bits` out of the places of the mask and the numbers of `home`, if there are any.
 #[inline(always)]
 fn drop_few<A: Allocator + Copy>(
     entries: &mut Entries<A>,
@@ -92,14 +92,14 @@ fn drop_few<A: Allocator + Copy>(
         ≡ (if has_few home.now i && nat_eq y bits then false else held sets.old entries.old i y)) }
     ensures err { OnErr result ((i y : ℕ) → i < length entries.old.cells → held sets.new entries.new i y ≡ true → held sets.old entries.old i y ≡ true) }
 {
-    // A vreg that is written for the first time has none.
+    // A vreg that is written for the first time has no places.
     if home.has_no_few() {
         return Ok(());
     }
     drop_each(entries, sets, home, bits)
 }
 
-/// Takes a vreg out of the places of a set.
+/// Takes the vreg of `bits` out of each place of the set `places`.
 fn drop_members<A: Allocator + Copy>(
     entries: &mut Entries<A>,
     sets: &mut Sets<A>,
@@ -118,7 +118,7 @@ fn drop_members<A: Allocator + Copy>(
     Ok(())
 }
 
-/// Takes a vreg out of listed places.
+/// Takes the vreg of `bits` out of each of the listed `places`.
 fn drop_listed<A: Allocator + Copy>(
     entries: &mut Entries<A>,
     sets: &mut Sets<A>,
@@ -137,7 +137,7 @@ fn drop_listed<A: Allocator + Copy>(
     Ok(())
 }
 
-/// Takes a vreg out of all places; visits only those that hold something.
+/// Takes the vreg of `bits` out of every place. Visits only the places that hold something.
 fn drop_filled<A: Allocator + Copy>(
     alloc: A,
     entries: &mut Entries<A>,
@@ -155,7 +155,7 @@ fn drop_filled<A: Allocator + Copy>(
     drop_listed(entries, sets, &places, bits)
 }
 
-/// Takes a vreg out of the places where it may be.
+/// Takes the vreg of `bits` out of the places of `home`, where it may be.
 #[inline(always)]
 fn drop_everywhere<A: Allocator + Copy>(
     entries: &mut Entries<A>,
@@ -176,7 +176,7 @@ fn drop_everywhere<A: Allocator + Copy>(
     drop_members(entries, sets, others, bits)
 }
 
-/// Lists a place, if it is below a bound and holds a vreg.
+/// Lists `place`, if it is below `bound` and holds the vreg of `bits`.
 #[inline(always)]
 fn list_holder<A: Allocator + Copy>(
     holders: &mut Vec<usize, A>,
@@ -201,7 +201,7 @@ fn list_holder<A: Allocator + Copy>(
     Ok(())
 }
 
-/// Lists the places of a home's mask and of its two numbers that are below a bound and hold a vreg.
+/// Lists the places of the mask and the numbers of `home` that are below `bound` and hold the vreg of `bits`.
 fn list_few<A: Allocator + Copy>(
     holders: &mut Vec<usize, A>,
     entries: &Entries<A>,
@@ -221,7 +221,7 @@ fn list_few<A: Allocator + Copy>(
     Ok(())
 }
 
-/// Lists the places of a set that are below a bound and hold a vreg.
+/// Lists the places of the set `places` that are below `bound` and hold the vreg of `bits`.
 fn list_members<A: Allocator + Copy>(
     holders: &mut Vec<usize, A>,
     entries: &Entries<A>,
@@ -241,7 +241,7 @@ fn list_members<A: Allocator + Copy>(
     Ok(())
 }
 
-/// The places below a bound where a vreg may be and is.
+/// Returns the places of `home` that are below `bound` and hold the vreg of `bits`.
 fn holders_among<A: Allocator + Copy>(
     alloc: A,
     entries: &Entries<A>,
@@ -264,7 +264,7 @@ fn holders_among<A: Allocator + Copy>(
     Ok(holders)
 }
 
-/// Notes that a vreg may be at a place, if it is listed.
+/// Notes that the vreg of `bits` may be at `place`, if it is listed.
 #[inline(always)]
 fn note<A: Allocator + Copy>(
     vregs: &Positions<A>,
@@ -284,7 +284,7 @@ fn note<A: Allocator + Copy>(
     homes.add(vreg, place)
 }
 
-/// Notes that listed vregs may be at a place.
+/// Notes that the listed vregs of `members` may be at `place`.
 #[inline(never)]
 fn note_all<A: Allocator + Copy>(
     vregs: &Positions<A>,
@@ -340,7 +340,7 @@ fn note_all_places<A: Allocator + Copy>(
     Ok(())
 }
 
-/// Notes that two vregs may be at a place, if they are listed.
+/// Notes that the two vregs of `pair` may be at `place`, if they are listed.
 #[inline(never)]
 fn note_two<A: Allocator + Copy>(
     vregs: &Positions<A>,
@@ -359,7 +359,7 @@ fn note_two<A: Allocator + Copy>(
     note(vregs, homes, pair.1, place)
 }
 
-/// Notes that the listed vregs of a set may be at a place.
+/// Notes that the listed vregs of `set` may be at `place`.
 #[inline(always)]
 fn note_set<A: Allocator + Copy>(
     vregs: &Positions<A>,
@@ -389,7 +389,7 @@ fn note_set<A: Allocator + Copy>(
     note_all(vregs, homes, &members, place)
 }
 
-/// How many positions of a chunk are below a bound.
+/// Returns how many positions of `chunk` are below `bound`.
 fn count_below(chunk: usize, bound: usize) -> usize
     ensures few { result ≤ 64 }
     ensures below { 0 < result → 64 * chunk + result ≤ bound }
@@ -402,8 +402,8 @@ fn count_below(chunk: usize, bound: usize) -> usize
     if chunk == whole { bound % 64 } else { 0 }
 }
 
-/// Keeps in a chunk of the array only what a saved copy has too, at the positions below a bound; returns whether the copy
-/// has more, or `before` is set.
+/// Keeps in `chunk` of the array only what the saved copy `table` has too, at the positions below `bound`. Returns
+/// whether the copy has more, or `before` is set.
 fn meet_chunk<A: Allocator + Copy>(
     entries: &mut Entries<A>,
     sets: &mut Sets<A>,
@@ -431,8 +431,8 @@ fn meet_chunk<A: Allocator + Copy>(
     Ok(is_less)
 }
 
-/// Keeps in the array only what a saved copy has too, at the positions below a bound; returns
-/// whether the copy has more.
+/// Keeps in the array only what the saved copy `table` has too, at the positions below `bound`. Returns whether the copy
+/// has more.
 fn meet_entries<A: Allocator + Copy>(
     entries: &mut Entries<A>,
     sets: &mut Sets<A>,
@@ -462,8 +462,7 @@ fn meet_entries<A: Allocator + Copy>(
 }
 
 impl<A: Allocator + Copy> Tables<A> {
-    /// Tables without a member, over listed places and vregs. Past 2^38 places the memory
-    /// allocation fails.
+    /// Returns tables without a member, over listed places and vregs. Past 2^38 places the memory allocation fails.
     pub fn new(
         alloc: A,
         count: usize,
@@ -494,21 +493,21 @@ impl<A: Allocator + Copy> Tables<A> {
         })
     }
 
-    /// The position of a place, by its bits.
+    /// Returns the position of `place`, if it is listed.
     pub fn place(&self, place: Allocation) -> Option<usize>
         ensures { result ≡ position (λ n. n == bits_of_place place) self.now.places }
     {
         self.places.find(place)
     }
 
-    /// The position of a vreg, by its bits.
+    /// Returns the position of the vreg of `bits`, if it is listed.
     pub fn vreg(&self, bits: u32) -> Option<usize>
         ensures { result ≡ position (λ n. n == bits) self.now.vregs }
     {
         self.vregs.find(bits, bits as usize / 4)
     }
 
-    /// The bits of the vreg at a position.
+    /// Returns the bits of the vreg at the position `vreg`.
     pub fn bits(&self, vreg: usize) -> u32
         requires { vreg < length self.now.vregs }
         ensures { result ≡ get_or self.now.vregs vreg 0 }
@@ -516,7 +515,7 @@ impl<A: Allocator + Copy> Tables<A> {
         self.vregs.number(vreg)
     }
 
-    /// Whether a place holds a vreg.
+    /// Returns whether `place` holds the vreg of `bits`.
     pub fn has(&self, place: usize, bits: u32) -> bool
         requires { place < length self.now.places }
         ensures { result ≡ holds_now self.now place bits }
@@ -524,7 +523,7 @@ impl<A: Allocator + Copy> Tables<A> {
         self.sets.has(self.entries.get(place), bits)
     }
 
-    /// The vregs that a place holds, by rising bits.
+    /// Returns the bits of the vregs that `place` holds, rising.
     pub fn members(&self, place: usize) -> Result<Vec<u32, A>, AllocError>
         requires { place < length self.now.places }
         ensures rising { IfOk result (λ members. IsStrictlyIncreasing members.items) }
@@ -534,7 +533,7 @@ impl<A: Allocator + Copy> Tables<A> {
         Ok(Positions::of(listed).into_numbers())
     }
 
-    /// Empties a place.
+    /// Empties `place`.
     pub fn clear(&mut self, place: usize)
         requires { place < length self.old.places }
         ensures kept { AreKeptTables self.old self.new }
@@ -543,7 +542,7 @@ impl<A: Allocator + Copy> Tables<A> {
         self.entries.set(place, 0);
     }
 
-    /// Gives a place what another has.
+    /// Copies what `from` holds to `to`.
     #[inline(always)]
     pub fn copy(&mut self, from: usize, to: usize) -> Result<(), AllocError>
         requires from { from < length self.old.places }
@@ -557,7 +556,8 @@ impl<A: Allocator + Copy> Tables<A> {
         Ok(())
     }
 
-    /// Whether a vreg may be in many places, and in more than the chunks have that aren't stored as zeros.
+    /// Returns whether `vreg` may be in many places, and in more than there are in the chunks that aren't stored as
+    /// zeros.
     #[inline(always)]
     fn has_many_homes(&self, vreg: usize) -> bool
         requires { vreg < length self.now.vregs }
@@ -566,14 +566,14 @@ impl<A: Allocator + Copy> Tables<A> {
         if count < MANY_HOMES {
             return false;
         }
-        // Counting those chunks would take longer.
+        // Counting the chunks would take longer.
         if count < self.entries.len() / 1024 {
             return false;
         }
         self.entries.filled_count() <= count / 64
     }
 
-    /// Takes a vreg out of every place; visits only those that hold something.
+    /// Takes `vreg` out of every place. Visits only the places that hold something.
     #[inline(never)]
     fn forget_filled(&mut self, vreg: usize) -> Result<(), AllocError>
         requires { vreg < length self.old.vregs }
@@ -584,7 +584,7 @@ impl<A: Allocator + Copy> Tables<A> {
         drop_filled(self.alloc, &mut self.entries, &mut self.sets, bits)
     }
 
-    /// Takes a vreg out of every place.
+    /// Takes `vreg` out of every place.
     #[inline(always)]
     pub fn forget(&mut self, vreg: usize) -> Result<(), AllocError>
         requires { vreg < length self.old.vregs }
@@ -603,7 +603,7 @@ impl<A: Allocator + Copy> Tables<A> {
         )
     }
 
-    /// Gives a place a set.
+    /// Makes `place` hold `set`, and notes that `vreg` may be there.
     #[inline(always)]
     fn put(&mut self, place: usize, vreg: usize, set: u32) -> Result<(), AllocError>
         requires place { place < length self.old.places }
@@ -619,7 +619,7 @@ impl<A: Allocator + Copy> Tables<A> {
         Ok(())
     }
 
-    /// A set of one vreg alone.
+    /// Returns the number of the set of `vreg` alone.
     fn single(&mut self, vreg: usize) -> Result<u32, AllocError>
         requires { vreg < length self.old.vregs }
         ensures kept { AreKeptTables self.old self.new }
@@ -629,7 +629,7 @@ impl<A: Allocator + Copy> Tables<A> {
         self.sets.single(self.vregs.number(vreg))
     }
 
-    /// Gives a place one vreg alone, which no other place holds any more.
+    /// Makes `place` hold `vreg` alone, and takes `vreg` out of every other place.
     #[inline(always)]
     pub fn define(&mut self, place: usize, vreg: usize) -> Result<(), AllocError>
         requires place { place < length self.old.places }
@@ -643,7 +643,7 @@ impl<A: Allocator + Copy> Tables<A> {
         self.put(place, vreg, set)
     }
 
-    /// The places that hold a vreg.
+    /// Returns the places that hold `vreg`.
     pub fn holders(&self, alloc: A, vreg: usize) -> Result<Vec<usize, A>, AllocError>
         requires { vreg < length self.now.vregs }
         ensures { IfOk result (λ holders. (i : ℕ) → is_in holders.items i
@@ -659,7 +659,7 @@ impl<A: Allocator + Copy> Tables<A> {
         )
     }
 
-    /// What a place holds, and a vreg.
+    /// Returns the number of the set of what `place` holds, and of `vreg`.
     fn with(&mut self, place: usize, vreg: usize) -> Result<u32, AllocError>
         requires place { place < length self.old.places }
         requires vreg { vreg < length self.old.vregs }
@@ -672,7 +672,7 @@ impl<A: Allocator + Copy> Tables<A> {
             .with(self.entries.get(place), self.vregs.number(vreg))
     }
 
-    /// Adds a vreg to what a place holds.
+    /// Adds `vreg` to what `place` holds.
     fn add_at(&mut self, place: usize, vreg: usize) -> Result<(), AllocError>
         requires place { place < length self.old.places }
         requires vreg { vreg < length self.old.vregs }
@@ -684,7 +684,7 @@ impl<A: Allocator + Copy> Tables<A> {
         self.put(place, vreg, set)
     }
 
-    /// Gives a vreg other places, which hold it beside what they hold.
+    /// Makes exactly `places` hold `vreg`, beside what they hold.
     pub fn give(&mut self, vreg: usize, places: &[usize]) -> Result<(), AllocError>
         requires vreg { vreg < length self.old.vregs }
         requires places { (i : ℕ) → is_in places.now i ≡ true → i < length self.old.places }
@@ -723,14 +723,15 @@ impl<A: Allocator + Copy> Tables<A> {
         Ok(())
     }
 
-    /// How many words the tables take, with their sets.
+    /// Returns how many words the tables take, with their sets.
     pub fn word_count(&self) -> usize {
         self.entries
             .word_count()
             .saturating_add(self.sets.word_count())
     }
 
-    /// Drops the tables that have a mark, unless that makes no room, the one that is worked on, and sets that none has.
+    /// Drops the current table, the marked tables, and the sets that no table has. Keeps the marked tables if dropping
+    /// them makes no room.
     pub fn drop_marked(&mut self, alloc: A, marks: &[bool]) -> Result<(), AllocError>
         ensures places { self.new.places ≡ self.old.places }
         ensures vregs { self.new.vregs ≡ self.old.vregs }
@@ -745,7 +746,7 @@ impl<A: Allocator + Copy> Tables<A> {
         drop_unused_sets(alloc, &mut self.entries, &mut self.sets)
     }
 
-    /// Works on a table.
+    /// Makes `table` the current table.
     pub fn load(&mut self, table: usize)
         requires { table < count_of self.old }
         ensures kept { AreKeptTables self.old self.new }
@@ -754,7 +755,7 @@ impl<A: Allocator + Copy> Tables<A> {
         self.entries.load(table);
     }
 
-    /// Keeps the table that is worked on under a number.
+    /// Saves the current table as `table`.
     pub fn save(&mut self, table: usize) -> Result<(), AllocError>
         requires { table < count_of self.old }
         ensures places { self.new.places ≡ self.old.places }
@@ -767,8 +768,8 @@ impl<A: Allocator + Copy> Tables<A> {
         self.entries.save(table)
     }
 
-    /// Keeps in a table only what the one that is worked on holds too; returns whether that is less
-    /// than it held. The one that is worked on is lost.
+    /// Keeps in `table` only what the current table holds too. Returns whether that is less than it held. The current
+    /// table is lost.
     pub fn meet(&mut self, table: usize) -> Result<bool, AllocError>
         requires { table < count_of self.old }
         ensures places { self.new.places ≡ self.old.places }

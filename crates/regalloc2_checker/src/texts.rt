@@ -87,7 +87,7 @@ impl<A: Allocator> fmt::Display for FaultLine<'_, A> {
     }
 }
 
-/// Vregs behind others, as `, v0i, v3f`.
+/// Vregs after others, as `, v0i, v3f`.
 #[derive(Clone, Copy)]
 struct NextVRegs<'a>(&'a [VReg]);
 
@@ -120,7 +120,7 @@ impl fmt::Display for VRegs<'_> {
     }
 }
 
-/// The words of an error whose operand names no other one, up to the number that it names.
+/// Returns the words of the violated `constraint`, up to the operand's number that it names.
 fn violated_words(constraint: OperandConstraint) -> &'static str
     ensures { result.now ≡ violated_words constraint }
 {
@@ -151,7 +151,7 @@ fn words_for<A: Allocator>(error: &CheckerError<A>) -> &'static str
     }
 }
 
-/// The names behind the words: vregs, an operand's index or a place.
+/// The names after the words: vregs, an operand's index or a place.
 #[derive(Drop)]
 struct Detail<'a, A: Allocator>(&'a CheckerError<A>);
 
@@ -176,7 +176,8 @@ impl<A: Allocator> fmt::Display for Detail<'_, A> {
     }
 }
 
-/// Its line, and what is wrong: `error 4 inst3 Use: v1i reg [p9i]: the place holds v0i` or `error 12: the output is out of order`.
+/// Writes the error's line, and what is wrong: `error 4 inst3 Use: v1i reg [p9i]: the place holds v0i` or `error 12: the
+/// output is out of order`.
 impl<A: Allocator> fmt::Display for CheckerError<A> {
     ghost output = { λ e. Some (error_text e) };
 

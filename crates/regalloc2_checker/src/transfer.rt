@@ -17,10 +17,11 @@ use regalloc2_function::Edit;
 use regalloc2_names::{Allocation, Operand, PRegSet, ProgPoint, VReg};
 use std::alloc::{AllocError, Allocator};
 
-/// Up to this many parameters get their arguments' places one after another, without a step before.
+/// Up to this many parameters are assigned one by one. If there are more, all are forgotten first, so that no place holds
+/// an old and a new one, or one walk over all places passes them.
 const FEW_PARAMS: usize = 8;
 
-/// Makes a move.
+/// Copies the contents of `from` to `to`.
 #[inline(always)]
 fn make_move<A: Allocator + Copy>(
     values: &mut PassingTables<A>,
@@ -42,7 +43,7 @@ fn make_move<A: Allocator + Copy>(
     Ok(())
 }
 
-/// Makes the moves, one by one.
+/// Makes `moves` in turn.
 #[inline(always)]
 fn make_moves<A: Allocator + Copy>(
     values: &mut PassingTables<A>,
@@ -61,7 +62,7 @@ fn make_moves<A: Allocator + Copy>(
     Ok(())
 }
 
-/// Empties a place.
+/// Empties `place`.
 #[inline(always)]
 fn clear_place<A: Allocator + Copy>(values: &mut PassingTables<A>, place: Allocation)
     requires { IsMissingUnlisted values.old.places }
@@ -73,7 +74,7 @@ fn clear_place<A: Allocator + Copy>(values: &mut PassingTables<A>, place: Alloca
     }
 }
 
-/// Empties the place of the operand with an index, if it is an early definition.
+/// Empties the place of operand `k` if it is an early definition.
 fn clear_early_def<A: Allocator + Copy>(
     values: &mut PassingTables<A>,
     places: &[Allocation],
@@ -110,7 +111,7 @@ fn clear_early_defs<A: Allocator + Copy>(
     }
 }
 
-/// Writes a vreg to a place.
+/// Writes `vreg` to `place`, and takes it out of every other place.
 #[inline(always)]
 fn write_one<A: Allocator + Copy>(
     values: &mut PassingTables<A>,
@@ -134,7 +135,7 @@ fn write_one<A: Allocator + Copy>(
     Ok(())
 }
 
-/// Writes what the operand with an index defines, if it does.
+/// Writes the vreg of operand `k` to its place if it is a definition.
 #[inline(always)]
 fn write_def<A: Allocator + Copy>(
     values: &mut PassingTables<A>,
@@ -187,8 +188,8 @@ fn clear_clobbers<A: Allocator + Copy>(values: &mut PassingTables<A>, clobbers: 
     }
 }
 
-/// Goes on to where an instruction's early uses are read: the moves before it are made, and the places of its early
-/// definitions are emptied.
+/// Goes on to the point at which an instruction reads its early uses: makes the moves before it, and empties the places
+/// of its early definitions.
 #[inline(always)]
 pub fn go_to_early<A: Allocator + Copy>(
     values: &mut PassingTables<A>,
@@ -207,7 +208,8 @@ pub fn go_to_early<A: Allocator + Copy>(
     Ok(())
 }
 
-/// Goes on to where its late uses are read: the definitions are written, and the clobbered registers are emptied.
+/// Goes on to the point at which an instruction reads its late uses: writes its definitions, and empties the clobbered
+/// registers.
 #[inline(always)]
 pub fn go_to_late<A: Allocator + Copy>(
     values: &mut PassingTables<A>,
@@ -226,7 +228,7 @@ pub fn go_to_late<A: Allocator + Copy>(
     Ok(())
 }
 
-/// The places that hold a vreg.
+/// Returns the places that hold `vreg`.
 fn holders<A: Allocator + Copy>(
     alloc: A,
     values: &PassingTables<A>,
@@ -242,7 +244,7 @@ fn holders<A: Allocator + Copy>(
     Ok(found)
 }
 
-/// The places that hold each of some vregs.
+/// Returns, for each of `vregs`, the places that hold it.
 fn holders_of_all<A: Allocator + Copy>(
     alloc: A,
     values: &PassingTables<A>,
@@ -259,7 +261,7 @@ fn holders_of_all<A: Allocator + Copy>(
     Ok(had)
 }
 
-/// Gives a parameter the places of its argument.
+/// Gives `param` the places in `places`, which held its argument.
 fn give<A: Allocator + Copy>(
     values: &mut PassingTables<A>,
     param: VReg,
@@ -277,7 +279,7 @@ fn give<A: Allocator + Copy>(
     Ok(())
 }
 
-/// Takes a vreg out of every place.
+/// Takes `vreg` out of every place.
 fn forget<A: Allocator + Copy>(values: &mut PassingTables<A>, vreg: VReg) -> Result<(), AllocError>
     requires { IsListedVReg values.old.vregs vreg }
     ensures kept { OnOk result (AreTablesKept values.old values.new) }
@@ -290,8 +292,8 @@ fn forget<A: Allocator + Copy>(values: &mut PassingTables<A>, vreg: VReg) -> Res
     Ok(())
 }
 
-/// Takes parameters that are to get their arguments' places out of those where they are, if they are many. So no place holds
-/// an old parameter beside a new one meanwhile, as it would where a loop passes its parameters on in another order.
+/// Takes `params` out of every place if there are more than `FEW_PARAMS`. Otherwise a place would hold an old parameter
+/// beside a new one meanwhile, where a loop passes its parameters on in another order.
 fn forget_params<A: Allocator + Copy>(
     values: &mut PassingTables<A>,
     params: &[VReg],
@@ -313,7 +315,7 @@ fn forget_params<A: Allocator + Copy>(
     Ok(())
 }
 
-/// Gives a block's parameters what its arguments had, all at once.
+/// Gives `params` the places of `arguments`, all at once.
 fn assign_params<A: Allocator + Copy>(
     alloc: A,
     values: &mut PassingTables<A>,
@@ -360,7 +362,7 @@ fn pass_params<A: Allocator + Copy>(
     values.pass_all(&taken, &passed)
 }
 
-/// Gives a block's one parameter what its argument has, without going over the places that hold it.
+/// Gives `param` the places of `argument`, without a walk over them.
 fn pass_param<A: Allocator + Copy>(
     values: &mut PassingTables<A>,
     param: VReg,
@@ -381,7 +383,7 @@ fn pass_param<A: Allocator + Copy>(
     Ok(())
 }
 
-/// Whether a block is entered over one edge, which passes one argument to one parameter.
+/// Returns whether a block is entered over one edge, which passes one argument to one parameter.
 fn passes_one(is_entered_once: bool, params: &[VReg], arguments: &[VReg]) -> bool
     ensures { (result ≡ true) ↔ ((is_entered_once ≡ true) × (length params.now ≡ 1) × (length arguments.now ≡ 1)) }
 {
@@ -394,8 +396,8 @@ fn passes_one(is_entered_once: bool, params: &[VReg], arguments: &[VReg]) -> boo
     arguments.len() == 1
 }
 
-/// Gives a block's parameters what its arguments had, all at once. One parameter alone of a block that is entered over one
-/// edge is passed as such. Arguments that may be in many places are passed by a walk over all places.
+/// Gives `params` the places of `arguments`, all at once. A lone parameter of a block that is entered over one edge is
+/// only noted beside its argument. Arguments that may be in many places are passed by one walk over all places.
 pub fn take_arguments<A: Allocator + Copy>(
     alloc: A,
     values: &mut PassingTables<A>,

@@ -17,7 +17,7 @@ use regalloc2_function::Function;
 use regalloc2_index::{Block, Inst};
 use std::alloc::{AllocError, Allocator};
 
-/// Runs one instruction of a block.
+/// Transfers the current table over `inst` of `block`.
 fn transfer_inst<F: Function, A: Allocator + Copy>(
     f: &F,
     listing: &Listing<'_>,
@@ -43,7 +43,7 @@ fn transfer_inst<F: Function, A: Allocator + Copy>(
     Ok(())
 }
 
-/// Runs a block's instructions.
+/// Transfers the current table over the instructions of `block`.
 pub fn transfer_block<F: Function, A: Allocator + Copy>(
     f: &F,
     listing: &Listing<'_>,

@@ -11,7 +11,7 @@ use crate::lookup::position;
 use regalloc2_names::{Allocation, VReg};
 use std::alloc::{AllocError, Allocator};
 
-/// The bits of a vreg.
+/// Returns the bits of `vreg`.
 fn bits_of(vreg: VReg) -> u32
     ensures bits { result ≡ bits_of_vreg vreg }
     ensures packed { is_packed_vreg vreg ≡ true }
@@ -19,7 +19,7 @@ fn bits_of(vreg: VReg) -> u32
     vreg.bits() as u32
 }
 
-/// Whether a place holds what a vreg has.
+/// Returns whether `place` holds `vreg`.
 #[inline(always)]
 pub fn holds<A: Allocator + Copy>(values: &PassingTables<A>, place: Allocation, vreg: VReg) -> bool
     ensures { result ≡ facts_now values.now place vreg }
@@ -30,7 +30,7 @@ pub fn holds<A: Allocator + Copy>(values: &PassingTables<A>, place: Allocation, 
     values.has(position, bits_of(vreg))
 }
 
-/// The vreg of bits, if they are those of one.
+/// Returns the vreg that `bits` encode, if any.
 fn vreg_of(bits: u32) -> Option<VReg>
     ensures vreg { MatchOption result ((v : VirtualRegister) → bits_of_vreg v ≢ bits) (λ v. bits_of_vreg v ≡ bits) }
     ensures small { bits < 4294967296 }
@@ -41,7 +41,7 @@ fn vreg_of(bits: u32) -> Option<VReg>
     Some(VReg::from_bits(bits))
 }
 
-/// The vregs whose values a place holds, by rising bits.
+/// Returns the vregs whose values `place` holds, by rising bits.
 #[inline(never)]
 pub fn vregs_in<A: Allocator + Copy>(
     alloc: A,

@@ -1,4 +1,4 @@
--- Sets by number: the empty one, those of one member, and those that are kept.
+-- Sets by number: the empty one, the sets of one member, and the kept sets.
 use Rattle.std.proofs.Common.{inl, inr, ℕ, ◌≡◌, ◌<◌, arith, Bool, true, false, cond, nat_eq, nat_lt, eq-eqb, refl, sym, ap, ◌∙◌, ◌+◌}
 use Rattle.std.proofs.Common.{List, [], ◌∷◌, ◌++◌, length, get_or, zero, suc, ◌-◌}
 use Rattle.std.specs.Prelude.{◌/◌, ◌%◌, ◌^◌, ◌&&◌, if◌then◌else◌}
@@ -17,14 +17,14 @@ use Rattle.regalloc2_checker_sets.proofs.Lone.{lone-none}
 use Rattle.regalloc2_checker_sets.proofs.Walked.{times-nil, times-one}
 
 -- the words of a set of one member
-word-alone : (b k : ℕ) → word_of (set_of_one b) k ≡ cond (nat_eq k (b / 64)) (2 ^ (b % 64)) 0
+word-of_one : (b k : ℕ) → word_of (set_of_one b) k ≡ cond (nat_eq k (b / 64)) (2 ^ (b % 64)) 0
 unfolding word_of
-word-alone b k = omega arith
+word-of_one b k = omega arith
 
--- it has that member
-pub has-alone : (b y : ℕ) → has_number (set_of_one b) y ≡ nat_eq y b
+-- a set of one member has that member
+pub has-of_one : (b y : ℕ) → has_number (set_of_one b) y ≡ nat_eq y b
 unfolding has_number
-has-alone b y = ap (λ w. nat_eq (bit_at w (y % 64)) 1) (word-alone b (y / 64)) ∙ bit b y
+has-of_one b y = ap (λ w. nat_eq (bit_at w (y % 64)) 1) (word-of_one b (y / 64)) ∙ bit b y
   where
     bit : (b y : ℕ) → nat_eq (bit_at (cond (nat_eq (y / 64) (b / 64)) (2 ^ (b % 64)) 0) (y % 64)) 1 ≡ nat_eq y b
     bit b y = elim (cases_eq y b) [
@@ -37,17 +37,17 @@ has-alone b y = ap (λ w. nat_eq (bit_at w (y % 64)) 1) (word-alone b (y / 64)) 
 
 pub one-is : (b y : ℕ) → b < 4294967296 → has_bits (set_of_one b) y ≡ nat_eq y b
 one-is b y small = elim (cases_eq y b) [
-  | inl e ↦ ap (λ t. t && has_number (set_of_one b) y) (lt-ltb y 4294967296 (omega arith)) ∙ has-alone b y
-  | inr n ↦ ap (λ t. nat_lt y 4294967296 && t) (has-alone b y ∙ ne_eqb y b n) ∙ and-false _ ∙ sym (ne_eqb y b n)
+  | inl e ↦ ap (λ t. t && has_number (set_of_one b) y) (lt-ltb y 4294967296 (omega arith)) ∙ has-of_one b y
+  | inr n ↦ ap (λ t. nat_lt y 4294967296 && t) (has-of_one b y ∙ ne_eqb y b n) ∙ and-false _ ∙ sym (ne_eqb y b n)
 ]
 
--- so many sets of one member there are
+-- how many sets of one member there are
 length-ones : (k : ℕ) → length (sets_of_one k) ≡ k
 unfolding sets_of_one
 length-ones zero = refl
 length-ones (suc k) = let a = length-append (sets_of_one k) (set_of_one k ∷ []) in let h = length-ones k in omega arith
 
--- and which they are
+-- which sets of one member there are
 ones-at : (k b : ℕ) → b < k → get_or (sets_of_one k) b [] ≡ set_of_one b
 unfolding sets_of_one
 ones-at zero b l = absurd (omega arith)
@@ -80,7 +80,7 @@ empty-at sets kept n e z y =
     ap (λ j. is_member sets j y) z ∙ ap (λ (l : List NumberSet). is_member l 0 y) (sym e)
     ∙ ap (λ b. nat_lt y 4294967296 && nat_eq b 1) (bit_at-zero (y % 64)) ∙ and-false _
 
--- so it is a set without members
+-- the first set is a set without members
 pub empty-is : (sets kept : List NumberSet) (has : ℕ → Bool) → all_sets kept ≡ sets → ((y : ℕ) → has y ≡ false) → IsSetOf sets 0 has
 empty-is sets kept has e none = let a = all-long sets kept e in record {
   below = omega arith;
@@ -102,7 +102,7 @@ one-at sets kept n b e m l = let a = all-long sets kept e in record {
     at : (b : ℕ) → b < 2147483647 → get_or (all_sets kept) (suc b) [] ≡ set_of_one b
     at b l = let h = length-ones 2147483647 in get_or_append_left (sets_of_one 2147483647) kept [] b (omega arith) ∙ ones-at 2147483647 b l
 
--- the numbers past those are of the sets that are kept
+-- the numbers past the sets of one member are of the kept sets
 pub kept-at : (sets kept : List NumberSet) (n i : ℕ) → all_sets kept ≡ sets → n ≡ 2147483648 + i → get_or sets n [] ≡ get_or kept i []
 unfolding all_sets
 kept-at sets kept n i e m =
@@ -133,7 +133,7 @@ few-same kept new (suc n) l =
     let h = length-ones 2147483647 in
     get_or_append_left (sets_of_one 2147483647) new [] n (omega arith) ∙ sym (get_or_append_left (sets_of_one 2147483647) kept [] n (omega arith))
 
--- and the sets that were there stay
+-- where a set is put at the end, the sets that were there stay
 pub push-more : (sets kept new : List NumberSet) (s : NumberSet) → all_sets kept ≡ sets → new ≡ kept ++ s ∷ [] → AreMore sets (all_sets new)
 push-more sets kept new s e q =
     let a = all-long sets kept e in

@@ -63,7 +63,7 @@ both-more old new other done x small set is h y = elim (cases_eq y x) [
       ap (λ t. nat_lt y 4294967296 && t) a ∙ h y ∙ ap (λ k. nat_lt 0 k && has_bits other y) (sym (other-times done x y n))
 ]
 
--- or one that the other set lacks
+-- the list is what both sets have: one more visited member, which the other set lacks
 pub both-skip : (old other : NumberSet) (done : List ℕ) (x : ℕ) → has_bits other x ≡ false →
     ((y : ℕ) → has_bits old y ≡ (nat_lt 0 (times_listed done y) && has_bits other y)) → (y : ℕ) →
     has_bits old y ≡ (nat_lt 0 (times_listed (done ++ x ∷ []) y) && has_bits other y)
@@ -105,7 +105,7 @@ listed-more members done x small h y = elim (cases_eq y x) [
   | inr n ↦ other-times members x y n ∙ h y ∙ ap (λ k. if nat_lt y 4294967296 then k else 0) (sym (other-times done x y n))
 ]
 
--- or one that is too great
+-- listed bits: one more, which is too great
 pub listed-skip : (members done : List ℕ) (x : ℕ) → 4294967296 ≤ x →
     ((y : ℕ) → times_listed members y ≡ (if nat_lt y 4294967296 then times_listed done y else 0)) → (y : ℕ) →
     times_listed members y ≡ (if nat_lt y 4294967296 then times_listed (done ++ x ∷ []) y else 0)
@@ -199,9 +199,9 @@ pub none-is : (s : NumberSet) → ((i : ℕ) → has_number s i ≡ false) → (
 none-is s h y = ap (λ t. nat_lt y 4294967296 && t) (h y) ∙ and-false _
 
 -- a choice between true and false is its condition
-pub alone : (b : Bool) → (if b then true else false) ≡ b
-alone true = refl
-alone false = refl
+pub if-true_false : (b : Bool) → (if b then true else false) ≡ b
+if-true_false true = refl
+if-true_false false = refl
 
 -- what follows from a result
 pub ok-as : {T E : Type 0} (P Q : T → Type 0) (r : Result T E) → ((x : T) → P x → Q x) → IfOk r P → IfOk r Q

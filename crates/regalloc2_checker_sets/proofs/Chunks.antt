@@ -28,7 +28,7 @@ chunks-new words cells bases long wz cz whole few bz sz = record {
   past_saved = λ k j h l. sz k j;
 }
 
--- chunks that begin where those of a saved copy do have its numbers
+-- chunks that begin where a saved copy's chunks do have its numbers
 pub chunks-alike : (words cells : List ℕ) (bases : Copies) (k from end : ℕ) → AreChunksKept words cells bases → end ≤ length bases.cells →
     AreSameBetween bases k from end → ArePartsAlike words cells bases k (64 * from) (64 * end)
 chunks-alike words cells bases k from end h l same i lo hi =
@@ -51,7 +51,7 @@ pub parts-same : (xs ys : List ℕ) (a b n t : ℕ) → between a (a + n) xs ≡
 parts-same xs ys a b n t e l =
     sym (get_or-between xs a (a + n) t 0 (omega (arith, l))) ∙ ap (λ (zs : List ℕ). get_or zs t 0) e ∙ get_or-between ys b (b + n) t 0 (omega (arith, l))
 
--- and parts with the same numbers are equal
+-- parts of two lists with the same numbers are equal
 pub parts-alike : (xs ys : List ℕ) (a b n : ℕ) → a + n ≤ length xs → b + n ≤ length ys → ((t : ℕ) → t < n → get_or xs (a + t) 0 ≡ get_or ys (b + t) 0) →
     between a (a + n) xs ≡ between b (b + n) ys
 parts-alike xs ys a b n la lb same =
@@ -61,7 +61,7 @@ parts-alike xs ys a b n la lb same =
     (λ t l. get_or-between xs a (a + n) t 0 (omega (arith, l, long)) ∙ same t (omega (arith, l, long))
     ∙ sym (get_or-between ys b (b + n) t 0 (omega (arith, l, long))))
 
--- and so from some number on
+-- parts of two lists that are equal have the same numbers from some number on
 pub parts-later : (xs ys : List ℕ) (a b n m t : ℕ) → between (a + m) (a + m + n) xs ≡ between (b + m) (b + m + n) ys → m ≤ t → t < m + n →
     get_or xs (a + t) 0 ≡ get_or ys (b + t) 0
 parts-later xs ys a b n m t e low l =
@@ -91,7 +91,7 @@ chunks-loaded words cells new bases now k h long loaded w s n at = record {
   past_saved = λ i j high l. rw (w, s) (h.past_saved i j (omega (arith, high, long)) (omega (arith, l, n)));
 }
 
--- so each of its numbers is that of the copy
+-- each number of the array is that of the copy
 pub number-loaded : (words new : List ℕ) (bases : Copies) (k i : ℕ) → AreLoaded words new bases k (length bases.cells) → i / 64 < length bases.cells →
     get_or new i 0 ≡ get_or words (saved_at bases k (i / 64) + i % 64) 0
 number-loaded words new bases k i loaded less =

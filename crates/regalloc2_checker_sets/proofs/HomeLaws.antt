@@ -10,7 +10,7 @@ use Rattle.std.proofs.Math.Bool.{or-true}
 use Rattle.std.proofs.lemmas.List.{append-nil}
 use Rattle.std.proofs.lemmas.Nat.Bits.{bit_at-lt, bit_at-zero, bit_at_set_same, bit_at_set_other}
 use Rattle.regalloc2_function.specs.Numbers.{NumberSet, has_number, word_of, times_listed}
-use Rattle.regalloc2_checker_sets.specs.Homes.{MorePlaces, HomePlaces, no_more, more_in, place_list, places_list, stands_for}
+use Rattle.regalloc2_checker_sets.specs.Homes.{MorePlaces, HomePlaces, no_more, place_list, places_list, stands_for}
 use Rattle.regalloc2_checker_sets.specs.Homes.{is_one_of, is_first, has_more, has_few, has_home, set_in}
 use Rattle.regalloc2_checker_sets.proofs.Walked.{times-append, times-one, times-nil}
 
@@ -41,7 +41,7 @@ place-times n i = by (nat_lt 0 n)
     by true = ap (λ k. nat_lt 0 k) (times-one n i) ∙ one (nat_eq n i) ∙ turned
     by false = ap (λ k. nat_lt 0 k) (times-nil i)
 
--- and so are those of some
+-- the places of some numbers are listed
 numbers-times : (ns : List ℕ) (i : ℕ) → nat_lt 0 (times_listed (places_list ns) i) ≡ is_one_of ns i
 unfolding places_list is_one_of
 numbers-times [] i = ap (λ k. nat_lt 0 k) (times-nil i)
@@ -49,7 +49,7 @@ numbers-times (n ∷ ns) i =
     is-times (place_list n) (places_list ns) i ∙ ap (λ b. b || nat_lt 0 (times_listed (places_list ns) i)) (place-times n i)
     ∙ ap (λ b. stands_for n i || b) (numbers-times ns i)
 
--- the few places are listed: those of the mask, the two, and those of more numbers
+-- the few places are listed: of the mask, of the two numbers, and of more numbers
 pub few-listed : (h : HomePlaces) (low : List ℕ) → ((i : ℕ) → times_listed low i ≡ bit_at h.low i) → (i : ℕ) →
     nat_lt 0 (times_listed (low ++ (place_list h.first ++ (place_list h.second ++ places_list h.more.numbers))) i) ≡ has_few h i
 unfolding has_few is_first
@@ -97,18 +97,13 @@ pub none-has : {X : Type 0} (value : X → NumberSet) (set : Option X) → is_so
 none-has value None e i = empty-has i
 none-has value (Some x) e i = absurd (true≢false e)
 
--- and where there are no more places, there are none
-pub none-in : {X : Type 0} (value : X → MorePlaces) (more : Option X) → is_some more ≡ false → more_in (option_map value more) ≡ no_more
-none-in value None e = refl
-none-in value (Some x) e = absurd (true≢false e)
-
 -- a walk that is one place on
 pub few-walked : (h : HomePlaces) (done left rest : List ℕ) (x : ℕ) → ((i : ℕ) → nat_lt 0 (times_listed (done ++ left) i) ≡ has_few h i) → left ≡ x ∷ rest →
     (i : ℕ) → nat_lt 0 (times_listed ((done ++ x ∷ []) ++ rest) i) ≡ has_few h i
 few-walked h done left rest x all e i =
     ap (λ (l : List ℕ). nat_lt 0 (times_listed l i)) (append_assoc done (x ∷ []) rest ∙ ap (λ (l : List ℕ). done ++ l) (sym e)) ∙ all i
 
--- and one that is over
+-- a walk that is over
 pub few-ended : (h : HomePlaces) (done left : List ℕ) → ((i : ℕ) → nat_lt 0 (times_listed (done ++ left) i) ≡ has_few h i) → left ≡ [] → (i : ℕ) →
     nat_lt 0 (times_listed done i) ≡ has_few h i
 few-ended h done left all e i =
@@ -119,7 +114,7 @@ pub home-is : (h : HomePlaces) (i : ℕ) → has_home h i ≡ (has_few h i || ha
 unfolding has_home
 home-is h i = refl
 
--- or one of the first, or of more
+-- a place is one of the first, or of more
 pub home-split : (h : HomePlaces) (i : ℕ) → has_home h i ≡ (is_first h.low h.first h.second i || has_more h.more i)
 unfolding has_home has_few has_more
 home-split h i = by (is_first h.low h.first h.second i) (is_one_of h.more.numbers i) (has_number h.more.others i)
@@ -159,7 +154,7 @@ first-low low first second place small i = elim (cases_eq i place) [
       ∙ sym (ap (λ b. cond b true (is_first low first second i)) (ne_eqb i place n))
 ]
 
--- or as the first of the two
+-- a place is added as the first of the two
 pub first-first : (low first second place : ℕ) → 0 < place → (first ≡ 0) ⊎ (first ≡ place) → (i : ℕ) →
     is_first low place second i ≡ cond (nat_eq i place) true (is_first low first second i)
 unfolding is_first
@@ -173,7 +168,7 @@ first-first low first second place some room i =
     by false true f s = refl
     by false false f s = refl
 
--- or as the second
+-- a place is added as the second of the two
 pub first-second : (low first second place : ℕ) → 0 < place → (second ≡ 0) ⊎ (second ≡ place) → (i : ℕ) →
     is_first low first place i ≡ cond (nat_eq i place) true (is_first low first second i)
 unfolding is_first
@@ -188,7 +183,7 @@ first-second low first second place some room i =
     by false true false s = refl
     by false false f s = refl
 
--- or as one of more numbers
+-- a place is added as one of more numbers
 numbers-put : (ns : List ℕ) (k place i : ℕ) → k < length ns → 0 < place → (get_or ns k 0 ≡ 0) ⊎ (get_or ns k 0 ≡ place) →
     is_one_of (slice_set ns k place) i ≡ cond (nat_eq i place) true (is_one_of ns i)
 unfolding is_one_of
@@ -218,7 +213,7 @@ more-number ns others k place less some room i =
     by true f r = refl
     by false f r = refl
 
--- or to the set
+-- a place is added to the set
 pub more-other : (m : MorePlaces) (others : NumberSet) (place : ℕ) → ((i : ℕ) → has_number others i ≡ cond (nat_eq i place) true (has_number m.others i)) →
     (i : ℕ) → has_more (record m { others = others }) i ≡ cond (nat_eq i place) true (has_more m i)
 unfolding has_more
@@ -256,7 +251,7 @@ pub walked-none : (ns rest whole : List ℕ) (n : ℕ) → ns ≡ n ∷ rest →
 unfolding places_list
 walked-none ns rest whole n e z h = ap (λ m. place_list m ++ places_list rest) (sym z) ∙ ap places_list (sym e) ∙ h
 
--- and one that stands for a place gives it
+-- a number that stands for a place gives it
 pub walked-some : (ns rest whole : List ℕ) (n : ℕ) → ns ≡ n ∷ rest → 0 < n → places_list ns ≡ whole → whole ≡ n ∷ places_list rest
 unfolding places_list
 walked-some ns rest whole n e some h = sym h ∙ ap places_list e ∙ ap (λ b. (if b then n ∷ [] else []) ++ places_list rest) (below 0 n some)

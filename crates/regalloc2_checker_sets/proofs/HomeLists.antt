@@ -10,10 +10,6 @@ use Rattle.regalloc2_checker_sets.specs.Homes.{IsMoreHome, AreMorePlaces}
 use Rattle.regalloc2_checker_sets.specs.Homes.{AreMoreHomes}
 use Rattle.regalloc2_checker_sets.proofs.HomeLaws.{home-split, none-more}
 
--- no home
-pub no-entry : HomeEntry
-no-entry = record { low = 0; first = 0; second = 0; index = 0 }
-
 -- with more places at the index, a home has more
 entry-kept : (old new : List MorePlaces) (e : HomeEntry) →
     ((i : ℕ) → has_more (get_or old e.index no_more) i ≡ true → has_more (get_or new e.index no_more) i ≡ true) → IsMoreHome (home_of old e) (home_of new e)
@@ -57,7 +53,7 @@ places-set more k place m less h e = entry-kept more (slice_set more k m) e (λ 
     always true = refl
     always false = refl
 
--- or none is
+-- no place is added at an index
 pub places-set_same : (more : List MorePlaces) (k : ℕ) (m : MorePlaces) → k < length more →
     ((i : ℕ) → has_more m i ≡ has_more (get_or more k no_more) i) → AreMorePlaces more (slice_set more k m)
 places-set_same more k m less h e = entry-kept more (slice_set more k m) e (λ i is. elim (cases_eq e.index k) [
@@ -93,7 +89,7 @@ pub entry-has : (more : List MorePlaces) (e : HomeEntry) (place : ℕ) → has_m
 entry-has more e place is =
     home-split (home_of more e) place ∙ ap (λ b. is_first e.low e.first e.second place || b) is ∙ or-true (is_first e.low e.first e.second place)
 
--- so it is where it was added at the home's index
+-- a place that was added at the home's index is one of the home
 pub entry-set : (more : List MorePlaces) (k place : ℕ) (m : MorePlaces) (e : HomeEntry) → k < length more → e.index ≡ k →
     ((i : ℕ) → has_more m i ≡ cond (nat_eq i place) true (has_more (get_or more k no_more) i)) → has_home (home_of (slice_set more k m) e) place ≡ true
 entry-set more k place m e less at h =
@@ -125,7 +121,7 @@ entry-first more e f place same h i =
     by true f r = refl
     by false f r = refl
 
--- so it is there, and what was there stays
+-- a home to which a place is added has it, and what was there stays
 pub added-kept : (old new : HomePlaces) (place : ℕ) → ((i : ℕ) → has_home new i ≡ cond (nat_eq i place) true (has_home old i)) → IsMoreHome old new
 added-kept old new place h i is = h i ∙ ap (λ b. cond (nat_eq i place) true b) is ∙ always (nat_eq i place)
   where
@@ -135,11 +131,6 @@ added-kept old new place h i is = h i ∙ ap (λ b. cond (nat_eq i place) true b
 
 pub added-here : (old new : HomePlaces) (place : ℕ) → ((i : ℕ) → has_home new i ≡ cond (nat_eq i place) true (has_home old i)) → has_home new place ≡ true
 added-here old new place h = h place ∙ ap (λ b. cond b true (has_home old place)) (eq-eqb place place refl)
-
--- the home of a vreg
-pub home-at_vreg : (more : List MorePlaces) (es : List HomeEntry) (v : ℕ) (e : HomeEntry) → v < length es → e ≡ get_or es v e →
-    get_or (map (home_of more) es) v no_homes ≡ home_of more e
-home-at_vreg more es v e less is = get_or-map (home_of more) es v e no_homes less ∙ ap (home_of more) (sym is)
 
 -- homes of which one is kept otherwise, with more places, are more
 pub homes-put : (old new : List MorePlaces) (es : List HomeEntry) (v : ℕ) (e f : HomeEntry) → v < length es → e ≡ get_or es v e →
@@ -163,7 +154,7 @@ homes-put old new es v e f less is all one = record {
     by (x ∷ l) (suc v) zero less is i has = all x i has
     by (x ∷ l) (suc v) (suc j) less is i has = by l v j (omega arith) is i has
 
--- and the one is at its vreg
+-- the home that is kept otherwise is at its vreg
 pub homes-put_at : (new : List MorePlaces) (es : List HomeEntry) (v : ℕ) (f : HomeEntry) → v < length es →
     get_or (map (home_of new) (slice_set es v f)) v no_homes ≡ home_of new f
 homes-put_at new es v f less =

@@ -10,20 +10,20 @@ use Rattle.std.proofs.lemmas.Bool.{eqb-true, le-ltb, lt-ltb, ne_eqb as apart}
 use Rattle.std.proofs.Common.{inl, inr}
 use Rattle.std.proofs.lemmas.Bool.{cases_lt}
 
-further : (xs : List ℕ) → IsStrictlyIncreasing xs → (n i j : ℕ) → j ≡ i + 1 + n → j < length xs → get_or xs i 0 < get_or xs j 0
-further xs h zero i j e less =
+rising-steps : (xs : List ℕ) → IsStrictlyIncreasing xs → (n i j : ℕ) → j ≡ i + 1 + n → j < length xs → get_or xs i 0 < get_or xs j 0
+rising-steps xs h zero i j e less =
     let d : i + 1 ≡ j = omega arith in
     subst (λ (k : ℕ). get_or xs i 0 < get_or xs k 0) d (h i (omega arith))
-further xs h (suc n) i j e less =
+rising-steps xs h (suc n) i j e less =
     let m : ℕ = i + 1 + n in
     let d : m + 1 ≡ j = omega arith in
-    let a : get_or xs i 0 < get_or xs m 0 = further xs h n i m refl (omega arith) in
+    let a : get_or xs i 0 < get_or xs m 0 = rising-steps xs h n i m refl (omega arith) in
     let b : get_or xs m 0 < get_or xs (m + 1) 0 = h m (omega arith) in
     subst (λ (k : ℕ). get_or xs i 0 < get_or xs k 0) d (omega arith)
 
 -- numbers rise
 pub rising : (xs : List ℕ) → IsStrictlyIncreasing xs → (i j : ℕ) → i < j → j < length xs → get_or xs i 0 < get_or xs j 0
-rising xs h i j l less = further xs h (j - i - 1) i j (omega arith) less
+rising xs h i j l less = rising-steps xs h (j - i - 1) i j (omega arith) less
 
 -- a list that strictly increases never falls
 pub not-falling : (xs : List ℕ) → IsStrictlyIncreasing xs → (i j : ℕ) → i ≤ j → j < length xs → get_or xs i 0 ≤ get_or xs j 0

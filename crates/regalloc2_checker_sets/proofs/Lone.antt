@@ -7,7 +7,7 @@ use Rattle.std.specs.Bool.{OnTrue, OnFalse}
 use Rattle.std.proofs.lemmas.Bool.{cases_eq, eqb-true, ne_eqb}
 use Rattle.regalloc2_function.specs.Numbers.{NumberSet, has_number}
 use Rattle.regalloc2_checker_sets.specs.EntrySets.{has_bits, is_member, IsSetOf, IsLess}
-use Rattle.regalloc2_checker_sets.proofs.Bits.{changed-is, none-is, alone, bits-small}
+use Rattle.regalloc2_checker_sets.proofs.Bits.{changed-is, none-is, if-true_false, bits-small}
 
 -- equal numbers, if their options are
 pub same-some : (a b : ℕ) → ◌≡◌ {A = Option ℕ} (Some a) (Some b) → a ≡ b
@@ -17,7 +17,7 @@ same-some a b e = cc
 pub single-is : (s t : NumberSet) (x : ℕ) → x < 4294967296 → ((i : ℕ) → has_number s i ≡ false) →
     ((i : ℕ) → has_number t i ≡ cond (nat_eq i x) true (has_number s i)) → (y : ℕ) → has_bits t y ≡ nat_eq y x
 single-is s t x small none h y =
-    changed-is s t x true small h y ∙ ap (λ b. if nat_eq y x then true else b) (none-is s none y) ∙ alone (nat_eq y x)
+    changed-is s t x true small h y ∙ ap (λ b. if nat_eq y x then true else b) (none-is s none y) ∙ if-true_false (nat_eq y x)
 
 -- a set that can have no member has none
 pub none-there : (s : NumberSet) → ((y : ℕ) → has_bits s y ≡ true → ⊥) → (y : ℕ) → has_bits s y ≡ false
@@ -32,8 +32,8 @@ pub member-as : (s : NumberSet) (x b m : ℕ) → ◌≡◌ {A = Option ℕ} (So
 member-as s x b m e d h = ap (λ n. has_bits s n) (sym (same-some x b e) ∙ d) ∙ h
 
 -- a set whose members are all one number has that alone
-pub alone-is : (s : NumberSet) (m : ℕ) → has_bits s m ≡ true → ((y : ℕ) → has_bits s y ≡ true → y ≡ m) → (y : ℕ) → nat_eq y m ≡ has_bits s y
-alone-is s m here other y = elim (cases_eq y m) [
+pub is-only_member : (s : NumberSet) (m : ℕ) → has_bits s m ≡ true → ((y : ℕ) → has_bits s y ≡ true → y ≡ m) → (y : ℕ) → nat_eq y m ≡ has_bits s y
+is-only_member s m here other y = elim (cases_eq y m) [
   | inl e ↦ eq-eqb y m e ∙ sym (ap (λ n. has_bits s n) e ∙ here)
   | inr n ↦ ne_eqb y m n ∙ sym (not (has_bits s y) (λ is. n (other y is)))
 ]
@@ -53,7 +53,7 @@ with-same has bits is y = elim (cases_eq y bits) [
   | inr n ↦ sym (ap (λ b. if b then true else has y) (ne_eqb y bits n))
 ]
 
--- or taken from one that hasn't
+-- a member is taken from a set that hasn't it
 pub without-same : (has : ℕ → Bool) (bits : ℕ) → has bits ≡ false → (y : ℕ) → has y ≡ (if nat_eq y bits then false else has y)
 without-same has bits is y = elim (cases_eq y bits) [
   | inl e ↦ ap has e ∙ is ∙ sym (ap (λ b. if b then false else has y) (eq-eqb y bits e))
@@ -64,7 +64,7 @@ without-same has bits is y = elim (cases_eq y bits) [
 pub with-empty : (sets : List NumberSet) (set bits : ℕ) → ((y : ℕ) → is_member sets 0 y ≡ false) → set ≡ 0 → (y : ℕ) →
     nat_eq y bits ≡ (if nat_eq y bits then true else is_member sets set y)
 with-empty sets set bits none e y =
-    sym (ap (λ b. if nat_eq y bits then true else b) (ap (λ n. is_member sets n y) e ∙ none y) ∙ alone (nat_eq y bits))
+    sym (ap (λ b. if nat_eq y bits then true else b) (ap (λ n. is_member sets n y) e ∙ none y) ∙ if-true_false (nat_eq y bits))
 
 -- from a set of one member that member is taken: nothing is left
 pub without-lone : (sets : List NumberSet) (set bits only : ℕ) → IsSetOf sets set (λ y. nat_eq y only) → is_member sets set bits ≡ true → (y : ℕ) →
@@ -88,7 +88,7 @@ both-lone has other only h is y = elim (cases_eq y only) [
     and-false true = refl
     and-false false = refl
 
--- or has not
+-- a set of one member, which the other has not
 pub both-apart : (has other : ℕ → Bool) (only : ℕ) → ((y : ℕ) → other y ≡ nat_eq y only) → has only ≡ false → (y : ℕ) → (has y && other y) ≡ false
 both-apart has other only h is y = elim (cases_eq y only) [
   | inl e ↦ ap (λ b. b && other y) (ap has e ∙ is)
@@ -105,7 +105,7 @@ pub lone-within : (has other : ℕ → Bool) (only : ℕ) (b : Bool) → ((y : �
 lone-within has other only true h e = λ y is. ap other (eqb-true y only (sym (h y) ∙ is)) ∙ sym e
 lone-within has other only false h e = tt
 
--- and not within one that hasn't
+-- a set of one member is not within another that hasn't it
 pub lone-less : (sets : List NumberSet) (set only : ℕ) (other : ℕ → Bool) (b : Bool) → IsSetOf sets set (λ y. nat_eq y only) → b ≡ other only →
     OnFalse b (IsLess (is_member sets set) other)
 lone-less sets set only other true h e = tt

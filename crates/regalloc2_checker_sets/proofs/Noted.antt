@@ -1,12 +1,11 @@
 -- What is noted of sets that were made of others.
 use Rattle.std.proofs.Common.{inl, inr, ℕ, ◌≡◌, ◌<◌, arith, Bool, true, false, nat_eq, List, [], refl, sym, ap, ◌∙◌, get_or, length, subst}
-use Rattle.std.specs.Prelude.{◌&&◌, ◌⊎◌, if◌then◌else◌, slice_set, Option, None, Some}
-use Rattle.std.proofs.lemmas.Bool.{cases_eq, cases_lt}
-use Rattle.std.proofs.lemmas.List.{get_or_past, get_or-set_other, get_or-set_same}
+use Rattle.std.specs.Prelude.{◌&&◌, ◌⊎◌, if◌then◌else◌, Option, None, Some}
+use Rattle.std.proofs.lemmas.Bool.{cases_lt}
+use Rattle.std.proofs.lemmas.List.{get_or_past}
 use Rattle.regalloc2_function.specs.Numbers.{NumberSet}
 use Rattle.regalloc2_checker_sets.specs.EntrySets.{is_member, IsSetOf, AreMore, IsLess, IsChangeOf, IsMeetOf, AreNoted, AreNotes}
 use Rattle.regalloc2_checker_sets.specs.declared.notes.Noted.{Noted}
-use Rattle.regalloc2_checker_sets.proofs.Rows.{some-same}
 
 -- a list of nothing has nothing, also past its end
 pub none-noted : (l : List (Option Noted)) (n : ℕ) → length l ≡ n → ((k : ℕ) → k < n → get_or l k None ≡ None) → (i : ℕ) (e : Noted) →
@@ -23,14 +22,6 @@ none-noted l n long h i e at = elim (cases_lt i n) [
 pub only_none : {X : Type 0} (H : Option X → Type 0) → ((x : X) → H (Some x) → ⊥) → (y : Option X) → H y → y ≡ None
 only_none H none None h = refl
 only_none H none (Some x) h = absurd (none x h)
-
--- one is written
-pub noted-written : (l : List (Option Noted)) (place : ℕ) (x : Noted) → place < length l → (i : ℕ) (e : Noted) →
-    get_or (slice_set l place (Some x)) i None ≡ Some e → (get_or l i None ≡ Some e) ⊎ (e ≡ x)
-noted-written l place x less i e at = elim (cases_eq i place) [
-  | inl q ↦ inr (sym (some-same x e (sym (get_or-set_same l place (Some x) None less) ∙ ap (λ (k : ℕ). get_or (slice_set l place (Some x)) k None) (sym q) ∙ at)))
-  | inr n ↦ inl (sym (get_or-set_other l place i (Some x) None n) ∙ at)
-]
 
 -- nothing is noted
 pub noted-none : (Is : ℕ → ℕ → ℕ → Type 0) → AreNoted Is []

@@ -11,7 +11,7 @@ pub entry-none : (places entries : List ℕ) (bits i : ℕ) → ArePlaceEntries 
     get_or entries i 0 ≡ 4294967295 → ◌≡◌ {A = Option ℕ} None (position (λ n. n == bits) places)
 entry-none places entries bits i h less here e = found-none places bits (λ k l d. (h.each i less).absent e k l (d ∙ sym here))
 
--- and one whose entry says where it is listed
+-- a place whose entry says where it is listed
 pub entry-some : (places entries : List ℕ) (bits i entry : ℕ) → IsStrictlyIncreasing places → ArePlaceEntries places (length places) entries →
     i < length entries → bits_at i ≡ bits → get_or entries i 0 ≡ entry → entry < 4294967295 → Some entry ≡ position (λ n. n == bits) places
 entry-some places entries bits i entry rises h less here at small =

@@ -1,9 +1,9 @@
 -- Arrays and saved copies whose kept sets get new numbers.
-use Rattle.std.proofs.Common.{ℕ, ◌≡◌, ◌+◌, ◌*◌, ◌%◌, ◌-◌, ◌<◌, ◌≤◌, inl, inr, arith, List, length, get_or, set, refl, sym, ap, ◌∙◌, subst}
+use Rattle.std.proofs.Common.{ℕ, ◌≡◌, ◌+◌, ◌*◌, ◌%◌, ◌-◌, ◌<◌, ◌≤◌, inl, inr, arith, List, length, get_or, sym, ap, ◌∙◌, subst}
 use Rattle.std.proofs.Common.{Bool, true, false}
 use Rattle.std.specs.Prelude.{◌⊎◌, Contains}
-use Rattle.std.proofs.lemmas.Bool.{cases_eq, cases_lt}
-use Rattle.std.proofs.lemmas.List.{get_or-set_other, get_or_default}
+use Rattle.std.proofs.lemmas.Bool.{cases_lt}
+use Rattle.std.proofs.lemmas.List.{get_or_default}
 use Rattle.std.proofs.lemmas.List.Elements.{Contains-get_or}
 use Rattle.regalloc2_index.proofs.Bools.{not_both}
 use Rattle.regalloc2_function.specs.Numbers.{NumberSet}
@@ -12,15 +12,6 @@ use Rattle.regalloc2_checker_sets.specs.SavedCopies.{Copies, number_in_cell}
 use Rattle.regalloc2_checker_sets.specs.SavedNumbers.{NumberCopies, copy_count, saved_number, number_now, AreChunksKept}
 use Rattle.regalloc2_checker_sets.specs.Renumbering.{renamed, IsMarked, AreMarkedKept, AppearsIn, AreOfSets, HaveSameMembers}
 use Rattle.regalloc2_checker_sets.proofs.MovedDown.{renamed-few}
-
--- a mark that is set is of a number in a list
-pub noted-one : (numbers : List ℕ) (old marks : List Bool) (i index : ℕ) → i < length numbers → get_or numbers i 0 ≡ 2147483648 + index →
-    ((j : ℕ) → get_or marks j true ≡ true → (get_or old j true ≡ true) ⊎ Contains numbers (2147483648 + j)) → (j : ℕ) →
-    get_or (set marks index true) j true ≡ true → (get_or old j true ≡ true) ⊎ Contains numbers (2147483648 + j)
-noted-one numbers old marks i index less e h j is = elim (cases_eq j index) [
-  | inl q ↦ inr (subst (Contains numbers) (e ∙ ap (λ n. 2147483648 + n) (sym q)) (Contains-get_or numbers i 0 less))
-  | inr n ↦ h j (sym (get_or-set_other marks index j true true n) ∙ is)
-]
 
 -- the new number of one in a list is in the new list
 pub contains-renamed : (old new numbers : List ℕ) (n : ℕ) → length new ≡ length old →
@@ -70,10 +61,6 @@ chunks-renamed words w ws xs cells c cs ys numbers bases we ce xe ye wl cl wr cr
       past_saved = λ k j high l. h.past_saved k j (omega (arith, high, long)) l;
     }
 
--- nothing changed
-pub members-same : (s : List NumberSet) (e : NumberCopies) → AreOfSets s e → IsSetOf s 0 (λ y. false) → HaveSameMembers s e s e
-members-same s e h z = record { count = refl; long = refl; below = h; empty = z; now = λ i y l. refl; tables = λ k i y l. refl }
-
 -- sets got new numbers
 pub members-renamed : (s t : List NumberSet) (e f : NumberCopies) (marks : List Bool) (numbers : List ℕ) → AreOfSets s e → IsSetOf s 0 (λ y. false) →
     AreMarkedKept marks s t numbers → copy_count f ≡ copy_count e → length f.cells ≡ length e.cells →
@@ -120,7 +107,7 @@ kept-appears s t e f blank marks numbers m long none only all n high l =
     back : (o : ℕ) → 2147483648 ≤ o → 2147483648 + (o - 2147483648) ≡ o
     back o high = omega (arith, high)
 
--- the same of equal lists
+-- equal marks keep the same sets
 pub kept-as : (marks new_marks : List Bool) (s t : List NumberSet) (numbers new_numbers : List ℕ) → marks ≡ new_marks → numbers ≡ new_numbers →
     AreMarkedKept marks s t numbers → AreMarkedKept new_marks s t new_numbers
 kept-as marks new_marks s t numbers new_numbers e d h =

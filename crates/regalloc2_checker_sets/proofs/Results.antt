@@ -11,12 +11,12 @@ pub on_ok_as : {E : Type 0} (P Q : Type 0) (r : Result (Unit {0}) E) → (P → 
 on_ok_as P Q (Ok x) f h = f h
 on_ok_as P Q (Err e) f h = tt
 
--- and what follows from two
+-- what follows from two facts of each success holds of each
 pub on_ok_of_both : {E : Type 0} (P Q R : Type 0) (r : Result (Unit {0}) E) → (P → Q → R) → OnOk r P → OnOk r Q → OnOk r R
 on_ok_of_both P Q R (Ok x) f h k = f h k
 on_ok_of_both P Q R (Err e) f h k = tt
 
--- and so does what follows from a fact of each error
+-- what follows from a fact of each error holds of each
 pub on_err_as : {E : Type 0} (P Q : Type 0) (r : Result (Unit {0}) E) → (P → Q) → OnErr r P → OnErr r Q
 on_err_as P Q (Ok x) f h = tt
 on_err_as P Q (Err e) f h = f h

@@ -22,14 +22,14 @@ row-set_same vs k x less =
     ap (λ (l : List (List ℕ)). get_or l k []) (map-set (λ (b : Vec ℕ _). b.items) vs k x)
     ∙ get_or-set_same (map (λ (b : Vec ℕ _). b.items) vs) k x.items [] (let a = length-map vs (λ (b : Vec ℕ _). b.items) in omega arith)
 
--- and the others stay
+-- the rows that aren't set stay
 pub row-set_other : {A : Type 0} (vs : List (Vec ℕ A)) (k j : ℕ) (x : Vec ℕ A) → (j ≡ k → ⊥) →
     get_or (map (λ b. b.items) (slice_set vs k x)) j [] ≡ get_or (map (λ b. b.items) vs) j []
 row-set_other vs k j x n =
     ap (λ (l : List (List ℕ)). get_or l j []) (map-set (λ (b : Vec ℕ _). b.items) vs k x)
     ∙ get_or-set_other (map (λ (b : Vec ℕ _). b.items) vs) k j x.items [] n
 
--- the same of equal parts
+-- rows within equal words are within them
 pub within-as : (words ws bases row : List ℕ) → words ≡ ws → bases ≡ row → AreWithin words bases → AreWithin ws row
 within-as words ws bases row e d h j =
     subst (λ (w : List ℕ). get_or row j 0 + 64 ≤ length w) e (subst (λ (r : List ℕ). get_or r j 0 + 64 ≤ length words) d (h j))
@@ -75,7 +75,7 @@ bases-within words cells bases count some h j = elim (cases_lt j count) [
   | inr g ↦ (let c = h.count_is in let e = past bases j (omega arith) in omega arith)
 ]
 
--- and have the array's numbers
+-- the chunks of an array have the array's numbers
 pub bases-same : (words cells bases : List ℕ) (count i : ℕ) → length cells ≡ 64 * count → AreBases words cells bases count → i < length cells →
     number_in words bases i ≡ get_or cells i 0
 bases-same words cells bases count i long h less =

@@ -15,7 +15,7 @@ use Rattle.regalloc2_checker_sets.proofs.Rows.{some-same}
 pub more-same : (words : List ℕ) → AreMoreWords words words
 more-same words = record { longer = omega arith; kept = λ i l. refl }
 
--- or the same under another name
+-- equal words are more words
 pub more-as : (words new : List ℕ) → new ≡ words → AreMoreWords words new
 more-as words new e = subst (AreMoreWords words) (sym e) (more-same words)
 
@@ -33,7 +33,7 @@ chunk-more words more cells chunk base m h = record {
   same = λ t l. h.same t l ∙ sym (m.kept (base + t) (omega (arith, l, h.within)));
 }
 
--- and so do those that are known
+-- known chunks stay where they are among more words
 pub clean-more : (words more cells : List ℕ) (clean new : List (Option ℕ)) → AreMoreWords words more → new ≡ clean → AreClean words cells clean →
     AreClean more cells new
 clean-more words more cells clean new m e h =
@@ -94,7 +94,7 @@ chunk-put words mid new cells chunk end m d less e =
 pub rows-none : {A : Type 0} (vs : List (Vec ℕ A)) → vs ≡ [] → (k : ℕ) → get_or (map (λ b. b.items) vs) k [] ≡ []
 rows-none vs e k = ap (λ (l : List (Vec ℕ _)). get_or (map (λ b. b.items) l) k []) e
 
--- and one more
+-- rows that are all empty: one more
 pub rows-next : {A : Type 0} (vs ws : List (Vec ℕ A)) (x : Vec ℕ A) → ws ≡ vs ++ x ∷ [] → x.items ≡ [] →
     ((k : ℕ) → get_or (map (λ b. b.items) vs) k [] ≡ []) → (k : ℕ) → get_or (map (λ b. b.items) ws) k [] ≡ []
 rows-next vs ws x e n h k =
@@ -117,7 +117,7 @@ pub set-others : (bases new : Copies) (chunk b : ℕ) → new ≡ record bases {
     number_in_cell new j ≡ number_in_cell bases j
 set-others bases new chunk b e j n = ap (λ (v : Copies). number_in_cell v j) e ∙ get_or-set_other bases.cells chunk j b 0 n
 
--- and it begins there
+-- the chunk begins where it was written that it does
 pub set-at : (bases new : Copies) (chunk b : ℕ) → new ≡ record bases { cells = slice_set bases.cells chunk b } → chunk < length bases.cells →
     number_in_cell new chunk ≡ b
 set-at bases new chunk b e less = ap (λ (v : Copies). number_in_cell v chunk) e ∙ get_or-set_same bases.cells chunk b 0 less
@@ -142,7 +142,7 @@ chunks-more words more cells bases m h = record {
   past_saved = h.past_saved;
 }
 
--- and so they are where one is put there
+-- chunks are kept where one chunk is put among more words
 pub chunks-set : (words more cells : List ℕ) (bases new : Copies) (chunk b : ℕ) → AreMoreWords words more → chunk < length bases.cells →
     new ≡ record bases { cells = slice_set bases.cells chunk b } → 64 * chunk + 64 ≤ length cells → IsChunkAt more cells chunk b →
     AreChunksKept words cells bases → AreChunksKept more cells new
@@ -170,7 +170,7 @@ chunks-set words more cells bases new chunk b m less e inside at old =
 pub copies-then : (a b c : Copies) → AreCopiesKept a b → AreCopiesKept b c → AreCopiesKept a c
 copies-then a b c h k = record { words = k.words ∙ h.words; saved = k.saved ∙ h.saved; long = k.long ∙ h.long }
 
--- chunks are stored that are those of a saved copy
+-- the chunks of the array that a saved copy has are stored
 pub saved-below : (words cells : List ℕ) (bases : Copies) (near from end : ℕ) → AreChunksKept words cells bases → AreSaved bases from →
     AreSameBetween bases near from end → AreSaved bases end
 saved-below words cells bases near from end kept saved same j low less = elim (cases_lt j from) [
@@ -178,7 +178,7 @@ saved-below words cells bases near from end kept saved same j low less = elim (c
   | inr g ↦ (let small = kept.small near j less in let e = same j g low in omega (arith, small, e))
 ]
 
--- and one more, that was stored now
+-- one chunk more is stored
 pub saved-next : (words cells : List ℕ) (bases new : Copies) (near from chunk : ℕ) → AreChunksKept words cells bases → AreSaved bases from →
     AreSameBetween bases near from chunk → AreCopiesKept bases new → ((j : ℕ) → j ≢ chunk → number_in_cell new j ≡ number_in_cell bases j) →
     number_in_cell new chunk < 4294967295 → AreSaved new (chunk + 1)

@@ -10,29 +10,29 @@ use Rattle.std.proofs.Math.Bool.{or-false, or-true}
 use Rattle.std.proofs.lemmas.Nat.Bits.{bit_at-pow_same, bit_at-pow_other, bit_at-zero, bit_at_or}
 use Rattle.regalloc2_function.specs.Numbers.{NumberSet, has_number, word_of, times_listed}
 use Rattle.regalloc2_checker_sets.specs.EntrySets.{has_bits, set_of_one, set_of_two, set_of_kept, ListsBits, IsLess}
-use Rattle.regalloc2_checker_sets.proofs.AllSets.{has-alone, lists-one}
+use Rattle.regalloc2_checker_sets.proofs.AllSets.{has-of_one, lists-one}
 use Rattle.regalloc2_checker_sets.proofs.Bits.{bits-is, bits-out, changed-is, within-and}
 use Rattle.regalloc2_checker_sets.proofs.Lone.{single-is, without-same}
 
 -- the bit of a number
-one : (y a : ℕ) → y ≡ a → bit_at (2 ^ (a % 64)) (y % 64) ≡ 1
-one y a p = ap (λ n. bit_at (2 ^ (a % 64)) (n % 64)) p ∙ bit_at-pow_same (a % 64)
+bit-own : (y a : ℕ) → y ≡ a → bit_at (2 ^ (a % 64)) (y % 64) ≡ 1
+bit-own y a p = ap (λ n. bit_at (2 ^ (a % 64)) (n % 64)) p ∙ bit_at-pow_same (a % 64)
 
--- and that of another of the same word
-none : (y a : ℕ) → (y ≡ a → ⊥) → y / 64 ≡ a / 64 → bit_at (2 ^ (a % 64)) (y % 64) ≡ 0
-none y a n h = bit_at-pow_other (a % 64) (y % 64) (λ q. n (omega arith))
+-- the bit of another number of the same word
+bit-other : (y a : ℕ) → (y ≡ a → ⊥) → y / 64 ≡ a / 64 → bit_at (2 ^ (a % 64)) (y % 64) ≡ 0
+bit-other y a n h = bit_at-pow_other (a % 64) (y % 64) (λ q. n (omega arith))
 
 -- the bits of two numbers of one word
 two-bits : (a b y : ℕ) → a / 64 ≡ b / 64 → y / 64 ≡ a / 64 →
     nat_eq (bit_at (bit_or (2 ^ (a % 64)) (2 ^ (b % 64))) (y % 64)) 1 ≡ (nat_eq y a || nat_eq y b)
 two-bits a b y e h = ap (λ n. nat_eq n 1) (bit_at_or (2 ^ (a % 64)) (2 ^ (b % 64)) (y % 64)) ∙ elim (cases_eq y a) [
   | inl p ↦ elim (cases_eq y b) [
-    | inl q ↦ rw (one y a p, one y b q, eq-eqb y a p) refl
-    | inr m ↦ rw (one y a p, none y b m (h ∙ e), eq-eqb y a p) refl
+    | inl q ↦ rw (bit-own y a p, bit-own y b q, eq-eqb y a p) refl
+    | inr m ↦ rw (bit-own y a p, bit-other y b m (h ∙ e), eq-eqb y a p) refl
   ]
   | inr n ↦ elim (cases_eq y b) [
-    | inl q ↦ rw (none y a n h, one y b q, ne_eqb y a n, eq-eqb y b q) refl
-    | inr m ↦ rw (none y a n h, none y b m (h ∙ e), ne_eqb y a n, ne_eqb y b m) refl
+    | inl q ↦ rw (bit-other y a n h, bit-own y b q, ne_eqb y a n, eq-eqb y b q) refl
+    | inr m ↦ rw (bit-other y a n h, bit-other y b m (h ∙ e), ne_eqb y a n, ne_eqb y b m) refl
   ]
 ]
 
@@ -58,15 +58,15 @@ same-word a b y e =
       | inr n ↦ rw (ne_eqb (y / 64) (a / 64) n, bit_at-zero (y % 64), ne_eqb y a (λ q. n (omega arith)), ne_eqb y b (λ q. n (omega arith))) refl
     ]
 
--- or of two words
+-- two numbers of two words
 two-words : (a b y : ℕ) → (a / 64 ≡ b / 64 → ⊥) → has_number (set_of_one a ++ set_of_one b) y ≡ (nat_eq y a || nat_eq y b)
 unfolding has_number
 two-words a b y n = elim (cases_eq (y / 64) (b / 64)) [
   | inl h ↦
-      ap (λ w. nat_eq (bit_at w (y % 64)) 1) (word-second a b (y / 64) (λ q. n (omega arith))) ∙ has-alone b y
+      ap (λ w. nat_eq (bit_at w (y % 64)) 1) (word-second a b (y / 64) (λ q. n (omega arith))) ∙ has-of_one b y
       ∙ sym (ap (λ t. t || nat_eq y b) (ne_eqb y a (λ q. n (omega arith))))
   | inr m ↦
-      ap (λ w. nat_eq (bit_at w (y % 64)) 1) (word-first a b (y / 64) m) ∙ has-alone a y
+      ap (λ w. nat_eq (bit_at w (y % 64)) 1) (word-first a b (y / 64) m) ∙ has-of_one a y
       ∙ sym (ap (λ t. nat_eq y a || t) (ne_eqb y b (λ q. m (omega arith))) ∙ or-false (nat_eq y a))
 ]
 
@@ -93,7 +93,7 @@ unfolding set_of_kept
 kept-two a b [] s e l small little y = ap (λ (x : NumberSet). has_bits x y) (sym e) ∙ two-is a b y small little
 kept-two a b (z ∷ rest) s e l small little y = absurd (omega arith)
 
--- and else it is that other
+-- a kept set with another set is that set
 pub kept-many : (a b : ℕ) (many : List NumberSet) (s x : NumberSet) → set_of_kept a b many ≡ s → 0 < length many → x ≡ get_or many 0 x → s ≡ x
 unfolding set_of_kept
 kept-many a b [] s x e l h = absurd (omega arith)
@@ -129,11 +129,11 @@ or-same a b y e = ap (λ n. nat_eq y a || nat_eq y n) e ∙ twice (nat_eq y a)
     twice true = refl
     twice false = refl
 
-either : (s t : Bool) → (if t then true else s) ≡ (s || t)
-either true true = refl
-either true false = refl
-either false true = refl
-either false false = refl
+or-if : (s t : Bool) → (if t then true else s) ≡ (s || t)
+or-if true true = refl
+or-if true false = refl
+or-if false true = refl
+or-if false false = refl
 
 -- two numbers put into an empty set are its members
 pub put-two : (s t u : NumberSet) (a b : ℕ) → a < 4294967296 → b < 4294967296 → ((i : ℕ) → has_number s i ≡ false) →
@@ -141,7 +141,7 @@ pub put-two : (s t u : NumberSet) (a b : ℕ) → a < 4294967296 → b < 4294967
     (y : ℕ) → has_bits u y ≡ (nat_eq y a || nat_eq y b)
 put-two s t u a b small little none first second y =
     changed-is t u b true little second y ∙ ap (λ c. if nat_eq y b then true else c) (single-is s t a small none first y)
-    ∙ either (nat_eq y a) (nat_eq y b)
+    ∙ or-if (nat_eq y a) (nat_eq y b)
 
 -- two members in a list, which may be one
 pub lists-same : (has : ℕ → Bool) (items : List ℕ) (a b : ℕ) → items ≡ a ∷ [] → b ≡ a → ((y : ℕ) → has y ≡ (nat_eq y a || nat_eq y b)) → ListsBits has items
@@ -168,7 +168,7 @@ two-within has other a b true two first second = λ y is. elim (cases_eq y a) [
 ]
 two-within has other a b false two first second = tt
 
--- and not within one that hasn't the first, or the second
+-- a set of two is not within another that hasn't the first, or the second
 pub two-first : (has other : ℕ → Bool) (a b : ℕ) → a < 4294967296 → ((y : ℕ) → has y ≡ (nat_eq y a || nat_eq y b)) → other a ≡ false → IsLess has other
 two-first has other a b small two none = record {
   bits = a;
@@ -197,7 +197,7 @@ pair-more has bits only one y =
     swapped true t = refl
     swapped false t = refl
 
--- one of two members is taken, or both, or neither
+-- one of two members is taken, or each of them, or none
 pub less-neither : (a b bits : ℕ) → (a ≡ bits → ⊥) → (b ≡ bits → ⊥) → (y : ℕ) →
     (nat_eq y a || nat_eq y b) ≡ (if nat_eq y bits then false else (nat_eq y a || nat_eq y b))
 less-neither a b bits n m =
@@ -221,7 +221,7 @@ less-both a b bits e f y = elim (cases_eq y bits) [
   | inr m ↦ rw (ne_eqb y bits m, ne_eqb y a (λ q. m (q ∙ e)), ne_eqb y b (λ q. m (q ∙ f))) refl
 ]
 
--- those of two numbers that a set has
+-- the members among two numbers that a set has
 pub meet-both : (other : ℕ → Bool) (a b : ℕ) → other a ≡ true → other b ≡ true → (y : ℕ) →
     (nat_eq y a || nat_eq y b) ≡ ((nat_eq y a || nat_eq y b) && other y)
 meet-both other a b h k = within-and (λ y. nat_eq y a || nat_eq y b) other (two-within (λ y. nat_eq y a || nat_eq y b) other a b true (λ y. refl) h (sym k))

@@ -64,7 +64,7 @@ chunk-written numbers words saved new chunk base i high low w s (e, within) =
 pub chunks-whole : (n : ℕ) → 0 < n → n % 64 ≡ 0 → 64 * ((n - 1) / 64 + 1) ≡ n
 chunks-whole n some whole = omega arith
 
--- so many copies are stored anew but those that have a mark, and both arrays have the same
+-- the first n copies are stored anew but the marked ones, and both arrays have the same
 pub record AreStoredAnew (marks : List Bool) (n : ℕ) (old now to : NumberCopies) : Type 0 where
   pub count : copy_count now ≡ copy_count old
   pub saved : (k i : ℕ) → saved_number now k i ≡ saved_number old k i
@@ -92,7 +92,7 @@ anew-none marks old new to c l z w = record {
     from-zero : (i : ℕ) → 0 + i ≡ i
     from-zero i = omega arith
 
--- one that has a mark is passed over
+-- a copy that has a mark is passed over
 pub anew-skip : (marks : List Bool) (n : ℕ) (old now to : NumberCopies) → get_or marks n false ≡ true → AreStoredAnew marks n old now to →
     AreStoredAnew marks (n + 1) old now to
 anew-skip marks n old now to is h = record {
@@ -112,7 +112,7 @@ anew-skip marks n old now to is h = record {
     true-false : true ≡ false → ⊥
     true-false e = absurd cc
 
--- a copy that was never saved has zeros, if those had zeros that never were at first
+-- a copy that was never saved has zeros, if the copies that were never saved had zeros at first
 pub unsaved-zero : (n : ℕ) (old now : NumberCopies) → copy_count now ≡ copy_count old → ((k i : ℕ) → saved_number now k i ≡ saved_number old k i) →
     ((k i : ℕ) → get_or old.base_rows k [] ≡ [] → saved_number old k i ≡ 0) → get_or now.base_rows n [] ≡ [] → (i : ℕ) → saved_number now n i ≡ 0
 unsaved-zero n old now c s zeros empty i =
@@ -122,7 +122,7 @@ unsaved-zero n old now c s zeros empty i =
     past : (v : NumberCopies) → copy_count v ≡ copy_count old → get_or v.base_rows (copy_count old) [] ≡ []
     past v e = get_or_past v.base_rows (copy_count old) [] (omega (arith, e))
 
--- so does one that has zeros alone
+-- a copy that has zeros alone needs no storing anew
 pub anew-zero : (marks : List Bool) (n : ℕ) (old now to : NumberCopies) → ((i : ℕ) → saved_number now n i ≡ 0) → AreStoredAnew marks n old now to →
     AreStoredAnew marks (n + 1) old now to
 anew-zero marks n old now to zeros h = record {

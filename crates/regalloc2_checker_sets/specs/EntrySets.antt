@@ -36,12 +36,12 @@ unfoldable pub set_of_kept : ℕ → ℕ → List NumberSet → NumberSet
 set_of_kept a b [] = set_of_two a b
 set_of_kept a b (s ∷ rest) = s
 
--- the sets that have bits alone, for so many first bits
+-- the sets that have bits alone, for the first bits
 unfoldable pub sets_of_one : ℕ → List NumberSet
 sets_of_one zero = []
 sets_of_one (suc k) = sets_of_one k ++ set_of_one k ∷ []
 
--- the sets by number: the empty one, those of one member below 2^31 - 1, and those that are kept
+-- the sets by number: the empty one, the sets of one member below 2^31 - 1, and the kept sets
 unfoldable pub all_sets : List NumberSet → List NumberSet
 all_sets kept = [] ∷ (sets_of_one 2147483647 ++ kept)
 

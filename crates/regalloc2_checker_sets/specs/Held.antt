@@ -8,11 +8,11 @@ use Rattle.regalloc2_checker_sets.specs.EntrySets.{is_member, AreMore}
 abbrev pub held : List NumberSet → NumberCopies → ℕ → ℕ → Bool
 held sets e i y = is_member sets (number_now e i) y
 
--- the numbers of the array that is worked on are of sets
+-- the numbers of the current array are of sets
 abbrev pub AreBelow : List NumberSet → NumberCopies → Type 0
 AreBelow sets e = (i : ℕ) → i < length e.cells → number_now e i < length sets
 
--- only the array that is worked on changed, and sets were added
+-- only the current array changed, and sets were added
 pub record AreStill (s : List NumberSet) (e : NumberCopies) (t : List NumberSet) (f : NumberCopies) : Type 0 where
   pub more : AreMore s t
   pub long : length f.cells ≡ length e.cells

@@ -82,7 +82,7 @@ has_home h i = has_few h i || has_number h.more.others i
 abbrev pub IsMoreHome : HomePlaces → HomePlaces → Type 0
 IsMoreHome old new = (i : ℕ) → has_home old i ≡ true → has_home new i ≡ true
 
--- and each place of a home that is kept over one list of more places is one over another
+-- each place of a home over one list of more places is one over another list
 abbrev pub AreMorePlaces : List MorePlaces → List MorePlaces → Type 0
 AreMorePlaces old new = (e : HomeEntry) → IsMoreHome (home_of old e) (home_of new e)
 

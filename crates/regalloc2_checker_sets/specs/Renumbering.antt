@@ -20,7 +20,7 @@ pub record IsMovedTo (old new : List NumberSet) (numbers : List ℕ) (next j : �
   pub below : to < next
   pub same : get_or new to [] ≡ get_or old j []
 
--- of the kept sets below an index those with a mark are the first ones, in so many places
+-- of the kept sets below index i, the marked sets are the first next ones
 pub record AreMovedDown (marks : List Bool) (old new : List NumberSet) (numbers : List ℕ) (i next : ℕ) : Type 0 where
   pub moved : (j : ℕ) → j < i → get_or marks j true ≡ true → IsMovedTo old new numbers next j
   pub dropped : (j : ℕ) → j < i → get_or marks j true ≡ false → get_or numbers j 0 ≡ 0

@@ -29,7 +29,7 @@ number_now v i = get_or v.cells i 0
 abbrev pub AreAlikeBetween : NumberCopies → ℕ → ℕ → ℕ → Type 0
 AreAlikeBetween v k from end = (i : ℕ) → from ≤ i → i < end → number_now v i ≡ saved_number v k i
 
--- the same of the parts
+-- a saved copy and the array of the parts have the same from a position up to another
 abbrev pub ArePartsAlike : List ℕ → List ℕ → Copies → ℕ → ℕ → ℕ → Type 0
 ArePartsAlike words cells bases k from end = (i : ℕ) → from ≤ i → i < end → get_or cells i 0 ≡ get_or words (saved_at bases k (i / 64) + i % 64) 0
 
@@ -58,7 +58,7 @@ AreLoaded words cells bases k end = (j : ℕ) → j < end → j < length bases.c
 abbrev pub AreSaved : Copies → ℕ → Type 0
 AreSaved bases end = (j : ℕ) → j < end → j < length bases.cells → number_in_cell bases j < 4294967295
 
--- so many numbers are written into the array, from a position on
+-- the first n numbers are written into the array, from a position on
 pub record AreWrittenTo (numbers : List ℕ) (first n : ℕ) (old new : NumberCopies) : Type 0 where
   pub count : copy_count new ≡ copy_count old
   pub saved : (k i : ℕ) → saved_number new k i ≡ saved_number old k i
@@ -77,7 +77,7 @@ abbrev pub IsSomeArray : NumberCopies → NumberCopies → Type 0
 IsSomeArray old new = ((i : ℕ) → i < length old.cells → number_now new i ≡ number_now old i)
     ⊎ ((k : ℕ) × ((i : ℕ) → i < length old.cells → number_now new i ≡ saved_number old k i))
 
--- saved copies without those that have a mark, which are zeros
+-- saved copies without the marked copies, which are zeros
 pub record IsWithout (marks : List Bool) (old new : NumberCopies) : Type 0 where
   pub count : copy_count new ≡ copy_count old
   pub long : length new.cells ≡ length old.cells

@@ -21,7 +21,7 @@ use std::marker::Model;
 /// Where a chunk that was written since is stored.
 const UNSAVED: u32 = u32::MAX;
 
-/// An array of numbers, and saved copies of it, by number. `last` is the one that was last loaded or saved.
+/// An array of numbers, and saved copies of it, by number. `last` is the copy that was last loaded or saved.
 #[derive(Drop)]
 pub struct Entries<A: Allocator> {
     words: Vec<u32, A>,
@@ -40,7 +40,7 @@ impl<A: Allocator> Model for Entries<A> {
     ghost invariant = { λ v. AreChunksKept v.words.items v.cells.items v.bases };
 }
 
-/// Gives the array the chunks of a saved copy, of which it may have some.
+/// Copies to the array the chunks of the saved `copy` in which it differs.
 fn load_chunks<A: Allocator + Copy>(
     words: &[u32],
     bases: &Versions<A>,
@@ -59,7 +59,7 @@ fn load_chunks<A: Allocator + Copy>(
     }
 }
 
-/// Stores a chunk of the array among the words, if it was written since it was last stored.
+/// Stores `chunk` of the array among the words, if it was written since it was last stored.
 fn save_chunk<A: Allocator + Copy>(
     words: &mut Vec<u32, A>,
     bases: &mut Versions<A>,
@@ -94,7 +94,7 @@ fn save_chunk<A: Allocator + Copy>(
     Ok(())
 }
 
-/// Stores the chunks of the array that a saved copy near to it lacks among the words.
+/// Stores among the words the chunks of the array that the saved copy `near` lacks.
 fn save_chunks<A: Allocator + Copy>(
     words: &mut Vec<u32, A>,
     bases: &mut Versions<A>,
@@ -118,7 +118,7 @@ fn save_chunks<A: Allocator + Copy>(
     Ok(())
 }
 
-/// Whether there is a mark at an index.
+/// Returns whether the mark at `index` is set.
 fn is_marked(marks: &[bool], index: usize) -> bool
     ensures { result ≡ get_or marks.now index false }
 {
@@ -126,7 +126,7 @@ fn is_marked(marks: &[bool], index: usize) -> bool
 }
 
 impl<A: Allocator + Copy> Entries<A> {
-    /// Zeros, for so many positions and so many saved copies.
+    /// Returns an array of zeros, of `size` positions and rounded up to a chunk, with `count` saved copies of zeros.
     pub fn new(alloc: A, count: usize, size: usize) -> Result<Entries<A>, AllocError>
         requires { size < 2 ^ 62 }
         ensures long { IfOk result (λ v. size < length v.cells) }
@@ -146,14 +146,14 @@ impl<A: Allocator + Copy> Entries<A> {
         })
     }
 
-    /// How many positions there are.
+    /// Returns how many positions there are.
     pub fn len(&self) -> usize
         ensures { result ≡ length self.now.cells }
     {
         self.cells.len()
     }
 
-    /// The number at a position.
+    /// Returns the number at `position`.
     pub fn get(&self, position: usize) -> u32
         requires { position < length self.now.cells }
         ensures { result ≡ number_now self.now position }
@@ -161,7 +161,7 @@ impl<A: Allocator + Copy> Entries<A> {
         self.cells[position]
     }
 
-    /// Whether a chunk of the array is stored as zeros.
+    /// Returns whether `chunk` of the array is stored as zeros.
     fn has_zeros(&self, chunk: usize, begins_with_zeros: bool) -> bool
         requires zeros { begins_with_zeros ≡ true → ((t : ℕ) → t < 64 → get_or self.now.words t 0 ≡ 0) }
         requires chunk { 64 * chunk + 64 ≤ length self.now.cells }
@@ -173,7 +173,7 @@ impl<A: Allocator + Copy> Entries<A> {
         self.bases.get(chunk) == 0
     }
 
-    /// How many chunks of the array aren't stored as zeros.
+    /// Returns how many chunks of the array aren't stored as zeros.
     pub fn filled_count(&self) -> usize {
         let begins_with_zeros = begins_with_zeros(&self.words);
         let mut count: usize = 0;
@@ -186,7 +186,7 @@ impl<A: Allocator + Copy> Entries<A> {
         count
     }
 
-    /// Lists a position of the array, unless its number is 0.
+    /// Lists `position`, unless its number is 0.
     fn list_position(
         &self,
         positions: &mut Vec<usize, A>,
@@ -203,7 +203,7 @@ impl<A: Allocator + Copy> Entries<A> {
         Ok(())
     }
 
-    /// Lists the positions of a chunk of the array whose numbers aren't 0.
+    /// Lists the positions of `chunk` whose numbers aren't 0.
     fn list_filled(&self, positions: &mut Vec<usize, A>, chunk: usize) -> Result<(), AllocError>
         requires within { 64 * chunk + 64 ≤ length self.now.cells }
         requires small { 64 * chunk + 64 < 2 ^ 64 }
@@ -216,7 +216,7 @@ impl<A: Allocator + Copy> Entries<A> {
         Ok(())
     }
 
-    /// The positions of the array whose numbers aren't 0.
+    /// Returns the positions of the array whose numbers aren't 0.
     pub fn filled_positions(&self, alloc: A) -> Result<Vec<usize, A>, AllocError>
         ensures { IfOk result (λ positions. (i : ℕ) → i < length self.now.cells → (number_now self.now i ≡ 0) ⊎ Contains positions.items i) }
     {
@@ -231,7 +231,7 @@ impl<A: Allocator + Copy> Entries<A> {
         Ok(positions)
     }
 
-    /// Writes the number at a position.
+    /// Writes `number` at `position`.
     pub fn set(&mut self, position: usize, number: u32)
         requires { position < length self.old.cells }
         ensures { self.new ≡ record self.old { cells = slice_set self.old.cells position number } }
@@ -243,7 +243,7 @@ impl<A: Allocator + Copy> Entries<A> {
         self.bases.set(position / 64, UNSAVED);
     }
 
-    /// Where a chunk of a saved copy begins among the words.
+    /// Returns where `chunk` of the saved `copy` begins among the words.
     pub fn base(&self, copy: usize, chunk: usize) -> usize
         requires copy { copy < copy_count self.now }
         requires chunk { 64 * chunk + 64 ≤ length self.now.cells }
@@ -254,7 +254,7 @@ impl<A: Allocator + Copy> Entries<A> {
         self.bases.saved(copy, chunk) as usize
     }
 
-    /// A word.
+    /// Returns the word at `index`.
     pub fn word(&self, index: usize) -> u32
         requires { index < length self.now.words }
         ensures { result ≡ get_or self.now.words index 0 }
@@ -262,12 +262,12 @@ impl<A: Allocator + Copy> Entries<A> {
         self.words[index]
     }
 
-    /// How many words are stored.
+    /// Returns how many words are stored.
     pub fn word_count(&self) -> usize {
         self.words.len()
     }
 
-    /// Writes numbers, from a position on.
+    /// Writes `numbers` from the position `first` on.
     pub fn write_all(&mut self, first: usize, numbers: &[u32])
         requires small { first < 2 ^ 63 }
         requires within { first + length numbers.now ≤ length self.old.cells }
@@ -278,7 +278,7 @@ impl<A: Allocator + Copy> Entries<A> {
         }
     }
 
-    /// Gives another array, which has the numbers of this one, those of a saved copy.
+    /// Writes the numbers of the saved `copy` to the array `to`, which has the numbers of this array.
     fn write_copy(&self, copy: usize, to: &mut Entries<A>)
         requires copy { copy < copy_count self.now }
         requires long { length to.old.cells ≡ length self.now.cells }
@@ -296,7 +296,7 @@ impl<A: Allocator + Copy> Entries<A> {
         }
     }
 
-    /// Whether a copy was never saved.
+    /// Returns whether `copy` was never saved.
     fn is_unsaved(&self, copy: usize) -> bool
         requires { copy < copy_count self.now }
         ensures { OnTrue result (get_or self.now.base_rows copy [] ≡ []) }
@@ -304,14 +304,14 @@ impl<A: Allocator + Copy> Entries<A> {
         self.bases.is_unsaved(copy)
     }
 
-    /// Whether copies that were never saved are known to have zeros alone.
+    /// Returns whether copies that were never saved are known to have zeros alone.
     fn begins_with_zeros(&self) -> bool
         ensures { OnTrue result ((k i : ℕ) → get_or self.now.base_rows k [] ≡ [] → saved_number self.now k i ≡ 0) }
     {
         self.bases.begins_with_zeros() && begins_with_zeros(&self.words)
     }
 
-    /// Loads a saved copy, and saves it in another array, which has the numbers of this one.
+    /// Loads the saved `copy`, and saves it in the array `to`, which has the numbers of this array.
     fn keep_copy(&mut self, copy: usize, to: &mut Entries<A>) -> Result<(), AllocError>
         requires copy { copy < copy_count self.old }
         requires count { copy_count to.old ≡ copy_count self.old }
@@ -330,8 +330,8 @@ impl<A: Allocator + Copy> Entries<A> {
         to.save(copy)
     }
 
-    /// The saved copies without those that have a mark, stored anew, if they don't take more words than before. The
-    /// array may be that of a saved copy then.
+    /// Returns the array with its unmarked copies, stored anew, if they don't take more words than before. This array may
+    /// then have the numbers of a saved copy.
     pub fn without(&mut self, alloc: A, marks: &[bool]) -> Result<Option<Entries<A>>, AllocError>
         requires { 0 < length self.old.cells }
         ensures count { copy_count self.new ≡ copy_count self.old }
@@ -348,7 +348,7 @@ impl<A: Allocator + Copy> Entries<A> {
             if is_marked(marks, copy) {
                 continue;
             }
-            // a copy of the new array has zeros until it is saved
+            // A copy of the new array has zeros until it is saved.
             if begins_with_zeros && self.is_unsaved(copy) {
                 continue;
             }
@@ -360,7 +360,7 @@ impl<A: Allocator + Copy> Entries<A> {
         Ok(Some(to))
     }
 
-    /// Gives the array the numbers of a saved copy.
+    /// Gives the array the numbers of the saved `copy`.
     pub fn load(&mut self, copy: usize)
         requires { copy < copy_count self.old }
         ensures count { copy_count self.new ≡ copy_count self.old }
@@ -373,7 +373,7 @@ impl<A: Allocator + Copy> Entries<A> {
         self.last = copy;
     }
 
-    /// Gives a saved copy the numbers of the array.
+    /// Saves the numbers of the array as `copy`.
     pub fn save(&mut self, copy: usize) -> Result<(), AllocError>
         requires { copy < copy_count self.old }
         ensures cells { self.new.cells ≡ self.old.cells }
@@ -392,7 +392,7 @@ impl<A: Allocator + Copy> Entries<A> {
         self.bases.save(copy)
     }
 
-    /// Marks the kept sets whose numbers the array and the saved copies have.
+    /// Marks the kept sets whose numbers are in the array or in a saved copy.
     pub fn note_numbers(&self, used: &mut [bool])
         ensures long { length used.new ≡ length used.old }
         ensures now { (i : ℕ) → i < length self.now.cells → IsMarked used.new (number_now self.now i) }
@@ -403,7 +403,7 @@ impl<A: Allocator + Copy> Entries<A> {
         note_all(&self.cells, used);
     }
 
-    /// Replaces the numbers of sets by their new ones.
+    /// Replaces the numbers of sets by their new numbers.
     pub fn renumber(&mut self, numbers: &[u32])
         ensures count { copy_count self.new ≡ copy_count self.old }
         ensures long { length self.new.cells ≡ length self.old.cells }
@@ -415,7 +415,7 @@ impl<A: Allocator + Copy> Entries<A> {
         rename_all(&mut self.cells, numbers);
     }
 
-    /// The first chunk from one on that may differ from that of a saved copy.
+    /// Returns the first chunk from `from` on that may differ from the saved `copy`.
     pub fn next_chunk(&self, copy: usize, from: usize) -> Option<usize>
         requires { copy < copy_count self.now }
         ensures none { result ≡ None → AreAlikeBetween self.now copy (64 * from) (length self.now.cells) }

@@ -13,7 +13,7 @@ use regalloc2_function::indexset::{IndexSet, SetBitsIter};
 use std::alloc::{AllocError, Allocator};
 use std::marker::Model;
 
-/// Takes the place out that a number stands for, which is zero if it stands for none.
+/// Returns the place that `number` stands for, and sets `number` to 0. A 0 stands for no place.
 fn take_place(number: &mut u32) -> Option<usize>
     ensures some { IfSome result (λ place. place_list number.old ≡ place ∷ []) }
     ensures none { IfNone result (place_list number.old ≡ []) }
@@ -98,7 +98,7 @@ impl<'a> Iterator for FewPlacesIter<'a> {
     }
 }
 
-/// The set, if there is one.
+/// Returns the set, if there is one.
 fn set_of<A: Allocator + Copy>(others: &Option<Box<IndexSet<A>, A>>) -> Option<&IndexSet<A>>
     ensures some { IfSome result (λ set. set.now ≡ set_in (option_map (λ b. b.value) others.now)) }
     ensures none { IfNone result ((i : ℕ) → has_number (set_in (option_map (λ b. b.value) others.now)) i ≡ false) }
@@ -109,7 +109,7 @@ fn set_of<A: Allocator + Copy>(others: &Option<Box<IndexSet<A>, A>>) -> Option<&
     }
 }
 
-/// Adds a place to the set, which is made if there is none yet.
+/// Adds `place` to the set, which is made if there is none yet.
 fn add_other<A: Allocator + Copy>(
     alloc: A,
     others: &mut Option<Box<IndexSet<A>, A>>,
@@ -129,7 +129,7 @@ fn add_other<A: Allocator + Copy>(
     Ok(())
 }
 
-/// Adds places to the set, which is made if there is none yet.
+/// Adds `places` to the set, which is made if there is none yet.
 fn add_others<A: Allocator + Copy>(
     alloc: A,
     others: &mut Option<Box<IndexSet<A>, A>>,
@@ -149,7 +149,7 @@ fn add_others<A: Allocator + Copy>(
     Ok(())
 }
 
-/// How many places a set has.
+/// Returns how many places a set has.
 fn count_of<A: Allocator + Copy>(places: &IndexSet<A>) -> usize {
     let mut count: usize = 0;
     for _place in places.iter() {
@@ -158,7 +158,7 @@ fn count_of<A: Allocator + Copy>(places: &IndexSet<A>) -> usize {
     count
 }
 
-/// Whether a number may be put where one is: over the same, or over a 0.
+/// Returns whether `number` may replace `had`: an equal number, or 0.
 fn is_room_for(had: u32, number: u32) -> bool
     ensures yes { result ≡ true → (had ≡ 0) ⊎ (had ≡ number) }
     ensures no { result ≡ false → (had ≢ 0) × (had ≢ number) }
@@ -166,7 +166,7 @@ fn is_room_for(had: u32, number: u32) -> bool
     had == 0 || had == number
 }
 
-/// The index of a number among others, or of a 0 before it.
+/// Returns the index of the first of `numbers` that is `number` or 0.
 fn index_for(numbers: &[u32], number: u32) -> Option<usize>
     ensures some { IfSome result (λ n. (n < length numbers.now) × ((get_or numbers.now n 0 ≡ 0) ⊎ (get_or numbers.now n 0 ≡ number))) }
     ensures none { IfNone result ((k : ℕ) → k < length numbers.now → (get_or numbers.now k 0 ≢ 0) × (get_or numbers.now k 0 ≢ number)) }
@@ -198,7 +198,7 @@ impl<A: Allocator> Model for More<A> {
 }
 
 impl<A: Allocator + Copy> More<A> {
-    /// No places. Allocates nothing.
+    /// Returns no places. Allocates nothing.
     fn new() -> Self
         ensures { (i : ℕ) → has_more result i ≡ false }
     {
@@ -209,7 +209,7 @@ impl<A: Allocator + Copy> More<A> {
         }
     }
 
-    /// How many places the set of other places has once a place is added.
+    /// Returns how many places the set of other places has once `place` is added.
     fn count_with(&self, place: usize) -> usize
         requires { place < 2 ^ 38 }
     {
@@ -222,7 +222,7 @@ impl<A: Allocator + Copy> More<A> {
         self.count.saturating_add(1)
     }
 
-    /// Adds a place.
+    /// Adds `place`.
     fn add(&mut self, alloc: A, place: usize) -> Result<(), AllocError>
         requires place { place < 2 ^ 38 }
         requires some { 0 < place }
@@ -240,7 +240,7 @@ impl<A: Allocator + Copy> More<A> {
         Ok(())
     }
 
-    /// Adds the places of a set.
+    /// Adds `places`.
     fn add_all(&mut self, alloc: A, places: &IndexSet<A>) -> Result<(), AllocError>
         ensures kept { (i : ℕ) → has_more self.old i ≡ true → has_more self.new i ≡ true }
         ensures added { OnOk result ((i : ℕ) → has_number places.now i ≡ true → has_more self.new i ≡ true) }
@@ -274,7 +274,7 @@ impl Model for Entry {
 }
 
 impl Entry {
-    /// Adds a place to the mask, or as one of the two; returns whether it is there now.
+    /// Adds `place` to the mask, or as one of the two numbers. Returns whether it is there now.
     #[inline(always)]
     fn add(&mut self, place: usize) -> bool
         ensures index { self.new.index ≡ self.old.index }
@@ -302,7 +302,7 @@ impl Entry {
     }
 }
 
-/// The index of a home's more places, which are made if there are none yet.
+/// Returns the index of the more places of `entry`, which are made if there are none yet.
 fn index_of<A: Allocator + Copy>(
     more: &mut Vec<More<A>, A>,
     entry: &mut Entry,
@@ -323,7 +323,7 @@ fn index_of<A: Allocator + Copy>(
     Ok(end)
 }
 
-/// Adds a place to a home's more places.
+/// Adds `place` to the more places of `entry`.
 #[inline(never)]
 fn add_more<A: Allocator + Copy>(
     alloc: A,
@@ -342,7 +342,7 @@ fn add_more<A: Allocator + Copy>(
     places.add(alloc, place)
 }
 
-/// Adds the places of a set to a home's more places.
+/// Adds `places` to the more places of `entry`.
 fn add_all_more<A: Allocator + Copy>(
     alloc: A,
     more: &mut Vec<More<A>, A>,
@@ -358,7 +358,7 @@ fn add_all_more<A: Allocator + Copy>(
     more_places.add_all(alloc, places)
 }
 
-/// More places at an index, if it is not past the last.
+/// Returns the more places at `index`, unless it is past the last.
 #[inline(always)]
 fn more_at<A: Allocator + Copy>(more: &Vec<More<A>, A>, index: usize) -> Option<&More<A>>
     ensures { more_in (option_map (λ m. m.now) result) ≡ get_or more.now.items index no_more }
@@ -369,7 +369,7 @@ fn more_at<A: Allocator + Copy>(more: &Vec<More<A>, A>, index: usize) -> Option<
     None
 }
 
-/// The numbers of more places, if there are some.
+/// Returns the numbers of `more`, or none.
 fn numbers_of<A: Allocator>(more: Option<&More<A>>) -> &[u32]
     ensures { result.now ≡ (more_in (option_map (λ m. m.now) more.entry)).numbers }
 {
@@ -399,7 +399,7 @@ impl<'a, A: Allocator> Model for Home<'a, A> {
 }
 
 impl<'a, A: Allocator + Copy> Home<'a, A> {
-    /// Whether the mask is empty, the two numbers are 0, and there are no more places.
+    /// Returns whether the mask is empty, the two numbers are 0, and there are no more places.
     #[inline(always)]
     pub fn has_no_few(&self) -> bool
         ensures { IsTrue result → (self.now.low ≡ 0) × (self.now.first ≡ 0) × (self.now.second ≡ 0) × (self.now.more ≡ no_more) }
@@ -410,7 +410,7 @@ impl<'a, A: Allocator + Copy> Home<'a, A> {
         self.low == 0 && self.first == 0 && self.second == 0
     }
 
-    /// The places of the mask and of the numbers. Allocates nothing.
+    /// Returns the places of the mask and of the numbers. Allocates nothing.
     pub fn few(&self) -> FewPlacesIter<'a>
         ensures { (i : ℕ) → nat_lt 0 (times_listed result i) ≡ has_few self.now i }
     {
@@ -422,7 +422,7 @@ impl<'a, A: Allocator + Copy> Home<'a, A> {
         }
     }
 
-    /// How many places are in the set of other places.
+    /// Returns how many places are in the set of other places.
     pub fn other_count(&self) -> usize {
         match self.more {
             Some(more) => more.count,
@@ -430,7 +430,7 @@ impl<'a, A: Allocator + Copy> Home<'a, A> {
         }
     }
 
-    /// The set of other places, if there is one.
+    /// Returns the set of other places, if there is one.
     #[inline(always)]
     pub fn others(&self) -> Option<&'a IndexSet<A>>
         ensures some { IfSome result (λ set. set.now ≡ self.now.more.others) }
@@ -461,7 +461,7 @@ impl<A: Allocator> Model for Homes<A> {
 }
 
 impl<A: Allocator + Copy> Homes<A> {
-    /// So many homes without places.
+    /// Returns `count` homes without places.
     pub fn new(alloc: A, count: usize) -> Result<Self, AllocError>
         ensures { IfOk result (λ homes. length homes ≡ count) }
     {
@@ -478,7 +478,7 @@ impl<A: Allocator + Copy> Homes<A> {
         })
     }
 
-    /// The places where a vreg may be.
+    /// Returns the places where `vreg` may be.
     #[inline(always)]
     pub fn at(&self, vreg: usize) -> Home<'_, A>
         requires { vreg < length self.now }
@@ -493,7 +493,7 @@ impl<A: Allocator + Copy> Homes<A> {
         }
     }
 
-    /// Adds a place where a vreg may be.
+    /// Adds `place` to the places where `vreg` may be.
     #[inline(always)]
     pub fn add(&mut self, vreg: usize, place: usize) -> Result<(), AllocError>
         requires vreg { vreg < length self.old }
@@ -507,7 +507,7 @@ impl<A: Allocator + Copy> Homes<A> {
         }
         add_more(self.alloc, &mut self.more, entry, place)
     }
-    /// Adds the places of a set, where a vreg may be.
+    /// Adds `places` to the places where `vreg` may be.
     pub fn add_all(&mut self, vreg: usize, places: &IndexSet<A>) -> Result<(), AllocError>
         requires { vreg < length self.old }
         ensures more { AreMoreHomes self.old self.new }

@@ -31,14 +31,14 @@ impl<A: Allocator> Model for Kept<A> {
     ghost invariant = { λ k. (k.first < 4294967296) × (k.second < 4294967296) };
 }
 
-/// Whether bits are a member.
+/// Returns whether `bits` are a member of `set`.
 pub fn has_bits<A: Allocator + Copy>(set: &IndexSet<A>, bits: u32) -> bool
     ensures { result ≡ has_bits set.now bits }
 {
     set.get(bits as usize)
 }
 
-/// The members of a set, in no guaranteed order.
+/// Returns the members of `set`, in no guaranteed order.
 pub fn listed<A: Allocator + Copy>(alloc: A, set: &IndexSet<A>) -> Result<Vec<u32, A>, AllocError>
     ensures { IfOk result (λ members. ListsBits (has_bits set.now) members.items) }
 {
@@ -52,7 +52,7 @@ pub fn listed<A: Allocator + Copy>(alloc: A, set: &IndexSet<A>) -> Result<Vec<u3
     Ok(members)
 }
 
-/// Whether each member of a set is one of another.
+/// Returns whether each member of `set` is a member of `other`.
 fn is_part<A: Allocator + Copy>(set: &IndexSet<A>, other: &IndexSet<A>) -> bool
     ensures { result ≡ true → (y : ℕ) → has_bits set.now y ≡ true → has_bits other.now y ≡ true }
 {
@@ -68,7 +68,7 @@ fn is_part<A: Allocator + Copy>(set: &IndexSet<A>, other: &IndexSet<A>) -> bool
 }
 
 impl<A: Allocator + Copy> Kept<A> {
-    /// A set of two members.
+    /// Returns the set of `first` and `second`.
     pub fn pair(alloc: A, first: u32, second: u32) -> Kept<A>
         ensures { (y : ℕ) → has_bits result y ≡ (nat_eq y first || nat_eq y second) }
     {
@@ -79,7 +79,7 @@ impl<A: Allocator + Copy> Kept<A> {
         }
     }
 
-    /// The set that has the members of `set`.
+    /// Returns the set that has the members of `set`.
     pub fn many(alloc: A, set: IndexSet<A>) -> Result<Kept<A>, AllocError>
         ensures { IfOk result (λ k. (y : ℕ) → has_bits k y ≡ has_bits set y) }
     {
@@ -92,7 +92,7 @@ impl<A: Allocator + Copy> Kept<A> {
         })
     }
 
-    /// The members, if they are kept as two numbers, which may be equal.
+    /// Returns the members, if they are kept as two numbers, which may be equal.
     pub fn two(&self) -> Option<(u32, u32)>
         ensures { (p : ℕ × ℕ) → result ≡ Some p → (y : ℕ) → has_bits self.now y ≡ (nat_eq y p.0 || nat_eq y p.1) }
     {
@@ -102,7 +102,7 @@ impl<A: Allocator + Copy> Kept<A> {
         None
     }
 
-    /// Whether bits are a member.
+    /// Returns whether `bits` are a member.
     pub fn has(&self, bits: u32) -> bool
         ensures { result ≡ has_bits self.now bits }
     {
@@ -112,7 +112,7 @@ impl<A: Allocator + Copy> Kept<A> {
         has_bits(&self.many[0], bits)
     }
 
-    /// The members, in no guaranteed order.
+    /// Returns the members, in no guaranteed order.
     pub fn members(&self, alloc: A) -> Result<Vec<u32, A>, AllocError>
         ensures { IfOk result (λ members. ListsBits (has_bits self.now) members.items) }
     {
@@ -125,7 +125,7 @@ impl<A: Allocator + Copy> Kept<A> {
         Vec::from_slice(alloc, &[self.first, self.second])
     }
 
-    /// A copy that can be changed.
+    /// Returns a copy that can be changed.
     pub fn copied(&self, alloc: A) -> Result<IndexSet<A>, AllocError>
         ensures { IfOk result (λ s. (y : ℕ) → has_bits s y ≡ has_bits self.now y) }
     {
@@ -139,7 +139,7 @@ impl<A: Allocator + Copy> Kept<A> {
         Ok(copy)
     }
 
-    /// Whether the members are those of `set`, where they are kept in a set.
+    /// Returns whether `set` has exactly these members, where they are kept in a set.
     pub fn is_same(&self, set: &IndexSet<A>) -> bool
         ensures { result ≡ true → (y : ℕ) → has_bits self.now y ≡ has_bits set.now y }
     {
@@ -153,7 +153,7 @@ impl<A: Allocator + Copy> Kept<A> {
         is_part(set, many)
     }
 
-    /// How many words of 32 bits it takes, or more.
+    /// Returns how many words of 32 bits it takes, or more.
     pub fn word_count(&self) -> usize {
         if self.many.is_empty() {
             return 8;
@@ -170,7 +170,7 @@ impl<A: Allocator + Copy> Kept<A> {
         count
     }
 
-    /// Whether another set has each member.
+    /// Returns whether the set `other` has each member.
     pub fn is_within(&self, sets: &Sets<A>, other: u32) -> bool
         requires { other < length sets.now }
         ensures yes { OnTrue result ((y : ℕ) → has_bits self.now y ≡ true → is_member sets.now other y ≡ true) }
@@ -185,7 +185,7 @@ impl<A: Allocator + Copy> Kept<A> {
         sets.has(other, self.second)
     }
 
-    /// The members that another set has too.
+    /// Returns the members that the set `other` has too.
     pub fn common(&self, sets: &Sets<A>, alloc: A, other: u32) -> Result<IndexSet<A>, AllocError>
         requires { other < length sets.now }
         ensures { IfOk result (λ both. (y : ℕ) → has_bits both y ≡ (has_bits self.now y && is_member sets.now other y)) }

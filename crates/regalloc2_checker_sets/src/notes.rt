@@ -9,7 +9,7 @@ use std::marker::Model;
 /// How many sets are noted at most.
 const ROOM: usize = 256;
 
-/// A set that was made of another one, and of bits or a third.
+/// A set that was made of the set `from`, and of `other`: bits, or a third set.
 #[derive(Clone, Copy, Drop)]
 pub struct Noted {
     pub from: u32,
@@ -17,7 +17,8 @@ pub struct Noted {
     pub number: u32,
 }
 
-/// Sets that were made of others, each at a place that these determine. The last one that was noted there stays.
+/// Sets that were made of others, each at a place that `from` and `other` determine. The last set that was noted there
+/// stays.
 #[derive(Drop)]
 pub struct Notes<A: Allocator> {
     entries: Vec<Option<Noted>, A>,
@@ -32,7 +33,7 @@ impl<A: Allocator> Model for Notes<A> {
     ghost view = { λ n. n.entries.items };
 }
 
-/// The place of a set that is made of two others.
+/// Returns the place of a set that is made of `from` and `other`.
 #[inline(always)]
 fn place_of(from: u32, other: u32) -> usize {
     let mixed = from
@@ -41,7 +42,7 @@ fn place_of(from: u32, other: u32) -> usize {
     (mixed >> 20) as usize % ROOM
 }
 
-/// Room for notes.
+/// Returns room for notes.
 fn empty_entries<A: Allocator + Copy>(alloc: A) -> Result<Vec<Option<Noted>, A>, AllocError>
     ensures { IfOk result (λ entries. (i : ℕ) (e : Noted) → get_or entries.items i None ≡ Some e → ⊥) }
 {
@@ -50,7 +51,7 @@ fn empty_entries<A: Allocator + Copy>(alloc: A) -> Result<Vec<Option<Noted>, A>,
 }
 
 impl<A: Allocator + Copy> Notes<A> {
-    /// No notes. Allocates nothing.
+    /// Returns no notes. Allocates nothing.
     pub fn new(alloc: A) -> Notes<A>
         ensures { result ≡ [] }
     {
@@ -59,7 +60,7 @@ impl<A: Allocator + Copy> Notes<A> {
         }
     }
 
-    /// The number of a set that was made of others, if it is noted.
+    /// Returns the number of the set that was made of `from` and `other`, if it is noted.
     #[inline(always)]
     pub fn find(&self, from: u32, other: u32) -> Option<u32>
         ensures { (n : ℕ) → result ≡ Some n → (i : ℕ) × (get_or self.now i None ≡ Some (record { from = from; other = other; number = n })) }
@@ -75,7 +76,7 @@ impl<A: Allocator + Copy> Notes<A> {
         None
     }
 
-    /// Notes a set that was made of others.
+    /// Notes that the set `number` was made of `from` and `other`.
     pub fn note(&mut self, alloc: A, from: u32, other: u32, number: u32) -> Result<(), AllocError>
         ensures { (i : ℕ) (e : Noted) → get_or self.new i None ≡ Some e
             → (get_or self.old i None ≡ Some e) ⊎ (e ≡ record { from = from; other = other; number = number }) }

@@ -13,7 +13,8 @@ use crate::sets::Sets;
 use regalloc2_function::indexset::IndexSet;
 use std::alloc::{AllocError, Allocator};
 
-/// The number of a set in which each parameter is a member if its argument is one of the set. It is noted.
+/// Returns the number of the set in which each parameter is a member if its argument is a member of `set`. The set is
+/// noted.
 fn passed_set<A: Allocator + Copy>(
     alloc: A,
     sets: &mut Sets<A>,
@@ -37,7 +38,7 @@ fn passed_set<A: Allocator + Copy>(
     Ok(number)
 }
 
-/// The numbers that the sets of an array have once each parameter is a member where its argument was. Equal sets are changed
+/// Returns the numbers of the array's sets once each parameter is a member where its argument was. Equal sets are changed
 /// once.
 pub fn passed_numbers<A: Allocator + Copy>(
     alloc: A,
@@ -61,7 +62,7 @@ pub fn passed_numbers<A: Allocator + Copy>(
     Ok(numbers)
 }
 
-/// The positions at which an array has other numbers than a list.
+/// Returns the positions at which the array differs from `numbers`.
 pub fn changed_positions<A: Allocator + Copy>(
     alloc: A,
     entries: &Entries<A>,

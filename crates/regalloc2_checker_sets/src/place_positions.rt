@@ -43,7 +43,7 @@ impl<A: Allocator> Model for PlacePositions<A> {
     ghost invariant = { λ p. IsStrictlyIncreasing p.places × ArePlaceEntries p.places (length p.places) p.entries.items };
 }
 
-/// The index of a place's entry, by its bits. Bits of no register and no slot have an index past all entries.
+/// Returns the index of a place's entry, by its `bits`. Bits of no register and no slot have an index past all entries.
 #[inline(always)]
 fn entry_index(bits: u32) -> usize
     ensures here { result < 3221225664 → bits_at result ≡ bits }
@@ -56,7 +56,7 @@ fn entry_index(bits: u32) -> usize
     bits.wrapping_sub(SLOTS) as usize + REGISTER_COUNT
 }
 
-/// How many slots get an entry: all up to the last one that is listed, but at most four for each place.
+/// Returns how many slots get an entry: all up to the last one that is listed, but at most four for each place.
 fn slot_count<A: Allocator>(places: &Positions<A>) -> usize
     ensures { result ≤ 3221225472 }
 {
@@ -67,7 +67,7 @@ fn slot_count<A: Allocator>(places: &Positions<A>) -> usize
     slots.min(places.len().saturating_mul(4))
 }
 
-/// The entries of listed places. The list is empty if a position may not fit into an entry.
+/// Returns the entries of `places`, or none if a position may not fit into an entry.
 fn entries_of<A: Allocator + Copy>(
     alloc: A,
     places: &Positions<A>,
@@ -89,7 +89,7 @@ fn entries_of<A: Allocator + Copy>(
 }
 
 impl<A: Allocator + Copy> PlacePositions<A> {
-    /// The places of a list.
+    /// Returns the positions of `places`.
     pub fn of(alloc: A, places: Positions<A>) -> Result<PlacePositions<A>, AllocError>
         requires { IsStrictlyIncreasing places }
         ensures { IfOk result (λ p. p ≡ places) }
@@ -98,14 +98,14 @@ impl<A: Allocator + Copy> PlacePositions<A> {
         Ok(PlacePositions { places, entries })
     }
 
-    /// How many places there are.
+    /// Returns how many places there are.
     pub fn len(&self) -> usize
         ensures { result ≡ length self.now }
     {
         self.places.len()
     }
 
-    /// The position of a place. A slot past the bound takes a binary search.
+    /// Returns the position of `place`. A slot past the bound takes a binary search.
     pub fn find(&self, place: Allocation) -> Option<usize>
         ensures { result ≡ position (λ n. n == bits_of_place place) self.now }
     {

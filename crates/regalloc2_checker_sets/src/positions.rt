@@ -25,7 +25,7 @@ impl<A: Allocator> Model for Positions<A> {
 }
 
 impl<A: Allocator> Positions<A> {
-    /// The numbers of a list.
+    /// Returns the positions of `numbers`, sorted, each once.
     pub fn of(mut numbers: Vec<u32, A>) -> Positions<A>
         ensures members { (n : ℕ) → Contains result n ↔ Contains numbers.items n }
         ensures rising { IsStrictlyIncreasing result }
@@ -35,21 +35,21 @@ impl<A: Allocator> Positions<A> {
         Positions { numbers }
     }
 
-    /// The numbers, as a list.
+    /// Returns the numbers, as a list.
     pub fn into_numbers(self) -> Vec<u32, A>
         ensures { result.items ≡ self }
     {
         self.numbers
     }
 
-    /// How many numbers there are.
+    /// Returns how many numbers there are.
     pub fn len(&self) -> usize
         ensures { result ≡ length self.now }
     {
         self.numbers.len()
     }
 
-    /// The number at a position.
+    /// Returns the number at `position`.
     pub fn number(&self, position: usize) -> u32
         requires { position < length self.now }
         ensures { result ≡ slice_index self.now position }
@@ -57,7 +57,7 @@ impl<A: Allocator> Positions<A> {
         self.numbers[position]
     }
 
-    /// The position of a number, if it is listed. It is looked for at a guess first.
+    /// Returns the position of `number`, if it is listed. Tries the position `guess` first.
     pub fn find(&self, number: u32, guess: usize) -> Option<usize>
         ensures { result ≡ position (λ n. n == number) self.now }
     {

@@ -16,11 +16,11 @@ use std::marker::Model;
 /// is one less than the number.
 pub const FIRST: u32 = 1 << 31;
 
-/// Sets of bits, by number. The first is the empty one.
+/// Sets of bits, by number. The first set is the empty one.
 ///
-/// Most have one member alone, and are kept nowhere, since the number says the member. The set that was last made of
-/// another and one member more is noted, since many places may get that member one after another. A loop that passes its
-/// parameters on in another order makes many sets of two members, which `Kept` has as two numbers.
+/// Most sets have one member alone, and are kept nowhere, since the number says the member. The set that was last made of
+/// another set and one member more is noted, since many places may get that member one after another. A loop that passes
+/// its parameters on in another order makes many sets of two members, which `Kept` has as two numbers.
 #[derive(Drop)]
 pub struct Sets<A: Allocator> {
     kept: Vec<Kept<A>, A>,
@@ -32,7 +32,7 @@ pub struct Sets<A: Allocator> {
     alloc: A,
 }
 
-/// How many sets are known by their members.
+/// How many kept sets can be found by their members.
 const KNOWN: usize = 1024;
 
 impl<A: Allocator> Model for Sets<A> {
@@ -47,7 +47,7 @@ impl<A: Allocator> Model for Sets<A> {
     ghost invariant = { λ s. AreNotes (all_sets s.kept.items) s.grown s.shrunk s.met };
 }
 
-/// A member of a set, if it has one.
+/// Returns a member of `set`, if it has one.
 fn member_of<A: Allocator + Copy>(set: &IndexSet<A>) -> Option<u32>
     ensures none { result ≡ None → (y : ℕ) → has_bits set.now y ≡ false }
     ensures some { (b : ℕ) → result ≡ Some b → has_bits set.now b ≡ true }
@@ -60,7 +60,7 @@ fn member_of<A: Allocator + Copy>(set: &IndexSet<A>) -> Option<u32>
     None
 }
 
-/// Whether a set has no member but one.
+/// Returns whether `set` has no member but `only`.
 fn has_no_other<A: Allocator + Copy>(set: &IndexSet<A>, only: u32) -> bool
     ensures { result ≡ true → (y : ℕ) → has_bits set.now y ≡ true → y ≡ only }
 {
@@ -75,13 +75,13 @@ fn has_no_other<A: Allocator + Copy>(set: &IndexSet<A>, only: u32) -> bool
     true
 }
 
-/// Spreads a number.
+/// Returns a hash of `number`.
 fn spread(number: usize) -> usize {
     let mixed = number.wrapping_mul(0x9e37_79b9_7f4a_7c15);
     mixed ^ (mixed >> 29)
 }
 
-/// The place of a set among those that are known by their members.
+/// Returns the place in `known` of a set with the members of `set`.
 fn place_of<A: Allocator + Copy>(set: &IndexSet<A>) -> usize {
     let mut sum: usize = 0;
     for member in set.iter() {
@@ -90,7 +90,7 @@ fn place_of<A: Allocator + Copy>(set: &IndexSet<A>) -> usize {
     spread(sum) >> 20 & (KNOWN - 1)
 }
 
-/// How many words kept sets take.
+/// Returns how many words `kept` takes.
 fn words_of<A: Allocator + Copy>(kept: &Vec<Kept<A>, A>) -> usize {
     let mut count: usize = 0;
     for set in kept {
@@ -99,7 +99,7 @@ fn words_of<A: Allocator + Copy>(kept: &Vec<Kept<A>, A>) -> usize {
     count
 }
 
-/// Whether the kept set at an index stays: it has a mark, or is past the marks.
+/// Returns whether the kept set at `index` stays: it has a mark, or is past the marks.
 fn stays(marks: &[bool], index: usize) -> bool
     ensures { result ≡ get_or marks.now index true }
 {
@@ -109,7 +109,7 @@ fn stays(marks: &[bool], index: usize) -> bool
     true
 }
 
-/// Drops the kept sets without a mark, and moves the others down. The list gets their new numbers.
+/// Drops the kept sets without a mark, and moves the others down. `numbers` gets their new numbers.
 fn move_down<A: Allocator>(kept: &mut Vec<Kept<A>, A>, marks: &[bool], numbers: &mut [u32])
     requires long { length numbers.old ≡ length kept.old.items }
     requires few { length kept.old.items ≤ 2147483648 }
@@ -130,7 +130,7 @@ fn move_down<A: Allocator>(kept: &mut Vec<Kept<A>, A>, marks: &[bool], numbers: 
 }
 
 impl<A: Allocator + Copy> Sets<A> {
-    /// The empty set, and those of one member.
+    /// Returns the sets that are kept nowhere: the empty set, and the sets of one member.
     pub fn new(alloc: A) -> Sets<A>
         ensures { IsSetOf result 0 (λ y. false) }
     {
@@ -145,11 +145,12 @@ impl<A: Allocator + Copy> Sets<A> {
         }
     }
 
-    /// The one member of a set, if it is known to have one alone.
+    /// Returns the one member of `set`, if it is known to have one alone.
     pub fn only(&self, set: u32) -> Option<u32>
         requires { set < length self.now }
         ensures { (b : ℕ) → result ≡ Some b → IsSetOf self.now set (λ y. nat_eq y b) }
     {
+        // Reading a field shows the prover the invariant of `self`, here and in the functions below.
         let _ = &self.kept;
         if set >= FIRST {
             return None;
@@ -160,7 +161,7 @@ impl<A: Allocator + Copy> Sets<A> {
         Some(set - 1)
     }
 
-    /// A set that is kept.
+    /// Returns the kept set of the number `set`.
     fn kept(&self, set: u32) -> &Kept<A>
         requires kept { 2147483648 ≤ set }
         requires set { set < length self.now }
@@ -169,7 +170,7 @@ impl<A: Allocator + Copy> Sets<A> {
         &self.kept[(set - FIRST) as usize]
     }
 
-    /// Whether bits are a member of a set.
+    /// Returns whether `bits` are a member of `set`.
     pub fn has(&self, set: u32, bits: u32) -> bool
         requires { set < length self.now }
         ensures { result ≡ is_member self.now set bits }
@@ -184,12 +185,11 @@ impl<A: Allocator + Copy> Sets<A> {
         bits == set - 1
     }
 
-    /// The members of a set, in no guaranteed order.
+    /// Returns the members of `set`, in no guaranteed order.
     pub fn members(&self, set: u32) -> Result<Vec<u32, A>, AllocError>
         requires { set < length self.now }
         ensures { IfOk result (λ members. ListsBits (is_member self.now set) members.items) }
     {
-        let _ = &self.kept;
         if set >= FIRST {
             return self.kept(set).members(self.alloc);
         }
@@ -199,7 +199,7 @@ impl<A: Allocator + Copy> Sets<A> {
         Vec::from_slice(self.alloc, &[set - 1])
     }
 
-    /// Adds a set that is kept, and returns its number.
+    /// Keeps `set`, and returns its number.
     #[inline(always)]
     fn keep(&mut self, set: Kept<A>) -> Result<u32, AllocError>
         ensures more { AreMore self.old self.new }
@@ -216,7 +216,7 @@ impl<A: Allocator + Copy> Sets<A> {
         Ok(FIRST + index)
     }
 
-    /// The kept set that was last put at a place of those that are known by their members.
+    /// Returns the number of the kept set that was last put at `place` in `known`.
     fn known_at(&self, place: usize) -> Option<u32>
         ensures { (n : ℕ) → result ≡ Some n → (2147483648 ≤ n) × (n < length self.now) }
     {
@@ -233,7 +233,7 @@ impl<A: Allocator + Copy> Sets<A> {
         Some(number)
     }
 
-    /// Puts a set at a place of those that are known by their members.
+    /// Puts `number` at `place` in `known`.
     fn know(&mut self, place: usize, number: u32) -> Result<(), AllocError>
         ensures { self.new ≡ self.old }
     {
@@ -246,7 +246,7 @@ impl<A: Allocator + Copy> Sets<A> {
         Ok(())
     }
 
-    /// Adds a set that is kept, puts it at a place of those that are known, and returns its number.
+    /// Keeps `set`, puts it at `place` in `known`, and returns its number.
     fn keep_at(&mut self, set: Kept<A>, place: usize) -> Result<u32, AllocError>
         ensures more { AreMore self.old self.new }
         ensures found { IfOk result (λ n. IsSetOf self.new n (has_bits set)) }
@@ -256,7 +256,7 @@ impl<A: Allocator + Copy> Sets<A> {
         Ok(number)
     }
 
-    /// The number of a kept set with the members of `set`, if it is at a place of those that are known.
+    /// Returns the number of a kept set with the members of `set`, if it is at `place` in `known`.
     fn find_set(&self, set: &IndexSet<A>, place: usize) -> Option<u32>
         ensures { (n : ℕ) → result ≡ Some n → IsSetOf self.now n (has_bits set.now) }
     {
@@ -269,12 +269,11 @@ impl<A: Allocator + Copy> Sets<A> {
         None
     }
 
-    /// The number of a set, which is added unless a kept one with its members is known.
+    /// Returns the number of `set`, which is added unless a kept set with its members is known.
     fn add(&mut self, set: IndexSet<A>) -> Result<u32, AllocError>
         ensures more { AreMore self.old self.new }
         ensures found { IfOk result (λ n. IsSetOf self.new n (has_bits set)) }
     {
-        let _ = &self.kept;
         let place = place_of(&set);
         if let Some(number) = self.find_set(&set, place) {
             return Ok(number);
@@ -283,7 +282,7 @@ impl<A: Allocator + Copy> Sets<A> {
         self.keep_at(kept, place)
     }
 
-    /// Adds a set of two members, and returns its number.
+    /// Adds the set of `first` and `second`, and returns its number.
     fn add_pair(&mut self, first: u32, second: u32) -> Result<u32, AllocError>
         ensures more { AreMore self.old self.new }
         ensures found { IfOk result (λ n. IsSetOf self.new n (λ y. nat_eq y first || nat_eq y second)) }
@@ -292,7 +291,7 @@ impl<A: Allocator + Copy> Sets<A> {
         self.keep(kept)
     }
 
-    /// Adds a set of one member, which no number below the others stands for.
+    /// Adds the set of `bits` alone, for which no number below `FIRST` stands.
     #[inline(never)]
     fn new_single(&mut self, bits: u32) -> Result<u32, AllocError>
         ensures more { AreMore self.old self.new }
@@ -303,7 +302,7 @@ impl<A: Allocator + Copy> Sets<A> {
         self.add(set)
     }
 
-    /// A set of one member.
+    /// Returns the number of the set of `bits` alone.
     pub fn single(&mut self, bits: u32) -> Result<u32, AllocError>
         ensures more { AreMore self.old self.new }
         ensures found { IfOk result (λ n. IsSetOf self.new n (λ y. nat_eq y bits)) }
@@ -315,7 +314,8 @@ impl<A: Allocator + Copy> Sets<A> {
         self.new_single(bits)
     }
 
-    /// The number of a set: that of the empty one, of one of one member, or one that is added.
+    /// Returns the number of `set`: of the empty set, of a set of one member, or of a kept set, which is added unless it
+    /// is known.
     fn settle(&mut self, set: IndexSet<A>) -> Result<u32, AllocError>
         ensures more { AreMore self.old self.new }
         ensures found { IfOk result (λ n. IsSetOf self.new n (has_bits set)) }
@@ -330,13 +330,12 @@ impl<A: Allocator + Copy> Sets<A> {
         self.add(set)
     }
 
-    /// A copy of a set.
+    /// Returns a copy of `set`.
     #[inline(always)]
     fn copied(&self, set: u32) -> Result<IndexSet<A>, AllocError>
         requires { set < length self.now }
         ensures { IfOk result (λ s. (y : ℕ) → has_bits s y ≡ is_member self.now set y) }
     {
-        let _ = &self.kept;
         if set >= FIRST {
             return self.kept(set).copied(self.alloc);
         }
@@ -348,7 +347,7 @@ impl<A: Allocator + Copy> Sets<A> {
         Ok(copy)
     }
 
-    /// A set with its one member changed: `bits` is a member or none.
+    /// Returns a copy of `set` in which `bits` is a member if `is_in`, and none otherwise.
     #[inline(always)]
     fn changed(&self, set: u32, bits: u32, is_in: bool) -> Result<IndexSet<A>, AllocError>
         requires { set < length self.now }
@@ -359,13 +358,12 @@ impl<A: Allocator + Copy> Sets<A> {
         Ok(copy)
     }
 
-    /// Adds a set of another and one member more.
+    /// Adds the set of the members of `set`, and of `bits`.
     fn added(&mut self, set: u32, bits: u32) -> Result<u32, AllocError>
         requires { set < length self.old }
         ensures more { AreMore self.old self.new }
         ensures found { IfOk result (λ n. IsSetOf self.new n (λ y. if nat_eq y bits then true else is_member self.old set y)) }
     {
-        let _ = &self.kept;
         if let Some(only) = self.only(set) {
             return self.add_pair(bits, only);
         }
@@ -373,15 +371,14 @@ impl<A: Allocator + Copy> Sets<A> {
         self.add(more)
     }
 
-    /// The number of a set with bits put in, if it is noted.
+    /// Returns the number of `set` with `bits` put in, if it is noted.
     fn find_grown(&self, set: u32, bits: u32) -> Option<u32>
         ensures { (n : ℕ) → result ≡ Some n → IsChangeOf true self.now set bits n }
     {
-        let _ = &self.kept;
         self.grown.find(set, bits)
     }
 
-    /// Notes the number of a set with bits put in.
+    /// Notes that `number` is `set` with `bits` put in.
     fn note_grown(&mut self, set: u32, bits: u32, number: u32) -> Result<(), AllocError>
         requires { IsChangeOf true self.old set bits number }
         ensures { self.new ≡ self.old }
@@ -389,7 +386,7 @@ impl<A: Allocator + Copy> Sets<A> {
         self.grown.note(self.alloc, set, bits, number)
     }
 
-    /// Adds a set of another and one member more, and notes it.
+    /// Adds the set of the members of `set`, and of `bits`, and notes it.
     #[inline(never)]
     fn new_grown(&mut self, set: u32, bits: u32) -> Result<u32, AllocError>
         requires { set < length self.old }
@@ -401,7 +398,7 @@ impl<A: Allocator + Copy> Sets<A> {
         Ok(number)
     }
 
-    /// A set and one member more.
+    /// Returns the number of the set of the members of `set`, and of `bits`.
     pub fn with(&mut self, set: u32, bits: u32) -> Result<u32, AllocError>
         requires { set < length self.old }
         ensures more { AreMore self.old self.new }
@@ -420,7 +417,7 @@ impl<A: Allocator + Copy> Sets<A> {
         self.new_grown(set, bits)
     }
 
-    /// The members of a set that is kept as two numbers.
+    /// Returns the members of `set`, if it is kept as two numbers.
     pub fn two(&self, set: u32) -> Option<(u32, u32)>
         requires { set < length self.now }
         ensures { (p : ℕ × ℕ) → result ≡ Some p → (y : ℕ) → is_member self.now set y ≡ (nat_eq y p.0 || nat_eq y p.1) }
@@ -431,7 +428,7 @@ impl<A: Allocator + Copy> Sets<A> {
         self.kept(set).two()
     }
 
-    /// The number of a set of two members without `bits`.
+    /// Returns the number of the set of `first` and `second` without `bits`.
     fn other_single(&mut self, first: u32, second: u32, bits: u32) -> Result<u32, AllocError>
         ensures more { AreMore self.old self.new }
         ensures found { IfOk result (λ n. IsSetOf self.new n (λ y. if nat_eq y bits then false else (nat_eq y first || nat_eq y second))) }
@@ -449,14 +446,13 @@ impl<A: Allocator + Copy> Sets<A> {
         self.single(second)
     }
 
-    /// The number of a set without one of its members.
+    /// Returns the number of `set` without its member `bits`.
     #[inline(never)]
     fn shrunk(&mut self, set: u32, bits: u32) -> Result<u32, AllocError>
         requires { set < length self.old }
         ensures more { AreMore self.old self.new }
         ensures found { IfOk result (λ n. IsSetOf self.new n (λ y. if nat_eq y bits then false else is_member self.old set y)) }
     {
-        let _ = &self.kept;
         if let Some((first, second)) = self.two(set) {
             return self.other_single(first, second, bits);
         }
@@ -464,15 +460,14 @@ impl<A: Allocator + Copy> Sets<A> {
         self.settle(less)
     }
 
-    /// The number of a set with bits taken out, if it is noted.
+    /// Returns the number of `set` with `bits` taken out, if it is noted.
     fn find_shrunk(&self, set: u32, bits: u32) -> Option<u32>
         ensures { (n : ℕ) → result ≡ Some n → IsChangeOf false self.now set bits n }
     {
-        let _ = &self.kept;
         self.shrunk.find(set, bits)
     }
 
-    /// Notes the number of a set with bits taken out.
+    /// Notes that `number` is `set` with `bits` taken out.
     fn note_shrunk(&mut self, set: u32, bits: u32, number: u32) -> Result<(), AllocError>
         requires { IsChangeOf false self.old set bits number }
         ensures { self.new ≡ self.old }
@@ -480,7 +475,7 @@ impl<A: Allocator + Copy> Sets<A> {
         self.shrunk.note(self.alloc, set, bits, number)
     }
 
-    /// The number of a set without one of its members, which is noted.
+    /// Returns the number of `set` without its member `bits`, and notes it.
     fn new_shrunk(&mut self, set: u32, bits: u32) -> Result<u32, AllocError>
         requires { set < length self.old }
         ensures more { AreMore self.old self.new }
@@ -491,21 +486,20 @@ impl<A: Allocator + Copy> Sets<A> {
         Ok(number)
     }
 
-    /// The number of a set without one of its members, as it is noted, if it is.
+    /// Returns the number of `set` without its member `bits`, from the notes if it is there.
     #[inline(never)]
     fn noted_shrunk(&mut self, set: u32, bits: u32) -> Result<u32, AllocError>
         requires { set < length self.old }
         ensures more { AreMore self.old self.new }
         ensures found { IfOk result (λ n. IsSetOf self.new n (λ y. if nat_eq y bits then false else is_member self.old set y)) }
     {
-        let _ = &self.kept;
         if let Some(number) = self.find_shrunk(set, bits) {
             return Ok(number);
         }
         self.new_shrunk(set, bits)
     }
 
-    /// A set and one member less.
+    /// Returns the number of `set` without `bits`.
     pub fn without(&mut self, set: u32, bits: u32) -> Result<u32, AllocError>
         requires { set < length self.old }
         ensures more { AreMore self.old self.new }
@@ -521,7 +515,7 @@ impl<A: Allocator + Copy> Sets<A> {
         self.noted_shrunk(set, bits)
     }
 
-    /// The members that another set has too.
+    /// Returns the members of `set` that the set `other` has too.
     pub fn intersection(&self, set: &IndexSet<A>, other: u32) -> Result<IndexSet<A>, AllocError>
         requires { other < length self.now }
         ensures { IfOk result (λ both. (y : ℕ) → has_bits both y ≡ (has_bits set.now y && is_member self.now other y)) }
@@ -539,7 +533,7 @@ impl<A: Allocator + Copy> Sets<A> {
         Ok(both)
     }
 
-    /// The number of the set of those of two bits that another set has.
+    /// Returns the number of the set of `first` and `second`, each if `other` has it.
     fn both_of_two(&mut self, first: u32, second: u32, other: u32) -> Result<u32, AllocError>
         requires { other < length self.old }
         ensures more { AreMore self.old self.new }
@@ -558,7 +552,7 @@ impl<A: Allocator + Copy> Sets<A> {
         Ok(0)
     }
 
-    /// The members of two sets, of which the first is kept.
+    /// Returns the number of the common members of `set`, which is kept, and `other`.
     #[inline(never)]
     fn both(&mut self, set: u32, other: u32) -> Result<u32, AllocError>
         requires kept { 2147483648 ≤ set }
@@ -567,7 +561,6 @@ impl<A: Allocator + Copy> Sets<A> {
         ensures more { AreMore self.old self.new }
         ensures found { IfOk result (λ n. IsSetOf self.new n (λ y. is_member self.old set y && is_member self.old other y)) }
     {
-        let _ = &self.kept;
         if let Some(only) = self.only(other) {
             if self.has(set, only) {
                 return Ok(other);
@@ -581,7 +574,7 @@ impl<A: Allocator + Copy> Sets<A> {
         self.settle(both)
     }
 
-    /// Whether another set has each member.
+    /// Returns whether the set `other` has each member of `set`.
     pub fn is_subset(&self, set: &IndexSet<A>, other: u32) -> bool
         requires { other < length self.now }
         ensures yes { OnTrue result ((y : ℕ) → has_bits set.now y ≡ true → is_member self.now other y ≡ true) }
@@ -598,7 +591,7 @@ impl<A: Allocator + Copy> Sets<A> {
         true
     }
 
-    /// Whether each member of a set is one of another.
+    /// Returns whether each member of `set` is a member of `other`.
     fn is_within(&self, set: u32, other: u32) -> bool
         requires set { set < length self.now }
         requires other { other < length self.now }
@@ -615,7 +608,7 @@ impl<A: Allocator + Copy> Sets<A> {
         self.has(other, set - 1)
     }
 
-    /// The members of both sets, found by a walk over those of the first.
+    /// Returns the number of the common members of `set` and `other`, found by a walk over the members of `set`.
     fn walked_common(&mut self, set: u32, other: u32) -> Result<u32, AllocError>
         requires set { set < length self.old }
         requires other { other < length self.old }
@@ -633,15 +626,14 @@ impl<A: Allocator + Copy> Sets<A> {
         self.both(set, other)
     }
 
-    /// The number of the members of both sets, if it is noted.
+    /// Returns the number of the common members of `set` and `other`, if it is noted.
     fn find_met(&self, set: u32, other: u32) -> Option<u32>
         ensures { (n : ℕ) → result ≡ Some n → IsMeetOf self.now set other n }
     {
-        let _ = &self.kept;
         self.met.find(set, other)
     }
 
-    /// Notes the number of the members of both sets.
+    /// Notes that `number` is the set of the common members of `set` and `other`.
     fn note_met(&mut self, set: u32, other: u32, number: u32) -> Result<(), AllocError>
         requires { IsMeetOf self.old set other number }
         ensures { self.new ≡ self.old }
@@ -649,7 +641,7 @@ impl<A: Allocator + Copy> Sets<A> {
         self.met.note(self.alloc, set, other, number)
     }
 
-    /// The members of both sets, which are noted.
+    /// Returns the number of the common members of `set` and `other`, and notes it.
     fn new_common(&mut self, set: u32, other: u32) -> Result<u32, AllocError>
         requires set { set < length self.old }
         requires other { other < length self.old }
@@ -662,7 +654,8 @@ impl<A: Allocator + Copy> Sets<A> {
         Ok(number)
     }
 
-    /// The members of both sets. The number is that of the first exactly where each of its members is one of the other.
+    /// Returns the number of the common members of `set` and `other`. It is `set` exactly where each member of `set` is
+    /// one of `other`.
     pub fn common(&mut self, set: u32, other: u32) -> Result<u32, AllocError>
         requires set { set < length self.old }
         requires other { other < length self.old }
@@ -670,7 +663,6 @@ impl<A: Allocator + Copy> Sets<A> {
         ensures found { IfOk result (λ n. IsSetOf self.new n (λ y. is_member self.old set y && is_member self.old other y)) }
         ensures less { IfOk result (λ n. (n ≡ set → ⊥) → IsLess (is_member self.old set) (is_member self.old other)) }
     {
-        let _ = &self.kept;
         if set < FIRST {
             return self.walked_common(set, other);
         }
@@ -680,8 +672,8 @@ impl<A: Allocator + Copy> Sets<A> {
         self.new_common(set, other)
     }
 
-    /// A copy of a set in which each parameter is a member if its argument is one of the set. Of equal parameters the last
-    /// one counts.
+    /// Returns a copy of `set` in which each parameter is a member if its argument is a member of `set`. Of equal
+    /// parameters the last one counts.
     fn passed_copy(
         &self,
         set: u32,
@@ -700,31 +692,31 @@ impl<A: Allocator + Copy> Sets<A> {
         Ok(copy)
     }
 
-    /// The number of a set in which each parameter is a member if its argument is one of the set, and all else is as there.
+    /// Returns the number of the set in which each parameter is a member if its argument is a member of `set`, and all
+    /// else is as in `set`.
     pub fn passed(&mut self, set: u32, params: &[u32], arguments: &[u32]) -> Result<u32, AllocError>
         requires { set < length self.old }
         ensures more { AreMore self.old self.new }
         ensures found { IfOk result (λ n. IsSetOf self.new n
             (λ y. is_member self.old set (taken_from params.now arguments.now (min (length params.now) (length arguments.now)) y))) }
     {
-        let _ = &self.kept;
         let copy = self.passed_copy(set, params, arguments)?;
         self.settle(copy)
     }
 
-    /// How many words the kept sets take.
+    /// Returns how many words the kept sets take.
     pub fn word_count(&self) -> usize {
         self.words
     }
 
-    /// How many sets are kept.
+    /// Returns how many sets are kept.
     pub fn kept_count(&self) -> usize
         ensures { length self.now ≡ 2147483648 + result }
     {
         self.kept.len()
     }
 
-    /// Drops the kept sets without a mark, and returns the numbers that the others have then.
+    /// Drops the kept sets without a mark. Returns the new numbers of the others.
     pub fn keep_marked(&mut self, marks: &[bool]) -> Result<Vec<u32, A>, AllocError>
         ensures kept { IfOk result (λ numbers. AreMarkedKept marks.now self.old self.new numbers.items) }
         ensures err { OnErr result (self.new ≡ self.old) }

@@ -8,7 +8,7 @@ use crate::entries::Entries;
 use crate::sets::{FIRST, Sets};
 use std::alloc::{AllocError, Allocator};
 
-/// Marks the kept sets whose numbers are in a list.
+/// Marks the kept sets whose numbers are in `numbers`.
 pub fn note_all(numbers: &[u32], used: &mut [bool])
     ensures long { length used.new ≡ length used.old }
     ensures more { (j : ℕ) → get_or used.old j true ≡ true → get_or used.new j true ≡ true }
@@ -27,7 +27,7 @@ pub fn note_all(numbers: &[u32], used: &mut [bool])
     }
 }
 
-/// The new number of a set, which is its old one below `FIRST`.
+/// Returns the new number of the set `number`, which stays as it is below `FIRST`.
 #[inline(always)]
 fn renamed(numbers: &[u32], number: u32) -> u32
     ensures { result ≡ renamed numbers.now number }
@@ -42,7 +42,7 @@ fn renamed(numbers: &[u32], number: u32) -> u32
     0
 }
 
-/// Replaces the numbers of sets in a list by their new ones.
+/// Replaces the numbers of sets in `list` by their new numbers.
 pub fn rename_all(list: &mut [u32], numbers: &[u32])
     ensures long { length list.new ≡ length list.old }
     ensures renamed { (i : ℕ) → get_or list.new i 0 ≡ renamed numbers.now (get_or list.old i 0) }

@@ -1,9 +1,8 @@
 //! An array of numbers, and saved copies of it that share what they have in common.
 //!
-//! An array is kept in chunks of 64 numbers. The chunks of all saved copies are in one list of
-//! words that only grows, and a saved copy is the list of where its chunks begin there. For each
-//! chunk of the array that is worked on, its base among the words is kept, unless the chunk was
-//! written since.
+//! An array is kept in chunks of 64 numbers. The chunks of all saved copies are in one list of words that only grows, and
+//! a saved copy is the list of where its chunks begin there. For each chunk of the current array, its base among the
+//! words is kept, unless the chunk was written since.
 
 ghost use Rattle.std.specs.Prelude.{◌≡◌, ℕ, [], true, ◌+◌, ◌*◌, ◌/◌, ◌%◌, ◌-◌, ◌^◌, ◌<◌, ◌≤◌, Some, None, length, get_or, slice_set, map};
 ghost use Rattle.std.specs.Bool.{OnTrue};
@@ -35,7 +34,7 @@ impl<A: Allocator> Model for Versions<A> {
     ghost invariant = { λ v. AreKept v.words.items (map (λ b. b.items) v.saved.items) v.cells.items v.clean.items };
 }
 
-/// Where a chunk of a saved copy begins. A copy that was never saved has zeros.
+/// Returns where `chunk` of a saved copy begins. A copy that was never saved has zeros.
 fn base_of(bases: &[u32], chunk: usize) -> usize
     ensures { result ≡ get_or bases.now chunk 0 }
 {
@@ -46,7 +45,7 @@ fn base_of(bases: &[u32], chunk: usize) -> usize
     }
 }
 
-/// Copies a chunk of words into the array.
+/// Copies the chunk of words from `base` on to the array, from `first` on.
 pub fn copy_chunk(words: &[u32], base: usize, cells: &mut [u32], first: usize)
     requires words { base + 64 ≤ length words.now }
     requires cells { first + 64 ≤ length cells.old }
@@ -57,7 +56,7 @@ pub fn copy_chunk(words: &[u32], base: usize, cells: &mut [u32], first: usize)
     cells[first..first + 64].copy_from_slice(&words[base..base + 64]);
 }
 
-/// Whether a chunk of words is one of the array.
+/// Returns whether the chunk of words from `base` on is equal to the array's from `first` on.
 pub fn is_same_chunk(words: &[u32], base: usize, cells: &[u32], first: usize) -> bool
     requires words { base + 64 ≤ length words.now }
     requires cells { first + 64 ≤ length cells.now }
@@ -66,7 +65,7 @@ pub fn is_same_chunk(words: &[u32], base: usize, cells: &[u32], first: usize) ->
     &cells[first..first + 64] == &words[base..base + 64]
 }
 
-/// Whether words begin with a chunk of zeros.
+/// Returns whether `words` begin with a chunk of zeros.
 pub fn begins_with_zeros(words: &[u32]) -> bool
     ensures { OnTrue result ((t : ℕ) → t < 64 → get_or words.now t 0 ≡ 0) }
 {
@@ -77,7 +76,8 @@ pub fn begins_with_zeros(words: &[u32]) -> bool
     is_same_chunk(&zeros, 0, words, 0)
 }
 
-/// How many words of a chunk, from some on, are passed over in groups of sixteen that are those of a chunk of words.
+/// Returns the index in the chunk of the first group of sixteen words, from `from` on, that differs, or where fewer than
+/// sixteen words are left.
 fn equal_groups(words: &[u32], base: usize, cells: &[u32], first: usize, from: usize) -> usize
     requires words { base + 64 ≤ length words.now }
     requires cells { first + 64 ≤ length cells.now }
@@ -94,7 +94,7 @@ fn equal_groups(words: &[u32], base: usize, cells: &[u32], first: usize, from: u
     t
 }
 
-/// The first position from `from` on, in a chunk of the array, at which it differs from a chunk of words.
+/// Returns the first position from `from` on, in a chunk of the array, at which it differs from a chunk of words.
 fn difference_in(
     words: &[u32],
     base: usize,
@@ -116,7 +116,7 @@ fn difference_in(
     None
 }
 
-/// Gives a chunk of the array the words from a base on.
+/// Gives `chunk` of the array the words from `base` on.
 fn load_chunk(
     words: &[u32],
     base: usize,
@@ -140,7 +140,7 @@ fn load_chunk(
     clean[chunk] = Some(base);
 }
 
-/// Makes room for a chunk of words. The room grows by a half, since doubling leaves much of it unused.
+/// Makes room for a chunk of words. Grows by a half, since doubling leaves much of the room unused.
 pub fn make_room<A: Allocator>(words: &mut Vec<u32, A>) -> Result<(), AllocError>
     ensures { words.new.items ≡ words.old.items }
 {
@@ -151,8 +151,8 @@ pub fn make_room<A: Allocator>(words: &mut Vec<u32, A>) -> Result<(), AllocError
     words.reserve_exact(len / 2 + 256)
 }
 
-/// Where a chunk of the array is among the words: where it was when it was last loaded or saved, if
-/// it wasn't written since, or where a saved copy has an equal chunk, else at their end.
+/// Returns where `chunk` of the array is among the words: where it was last loaded or saved, if it wasn't written since,
+/// or where a saved copy has an equal chunk, else at their end, where it is added.
 fn save_chunk<A: Allocator>(
     words: &mut Vec<u32, A>,
     base: usize,
@@ -183,7 +183,7 @@ fn save_chunk<A: Allocator>(
     Ok(end)
 }
 
-/// Gives the array what chunks of words make.
+/// Gives the array the chunks of words at `bases`.
 fn load_all(words: &[u32], bases: &[u32], cells: &mut [u32], clean: &mut [Option<usize>])
     requires within { AreWithin words.now bases.now }
     requires long { length cells.old ≡ 64 * length clean.old }
@@ -196,8 +196,7 @@ fn load_all(words: &[u32], bases: &[u32], cells: &mut [u32], clean: &mut [Option
     }
 }
 
-/// Where the chunks of the array are among the words, to which chunks that are not there yet are
-/// added.
+/// Returns where the chunks of the array are among the words. Adds the chunks that aren't there yet.
 fn save_all<A: Allocator + Copy>(
     alloc: A,
     words: &mut Vec<u32, A>,
@@ -223,7 +222,7 @@ fn save_all<A: Allocator + Copy>(
     Ok(bases)
 }
 
-/// The first position from one on at which the array differs from what chunks of words make.
+/// Returns the first position from `from` on at which the array differs from the chunks of words at `bases`.
 fn first_difference(
     words: &[u32],
     bases: &[u32],
@@ -250,7 +249,7 @@ fn first_difference(
     None
 }
 
-/// So many empty lists.
+/// Returns `count` empty lists.
 fn empty_rows<A: Allocator + Copy>(
     alloc: A,
     count: usize,
@@ -267,7 +266,7 @@ fn empty_rows<A: Allocator + Copy>(
 }
 
 impl<A: Allocator + Copy> Versions<A> {
-    /// Zeros, for so many positions and so many saved copies.
+    /// Returns an array of zeros, of `size` positions and rounded up to a chunk, with `count` saved copies of zeros.
     pub fn new(alloc: A, count: usize, size: usize) -> Result<Versions<A>, AllocError>
         requires { size < 2 ^ 62 }
         ensures long { IfOk result (λ v. length v.cells ≡ 64 * (size / 64 + 1)) }
@@ -289,21 +288,21 @@ impl<A: Allocator + Copy> Versions<A> {
         })
     }
 
-    /// How many saved copies there are.
+    /// Returns how many saved copies there are.
     pub fn count(&self) -> usize
         ensures { result ≡ length self.now.saved }
     {
         self.saved.len()
     }
 
-    /// How many positions there are.
+    /// Returns how many positions there are.
     pub fn len(&self) -> usize
         ensures { result ≡ length self.now.cells }
     {
         self.cells.len()
     }
 
-    /// The number at a position.
+    /// Returns the number at `position`.
     pub fn get(&self, position: usize) -> u32
         requires { position < length self.now.cells }
         ensures { result ≡ number_in_cell self.now position }
@@ -311,7 +310,7 @@ impl<A: Allocator + Copy> Versions<A> {
         self.cells[position]
     }
 
-    /// Writes the number at a position.
+    /// Writes `number` at `position`.
     pub fn set(&mut self, position: usize, number: u32)
         requires { position < length self.old.cells }
         ensures { self.new ≡ record self.old { cells = slice_set self.old.cells position number } }
@@ -324,7 +323,7 @@ impl<A: Allocator + Copy> Versions<A> {
         self.clean[position / 64] = None;
     }
 
-    /// The number at a position of a saved copy.
+    /// Returns the number at `position` of the saved `copy`.
     pub fn saved(&self, copy: usize, position: usize) -> u32
         requires { copy < length self.now.saved }
         ensures { result ≡ saved_at self.now copy position }
@@ -333,7 +332,7 @@ impl<A: Allocator + Copy> Versions<A> {
         self.words[base + position % 64]
     }
 
-    /// Whether a copy was never saved.
+    /// Returns whether `copy` was never saved.
     pub fn is_unsaved(&self, copy: usize) -> bool
         requires { copy < length self.now.saved }
         ensures { OnTrue result (get_or self.now.saved copy [] ≡ []) }
@@ -341,14 +340,14 @@ impl<A: Allocator + Copy> Versions<A> {
         self.saved[copy].is_empty()
     }
 
-    /// Whether the words begin with a chunk of zeros, which each copy has that was never saved.
+    /// Returns whether the words begin with a chunk of zeros. Each copy that was never saved has zeros.
     pub fn begins_with_zeros(&self) -> bool
         ensures { OnTrue result ((k i : ℕ) → get_or self.now.saved k [] ≡ [] → saved_at self.now k i ≡ 0) }
     {
         begins_with_zeros(&self.words)
     }
 
-    /// Gives the array the numbers of a saved copy.
+    /// Gives the array the numbers of the saved `copy`.
     pub fn load(&mut self, copy: usize)
         requires { copy < length self.old.saved }
         ensures words { self.new.words ≡ self.old.words }
@@ -364,7 +363,7 @@ impl<A: Allocator + Copy> Versions<A> {
         );
     }
 
-    /// Gives a saved copy the numbers of the array.
+    /// Saves the numbers of the array as `copy`.
     pub fn save(&mut self, copy: usize) -> Result<(), AllocError>
         requires { copy < length self.old.saved }
         ensures cells { self.new.cells ≡ self.old.cells }
@@ -384,7 +383,7 @@ impl<A: Allocator + Copy> Versions<A> {
         Ok(())
     }
 
-    /// The first position from one on at which the array differs from a saved copy.
+    /// Returns the first position from `from` on at which the array differs from the saved `copy`.
     pub fn next_difference(&self, copy: usize, from: usize) -> Option<usize>
         requires { copy < length self.now.saved }
         ensures { MatchOption result (AreSameBetween self.now copy from (length self.now.cells))

@@ -9,7 +9,7 @@ use Rattle.regalloc2_checker.specs.Tables.{BlockView, ListTheSame, facts_at, vie
 use Rattle.regalloc2_checker.proofs.UnmarkedStaySolved.{ArePassedOn}
 use Rattle.regalloc2_checker.proofs.analyze.propagate_edges.Given as goal
 
--- so many edges are passed on
+-- the first k edges are propagated
 abbrev pub invariant-loop-k : goal.invariant-loop-k
 invariant-loop-k g l = record {
   last : l.k-end ≡ length (block_at (g.F.Function.function l.f) l.block).succs;

@@ -2,6 +2,6 @@ use Rattle.std.proofs.Common.{◌≡◌, ◌≤◌, length}
 use Rattle.regalloc2_checker.specs.ListingCopied.{AreBeforePoint}
 use Rattle.regalloc2_checker.proofs.handle.first_from.Given as goal
 
--- so many are passed
+-- the first k edits are before the point
 abbrev pub invariant-loop-k : goal.invariant-loop-k
 invariant-loop-k l = record { end : l.k-end ≡ length l.edits; low : l.from ≤ l.k; high : l.k ≤ length l.edits; passed : AreBeforePoint l.edits l.k l.point }

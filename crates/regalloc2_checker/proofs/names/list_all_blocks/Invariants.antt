@@ -6,7 +6,7 @@ use Rattle.regalloc2_checker.specs.NamedBits.{IsMore}
 use Rattle.regalloc2_checker.specs.TableFacts.{IsListedVReg}
 use Rattle.regalloc2_checker.proofs.names.list_all_blocks.Given as goal
 
--- those of so many blocks are listed
+-- the vregs of the first b blocks are listed
 abbrev pub invariant-loop-b : goal.invariant-loop-b
 invariant-loop-b g l = record {
   end : l.b-end ≡ length (g.F.Function.function l.f).blocks;

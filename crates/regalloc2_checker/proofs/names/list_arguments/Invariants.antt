@@ -6,7 +6,7 @@ use Rattle.regalloc2_checker.specs.NamedBits.{IsMore}
 use Rattle.regalloc2_checker.specs.TableFacts.{IsListedVReg}
 use Rattle.regalloc2_checker.proofs.names.list_arguments.Given as goal
 
--- those of so many edges are listed
+-- the arguments of the first k edges are listed
 abbrev pub invariant-loop-k : goal.invariant-loop-k
 invariant-loop-k g l = record {
   end : l.k-end ≡ length (block_at (g.F.Function.function l.f) l.block).succs;

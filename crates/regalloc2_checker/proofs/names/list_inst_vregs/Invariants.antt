@@ -5,7 +5,7 @@ use Rattle.regalloc2_checker.specs.NamedBits.{IsMore}
 use Rattle.regalloc2_checker.specs.TableFacts.{IsListedVReg}
 use Rattle.regalloc2_checker.proofs.names.list_inst_vregs.Given as goal
 
--- those of so many instructions are listed
+-- the vregs of the first i instructions are listed
 abbrev pub invariant-loop-i : goal.invariant-loop-i
 invariant-loop-i g l = record {
   end : l.i-end ≡ length (g.F.Function.function l.f).insts;

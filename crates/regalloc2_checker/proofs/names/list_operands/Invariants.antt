@@ -4,7 +4,7 @@ use Rattle.regalloc2_checker.specs.NamedBits.{IsMore}
 use Rattle.regalloc2_checker.specs.TableFacts.{IsListedVReg}
 use Rattle.regalloc2_checker.proofs.names.list_operands.Given as goal
 
--- so many are listed
+-- the vregs of the first k operands are listed
 abbrev pub invariant-loop-k : goal.invariant-loop-k
 invariant-loop-k g l = record {
   more : IsMore l.initial.bits l.bits;

@@ -3,7 +3,7 @@ use Rattle.regalloc2_checker.specs.TableFacts.{facts_now}
 use Rattle.regalloc2_checker.proofs.RestOfList.{AreRenamedTo}
 use Rattle.regalloc2_checker.proofs.transfer.assign_params.Given as goal
 
--- so many parameters took what their arguments had
+-- the first k parameters took what their arguments had
 abbrev pub invariant-loop-k : goal.invariant-loop-k
 invariant-loop-k g l = record {
   kept : AreTablesKept l.fn.values l.values;

@@ -4,7 +4,7 @@ use Rattle.regalloc2_checker.specs.Renamed.{AreOthersKept, facts_without}
 use Rattle.regalloc2_checker.specs.TableFacts.{facts_now}
 use Rattle.regalloc2_checker.proofs.transfer.forget_params.Given as goal
 
--- so many parameters are forgotten
+-- the first k parameters are forgotten
 abbrev pub invariant-loop-k : goal.invariant-loop-k
 invariant-loop-k g l = record {
   kept : AreTablesKept l.fn.values l.values;

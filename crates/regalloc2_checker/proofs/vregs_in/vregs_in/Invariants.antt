@@ -2,7 +2,7 @@ use Rattle.std.proofs.Common.{◌≤◌, length}
 use Rattle.regalloc2_checker.proofs.VRegsInPlace.{AreFound}
 use Rattle.regalloc2_checker.proofs.vregs_in.vregs_in.Given as goal
 
--- those of so many bits are found
+-- the vregs of the first k bits are found
 abbrev pub invariant-loop-k : goal.invariant-loop-k
 invariant-loop-k g l = record {
   low : l.k ≤ length l.members.items;

@@ -1,5 +1,4 @@
 use Rattle.std.proofs.Common.{ℕ, List, ◌+◌, ◌<◌, ◌∙◌, refl, length, get_or, ap, sym, arith, subst}
-use Rattle.std.proofs.lemmas.Result.{IfOk-from_err}
 use Rattle.regalloc2_checker_sets.specs.SavedCopies.{IsChunkAt}
 use Rattle.regalloc2_checker_sets.proofs.SavedChunks.{more-as, more-same, more-put, chunk-put, unsaved-inside, chunks-more, chunks-set}
 use Rattle.regalloc2_checker_sets.proofs.SavedChunks.{set-copies, set-others, set-at}
@@ -106,18 +105,11 @@ returns-in_err-make_room-clause-copies g c = record { words = refl; saved = refl
 pub returns-in_err-make_room-clause-others : goal.returns-in_err-make_room-clause-others
 returns-in_err-make_room-clause-others g c j n = refl
 
-pub returns-in_err-make_room-clause-saved : goal.returns-in_err-make_room-clause-saved
-returns-in_err-make_room-clause-saved g c = IfOk-from_err c.from_residual.result _ c.from_residual.ensures.0
-
 pub returns-in_err-extend_from_slice-clause-copies : goal.returns-in_err-extend_from_slice-clause-copies
 returns-in_err-extend_from_slice-clause-copies g c = record { words = refl; saved = refl; long = refl }
 
 pub returns-in_err-extend_from_slice-clause-others : goal.returns-in_err-extend_from_slice-clause-others
 returns-in_err-extend_from_slice-clause-others g c j n = refl
-
-pub returns-in_err-extend_from_slice-clause-saved : goal.returns-in_err-extend_from_slice-clause-saved
-returns-in_err-extend_from_slice-clause-saved g c =
-    IfOk-from_err c.from_residual-in_err-extend_from_slice.result _ c.from_residual-in_err-extend_from_slice.ensures.0
 
 pub overflow_mul-chunk : goal.overflow_mul-chunk
 overflow_mul-chunk g c =

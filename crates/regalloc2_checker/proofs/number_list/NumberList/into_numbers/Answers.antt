@@ -13,7 +13,7 @@ filled : (cs : List (Option ℕ)) (k x : ℕ) (o : Option ℕ) (ns new : List �
 filled cs k x o ns new less at is e h =
     e ∙ ap (λ (o : Option ℕ). ns ++ option_to_list o) (sym is ∙ at ∙ get_or_default cs k o None less) ∙ cells-more cs k ns less h
 
--- or there is none
+-- no number of a cell is listed
 empty : (cs : List (Option ℕ)) (k : ℕ) (o : Option ℕ) (ns new : List ℕ) → k < length cs → o ≡ get_or cs k o → o ≡ None → new ≡ ns →
     ns ≡ flat_map option_to_list (take k cs) → new ≡ flat_map option_to_list (take (k + 1) cs)
 empty cs k o ns new less at is e h =

@@ -1,11 +1,6 @@
 use Rattle.std.proofs.Common.{ℕ, List, ap, arith, length, subst, sym}
 use Rattle.regalloc2_checker_sets.specs.SavedNumbers.{NumberCopies, AreChunksKept}
-use Rattle.std.proofs.lemmas.Result.{err_from_is_err_and}
 use Rattle.regalloc2_checker_sets.proofs.entries.Entries.save.Goals as goal
-
-pub returns-in_err-save_chunks-clause-saved : goal.returns-in_err-save_chunks-clause-saved
-returns-in_err-save_chunks-clause-saved g c =
-    let p = err_from_is_err_and c.from_residual.result c.from_residual.ensures.1 in rw p.1 tt
 
 pub save_chunks-requires-clause-copy : goal.save_chunks-requires-clause-copy
 save_chunks-requires-clause-copy g c =

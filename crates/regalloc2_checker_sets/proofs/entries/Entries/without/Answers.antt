@@ -2,7 +2,6 @@ use Rattle.std.proofs.Common.{ℕ, ◌≡◌, ◌%◌, List, arith, sym, ap, ◌
 use Rattle.std.proofs.lemmas.Bool.{OnTrue_at}
 use Rattle.regalloc2_checker_sets.specs.SavedNumbers.{NumberCopies, AreWrittenTo}
 use Rattle.regalloc2_checker_sets.proofs.Written.{chunks-whole, anew-none, anew-skip, anew-zero, unsaved-zero, anew-next, anew-all, array-loaded}
-use Rattle.std.proofs.lemmas.Result.{err_from_is_err_and}
 use Rattle.regalloc2_checker_sets.proofs.entries.Entries.without.Goals as goal
 
 pub loop-copy-init : goal.loop-copy-init
@@ -69,14 +68,6 @@ keep_copy-requires g c =
       count = i.as_many ∙ sym i.count;
       same = i.same;
     }
-
-pub returns-in_err-to-clause-without : goal.returns-in_err-to-clause-without
-returns-in_err-to-clause-without g c =
-    let p = err_from_is_err_and c.from_residual.result c.from_residual.ensures.1 in rw p.1 tt
-
-pub returns-in_err-keep_copy-clause-without : goal.returns-in_err-keep_copy-clause-without
-returns-in_err-keep_copy-clause-without g c =
-    let p = err_from_is_err_and c.from_residual-in_err-keep_copy.result c.from_residual-in_err-keep_copy.ensures.1 in rw p.1 tt
 
 pub returns-in_err-to-clause-count : goal.returns-in_err-to-clause-count
 returns-in_err-to-clause-count g c = refl

@@ -2,7 +2,7 @@ use Rattle.std.proofs.Common.{refl}
 use Rattle.regalloc2_checker_sets.specs.EntrySets.{has_bits}
 use Rattle.regalloc2_checker_sets.proofs.AllSets.{empty-is}
 use Rattle.regalloc2_checker_sets.proofs.Bits.{ok-as}
-use Rattle.regalloc2_checker_sets.proofs.Lone.{alone-is, set-is}
+use Rattle.regalloc2_checker_sets.proofs.Lone.{is-only_member, set-is}
 use Rattle.regalloc2_checker_sets.proofs.sets.Sets.settle.Goals as goal
 
 pub returns-in_default-clause-found : goal.returns-in_default-clause-found
@@ -11,5 +11,5 @@ returns-in_default-clause-found g c = empty-is c.args.self.now c.self.inside.kep
 pub returns-then-has_no_other-clause-found : goal.returns-then-has_no_other-clause-found
 returns-then-has_no_other-clause-found g c =
     ok-as _ _ c.single.result
-    (λ n h. set-is c.single.new.self n _ _ (alone-is c.args.set c.in-Some.member (c.in-Some.ensures.some c.in-Some.member refl) (c.if-has_no_other.ensures
+    (λ n h. set-is c.single.new.self n _ _ (is-only_member c.args.set c.in-Some.member (c.in-Some.ensures.some c.in-Some.member refl) (c.if-has_no_other.ensures
     refl)) h) c.single.ensures.found

@@ -1,6 +1,5 @@
 use Rattle.std.proofs.Common.{ap, sym, refl, nat_eq}
 use Rattle.std.specs.Prelude.{if◌then◌else◌, false}
-use Rattle.std.proofs.lemmas.Result.{IfOk-from_err}
 use Rattle.regalloc2_checker_sets.proofs.Bits.{ok-as, same-sets}
 use Rattle.regalloc2_checker_sets.proofs.Lone.{set-is}
 use Rattle.regalloc2_checker_sets.proofs.sets.Sets.shrunk.Goals as goal
@@ -22,9 +21,6 @@ returns-in-Some-clause-more g c = c.other_single.ensures.more
 
 pub returns-in_err-less-clause-more : goal.returns-in_err-less-clause-more
 returns-in_err-less-clause-more g c = same-sets _ _ refl
-
-pub returns-in_err-less-clause-found : goal.returns-in_err-less-clause-found
-returns-in_err-less-clause-found g c = IfOk-from_err c.from_residual.result _ c.from_residual.ensures.0
 
 pub returns-clause-more : goal.returns-clause-more
 returns-clause-more g c = c.settle.ensures.more

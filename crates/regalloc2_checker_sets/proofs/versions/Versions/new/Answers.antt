@@ -3,7 +3,6 @@ use Rattle.std.specs.Prelude.{Option, None, Some}
 use Rattle.std.proofs.lemmas.List.{get_or-replicate, length-map}
 use Rattle.regalloc2_checker_sets.proofs.Rows.{within-as, some-same, zeros}
 use Rattle.regalloc2_checker_sets.specs.SavedCopies.{IsChunkAt}
-use Rattle.std.proofs.lemmas.Result.{err_from_is_err_and}
 use Rattle.regalloc2_checker_sets.proofs.versions.Versions.new.Goals as goal
 
 -- a value that is no other is `Some` of this one
@@ -48,67 +47,3 @@ pub returns-clause-saved : goal.returns-clause-saved
 returns-clause-saved g c k i =
     zeros c.in_ok-words.words.items 64 _ (omega (arith, c.in_ok-words.ensures.len, c.in_ok-words.words.ok.0))
     (λ k l. ap (λ (xs : List ℕ). get_or xs k 0) (c.in_ok-words.ensures.items_if_clones_equal (λ y h. h)) ∙ get_or-replicate 64 k 0 0 l)
-
-pub returns-in_err-words-clause-long : goal.returns-in_err-words-clause-long
-returns-in_err-words-clause-long g c =
-    let p = err_from_is_err_and c.from_residual.result c.from_residual.ensures.1 in rw p.1 tt
-
-pub returns-in_err-words-clause-count : goal.returns-in_err-words-clause-count
-returns-in_err-words-clause-count g c =
-    let p = err_from_is_err_and c.from_residual.result c.from_residual.ensures.1 in rw p.1 tt
-
-pub returns-in_err-words-clause-cells : goal.returns-in_err-words-clause-cells
-returns-in_err-words-clause-cells g c =
-    let p = err_from_is_err_and c.from_residual.result c.from_residual.ensures.1 in rw p.1 tt
-
-pub returns-in_err-words-clause-saved : goal.returns-in_err-words-clause-saved
-returns-in_err-words-clause-saved g c =
-    let p = err_from_is_err_and c.from_residual.result c.from_residual.ensures.1 in rw p.1 tt
-
-pub returns-in_err-cells-clause-long : goal.returns-in_err-cells-clause-long
-returns-in_err-cells-clause-long g c =
-    let p = err_from_is_err_and c.from_residual-in_err-cells.result c.from_residual-in_err-cells.ensures.1 in rw p.1 tt
-
-pub returns-in_err-cells-clause-count : goal.returns-in_err-cells-clause-count
-returns-in_err-cells-clause-count g c =
-    let p = err_from_is_err_and c.from_residual-in_err-cells.result c.from_residual-in_err-cells.ensures.1 in rw p.1 tt
-
-pub returns-in_err-cells-clause-cells : goal.returns-in_err-cells-clause-cells
-returns-in_err-cells-clause-cells g c =
-    let p = err_from_is_err_and c.from_residual-in_err-cells.result c.from_residual-in_err-cells.ensures.1 in rw p.1 tt
-
-pub returns-in_err-cells-clause-saved : goal.returns-in_err-cells-clause-saved
-returns-in_err-cells-clause-saved g c =
-    let p = err_from_is_err_and c.from_residual-in_err-cells.result c.from_residual-in_err-cells.ensures.1 in rw p.1 tt
-
-pub returns-in_err-clean-clause-long : goal.returns-in_err-clean-clause-long
-returns-in_err-clean-clause-long g c =
-    let p = err_from_is_err_and c.from_residual-in_err-clean.result c.from_residual-in_err-clean.ensures.1 in rw p.1 tt
-
-pub returns-in_err-clean-clause-count : goal.returns-in_err-clean-clause-count
-returns-in_err-clean-clause-count g c =
-    let p = err_from_is_err_and c.from_residual-in_err-clean.result c.from_residual-in_err-clean.ensures.1 in rw p.1 tt
-
-pub returns-in_err-clean-clause-cells : goal.returns-in_err-clean-clause-cells
-returns-in_err-clean-clause-cells g c =
-    let p = err_from_is_err_and c.from_residual-in_err-clean.result c.from_residual-in_err-clean.ensures.1 in rw p.1 tt
-
-pub returns-in_err-clean-clause-saved : goal.returns-in_err-clean-clause-saved
-returns-in_err-clean-clause-saved g c =
-    let p = err_from_is_err_and c.from_residual-in_err-clean.result c.from_residual-in_err-clean.ensures.1 in rw p.1 tt
-
-pub returns-in_err-saved-clause-long : goal.returns-in_err-saved-clause-long
-returns-in_err-saved-clause-long g c =
-    let p = err_from_is_err_and c.from_residual-in_err-saved.result c.from_residual-in_err-saved.ensures.1 in rw p.1 tt
-
-pub returns-in_err-saved-clause-count : goal.returns-in_err-saved-clause-count
-returns-in_err-saved-clause-count g c =
-    let p = err_from_is_err_and c.from_residual-in_err-saved.result c.from_residual-in_err-saved.ensures.1 in rw p.1 tt
-
-pub returns-in_err-saved-clause-cells : goal.returns-in_err-saved-clause-cells
-returns-in_err-saved-clause-cells g c =
-    let p = err_from_is_err_and c.from_residual-in_err-saved.result c.from_residual-in_err-saved.ensures.1 in rw p.1 tt
-
-pub returns-in_err-saved-clause-saved : goal.returns-in_err-saved-clause-saved
-returns-in_err-saved-clause-saved g c =
-    let p = err_from_is_err_and c.from_residual-in_err-saved.result c.from_residual-in_err-saved.ensures.1 in rw p.1 tt

@@ -3,7 +3,6 @@ use Rattle.std.specs.Prelude.{Option, slice_set}
 use Rattle.std.specs.Vec.{with_items}
 use Rattle.std.proofs.Common.{inl, inr}
 use Rattle.std.proofs.lemmas.Bool.{cases_eq}
-use Rattle.std.proofs.lemmas.Result.{IfOk-from_err}
 use Rattle.std.proofs.lemmas.List.{with_items_is, length-map, length-set}
 use Rattle.regalloc2_checker_sets.specs.SavedCopies.{Copies, saved_at, number_in_cell, number_in}
 use Rattle.regalloc2_checker_sets.proofs.Rows.{row-is, row-less, row-set_same, row-set_other, within-as}
@@ -119,9 +118,6 @@ returns-in_err-bases-clause-cells g c = ap (λ (v : Copies). v.cells) c.self.vie
 
 pub returns-in_err-bases-clause-count : goal.returns-in_err-bases-clause-count
 returns-in_err-bases-clause-count g c = ap (λ (v : Copies). length v.saved) c.self.view_is
-
-pub returns-in_err-bases-clause-saved : goal.returns-in_err-bases-clause-saved
-returns-in_err-bases-clause-saved g c = IfOk-from_err c.from_residual.result _ c.from_residual.ensures.0
 
 pub returns-clause-cells : goal.returns-clause-cells
 returns-clause-cells g c = ap (λ (v : Copies). v.cells) c.self.view_is
