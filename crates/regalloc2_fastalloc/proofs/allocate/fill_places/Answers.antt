@@ -353,7 +353,7 @@ returns-clause-allocation g c =
       };
       live = live_is g c;
       slots = slots_are g c;
-      walk_spills_nothing = unspilled_is g c;
+      unspilled = unspilled_is g c;
       owners = (slots_owned_are g c).owned;
       branch_slots = branch_slots_serve (Made f) f (left g c).slots (out_of g c) (slots_owned_are g c);
       labels = labels_are g c;
