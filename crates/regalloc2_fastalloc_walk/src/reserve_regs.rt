@@ -20,7 +20,9 @@ use regalloc2_fastalloc_state::inst_regs::InstRegs;
 use regalloc2_fastalloc_state::masks::Masks;
 use regalloc2_fastalloc_state::positions::Positions;
 use regalloc2_fastalloc_state::validate::constraints::is_unlimited;
-use regalloc2_names::{Operand, OperandConstraint, PReg, PRegSet, ProgPoint, RegAllocError};
+use regalloc2_names::{
+    Operand, OperandConstraint, OperandUnion, PReg, PRegSet, ProgPoint, RegAllocError,
+};
 use std::alloc::Allocator;
 
 /// The registers that an instruction's operands so far are fixed to, by position, and the registers that were poked.
@@ -88,18 +90,17 @@ fn sort(inst_regs: &mut InstRegs, operands: &[Operand]) -> Sorted
     ensures awaited { AwaitsAll operands.now inst_regs.old inst_regs.new }
 {
     let mut masks = Masks::none();
-    // only words of fixed operands reach 2^42; each word of an operand with `Limit` has bit 40 set, as some other words have
-    let mut bits = 0u64;
+    let mut union = OperandUnion::empty();
     let mut k = operands.len();
     while k > 0 {
         k -= 1;
         let operand = operands[k];
         inst_regs.add_any_reg_op(operand.class(), operand.is_any_reg());
         masks = masks.before(operand);
-        bits |= operand.bits();
+        union = union.with(operand);
     }
-    let any_fixed = bits >= 1 << 42;
-    let unlimited = bits & (1 << 40) == 0 || are_unlimited(operands);
+    let any_fixed = union.any_fixed();
+    let unlimited = !union.may_have_limit() || are_unlimited(operands);
     Sorted {
         masks,
         any_fixed,

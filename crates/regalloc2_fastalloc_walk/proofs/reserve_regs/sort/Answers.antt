@@ -1,5 +1,5 @@
-use Rattle.std.proofs.Common.{ℕ, ◌≡◌, ◌+◌, ◌-◌, ◌<◌, List, length, subst, arith}
-use Rattle.std.specs.Prelude.{if◌then◌else◌, slice_set}
+use Rattle.std.proofs.Common.{ℕ, ◌≡◌, ◌+◌, ◌-◌, ◌<◌, List, length, ap, subst, arith}
+use Rattle.std.specs.Prelude.{if◌then◌else◌, not, slice_set}
 use Rattle.regalloc2_names.specs.declared.RegClass.{RegClass}
 use Rattle.regalloc2_names.specs.Register.{class_code}
 use Rattle.regalloc2_names.specs.Operand.{OperandValue}
@@ -9,7 +9,8 @@ use Rattle.regalloc2_fastalloc_walk.proofs.OperandsSorted.{Sorting, none_limited
 use Rattle.regalloc2_fastalloc_walk.proofs.reserve_regs.sort.Goals as goal
 
 pub loop-k-init : goal.loop-k-init
-loop-k-init c = sorting_none c.args.operands.now c.args.inst_regs.now c.none-masks.result c.requires c.none-masks.ensures
+loop-k-init c = sorting_none c.args.operands.now c.args.inst_regs.now c.none-masks.result c.empty-union.result c.requires c.none-masks.ensures
+    c.empty-union.ensures
 
 pub loop-k-preserved : goal.loop-k-preserved
 loop-k-preserved c =
@@ -17,21 +18,22 @@ loop-k-preserved c =
     let k : ℕ = c.loop-k.k - 1 in
     let back : c.loop-k.k ≡ k + 1 = omega arith in
     let inside : k < length ops = (let i = c.loop-k.invariant.inside in omega (arith, i)) in
-    sorting_more ops k c.args.inst_regs.now c.loop-k.inst_regs c.add_any_reg_op.new.self c.loop-k.masks c.before-masks.result c.loop-k.bits c.bits-bits.result
+    sorting_more ops k c.args.inst_regs.now c.loop-k.inst_regs c.add_any_reg_op.new.self c.loop-k.masks c.before-masks.result c.loop-k.union c.with-union.result
     c.index-operands-k.result c.is_any_reg.result
-    (subst (λ (n : ℕ). Sorting ops n c.args.inst_regs.now c.loop-k.inst_regs c.loop-k.masks c.loop-k.bits) back c.loop-k.invariant)
+    (subst (λ (n : ℕ). Sorting ops n c.args.inst_regs.now c.loop-k.inst_regs c.loop-k.masks c.loop-k.union) back c.loop-k.invariant)
     (read_operand ops k c.index-operands-k.result inside c.index-operands-k.is) c.add_any_reg_op.ensures.sets c.is_any_reg.ensures
     (subst (λ (x : RegClass). c.add_any_reg_op.new.self.awaited ≡ slice_set c.loop-k.inst_regs.awaited (class_code x)
     (awaited_of c.loop-k.inst_regs x + (if c.is_any_reg.result then 1 else 0))) c.class.ensures c.add_any_reg_op.ensures.awaited)
-    c.before-masks.ensures c.bits-bits.ensures.bits c.bits-bits.ensures.word c.bits-bits.ensures.operand
+    c.before-masks.ensures c.with-union.ensures
 
-pub returns-then-bits-eq0-clause-sorted : goal.returns-then-bits-eq0-clause-sorted
-returns-then-bits-eq0-clause-sorted c =
-    sorted_all c.args.operands.now c.loop-k.k c.args.inst_regs.now c.loop-k.inst_regs c.loop-k.masks c.loop-k.bits _ (omega arith) c.loop-k.invariant
-    (none_limited c.args.operands.now c.loop-k.k c.args.inst_regs.now c.loop-k.inst_regs c.loop-k.masks c.loop-k.bits (omega arith) c.loop-k.invariant
-    c.if-bits-eq0.true)
+pub returns-then-not-may_have_limit-clause-sorted : goal.returns-then-not-may_have_limit-clause-sorted
+returns-then-not-may_have_limit-clause-sorted c =
+    let all = none_limited c.args.operands.now c.loop-k.k c.args.inst_regs.now c.loop-k.inst_regs c.loop-k.masks c.loop-k.union (omega arith)
+    c.loop-k.invariant (λ xs is. c.may_have_limit.ensures xs is c.if-not-may_have_limit.true) in
+    sorted_all c.args.operands.now c.loop-k.k c.args.inst_regs.now c.loop-k.inst_regs c.loop-k.masks c.loop-k.union c.any_fixed-any_fixed.result _
+    (omega arith) c.loop-k.invariant c.any_fixed-any_fixed.ensures (λ yes. all, λ taken. ap not c.if-not-may_have_limit.true)
 
-pub returns-else-bits-eq0-clause-sorted : goal.returns-else-bits-eq0-clause-sorted
-returns-else-bits-eq0-clause-sorted c =
-    sorted_all c.args.operands.now c.loop-k.k c.args.inst_regs.now c.loop-k.inst_regs c.loop-k.masks c.loop-k.bits c.are_unlimited-unlimited.result
-    (omega arith) c.loop-k.invariant c.are_unlimited-unlimited.ensures
+pub returns-else-not-may_have_limit-clause-sorted : goal.returns-else-not-may_have_limit-clause-sorted
+returns-else-not-may_have_limit-clause-sorted c =
+    sorted_all c.args.operands.now c.loop-k.k c.args.inst_regs.now c.loop-k.inst_regs c.loop-k.masks c.loop-k.union c.any_fixed-any_fixed.result
+    c.are_unlimited-unlimited.result (omega arith) c.loop-k.invariant c.any_fixed-any_fixed.ensures c.are_unlimited-unlimited.ensures
