@@ -18,18 +18,15 @@ FLOORS = [
         ("regalloc2_names", "vregs, operands, places"),
         ("regalloc2_function", "Function, Output, specs")]),
      ("Moves", [
-         ("regalloc2_steps", "one move, slot, edge"),
          ("regalloc2_parts", "lists, parallel moves")])],
     [("Stored forms", [
         ("regalloc2_serialize", "numbers, JSON, words"),
         ("regalloc2_text", "texts, causes of errors")]),
      ("Analysis", [
          ("regalloc2_semantics", "from blocks to paths"),
-         ("regalloc2_analysis_steps", "one operand or edge"),
          ("regalloc2_analysis", "liveness, ranges, branches")])],
     [("Checker", [
         ("regalloc2_checker_sets", "sets, saved copies"),
-        ("regalloc2_checker_steps", "one place, move, edge"),
         ("regalloc2_checker", "Checker, test_cells")])],
     [("Allocator", [
         ("regalloc2_fastalloc_state", "tests, tables of the walk"),
