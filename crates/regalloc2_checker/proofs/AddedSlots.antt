@@ -1,6 +1,6 @@
 -- Slots that are added to a list, in turn.
 use Rattle.std.proofs.lemmas.List.Elements.{Contains-append_left, Contains-push, Contains-push_cases}
-use Rattle.std.proofs.Common.{ℕ, ◌≡◌, ◌+◌, ◌<◌, ◌≤◌, ◌++◌, ◌∷◌, List, [], length, arith, true, false, sym, ap, ◌∙◌, subst, inl, inr}
+use Rattle.std.proofs.Common.{ℕ, ◌≡◌, ◌+◌, ◌<◌, ◌≤◌, ◌++◌, ◌∷◌, List, [], length, arith, true, sym, ap, ◌∙◌, subst, inl, inr}
 use Rattle.std.proofs.lemmas.Bool.{cases_lt}
 use Rattle.regalloc2_names.specs.Place.{Place, NoPlace, InRegister, InSlot, is_in_slot}
 use Rattle.regalloc2_names.specs.PlaceBits.{index_of_place}
@@ -94,20 +94,6 @@ adds_own (InRegister r) index units xs ys slot is h = absurd cc
 adds_own (InSlot m) index units xs ys slot is h =
     adds_same (λ n u. (n ≡ index) × (u ≡ units)) (λ n u. (InSlot m ≡ InSlot n) × (u ≡ units)) xs ys
     (λ n u d. (ap (λ (k : ℕ). InSlot k) (sym (d.0 ∙ is)), d.1)) (λ n u d. let same : m ≡ n = cc in (sym same ∙ sym is, d.1)) h
-
--- a place that the test for a slot rejects is no slot
-no_slot : (p : Place) (n : ℕ) → is_in_slot p ≡ false → p ≡ InSlot n → ⊥
-no_slot NoPlace n h e = absurd cc
-no_slot (InRegister r) n h e = absurd cc
-no_slot (InSlot m) n h e = absurd cc
-
--- nothing is added for a place that is no slot
-pub adds_no_slot : (p : Place) (units : ℕ) (xs : List (ℕ × ℕ)) → is_in_slot p ≡ false → AddsSlots (λ n u. (p ≡ InSlot n) × (u ≡ units)) xs xs
-adds_no_slot p units xs none n u = (λ h. inl h, λ h. back h)
-  where
-    back : Contains xs (n, u) ⊎ ((p ≡ InSlot n) × (u ≡ units)) → Contains xs (n, u)
-    back (inl h) = h
-    back (inr h) = absurd (no_slot p n none h.0)
 
 -- one slot more at the end
 pub adds_one : (xs ys : List (ℕ × ℕ)) (s t : ℕ) → ys ≡ xs ++ (s, t) ∷ [] → AddsSlots (λ n u. (n ≡ s) × (u ≡ t)) xs ys

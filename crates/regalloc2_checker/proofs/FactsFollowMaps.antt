@@ -45,12 +45,12 @@ pub same_write-same : (x y : Option Stamp) → IsSome y → x ≡ y → same_wri
 same_write-same x None h e = absurd cc
 same_write-same x (Some t) h e = rw e (is_stamp-same t)
 
-unlike : (b : Bool) (x y : Option Stamp) → same_write x y ≡ b → (x ≡ y → ⊥) → b ≡ false
-unlike true x y e h = absurd (h (same_write-true x y e).1)
-unlike false x y e h = refl
+same_write-not : (b : Bool) (x y : Option Stamp) → same_write x y ≡ b → (x ≡ y → ⊥) → b ≡ false
+same_write-not true x y e h = absurd (h (same_write-true x y e).1)
+same_write-not false x y e h = refl
 
-apart : (x y : Option Stamp) → (x ≡ y → ⊥) → same_write x y ≡ false
-apart x y h = unlike (same_write x y) x y refl h
+same_write-apart : (x y : Option Stamp) → (x ≡ y → ⊥) → same_write x y ≡ false
+same_write-apart x y h = same_write-not (same_write x y) x y refl h
 
 -- every write that a run finds was made at an earlier step
 pub record AreEarlier : Type 0 where
@@ -61,20 +61,20 @@ pub record AreEarlier : Type 0 where
 pub record Below {K : Type 0} (n : ℕ) (m : K → Option Stamp) : Type 0 where
   pub below : (q : K) (s : Stamp) → m q ≡ Some s → s.step < n
 
-either : (b : Bool) (n : ℕ) (x y : Option Stamp) (s : Stamp) → ((s : Stamp) → x ≡ Some s → s.step < n) → ((s : Stamp) → y ≡ Some s → s.step < n) →
+step-below : (b : Bool) (n : ℕ) (x y : Option Stamp) (s : Stamp) → ((s : Stamp) → x ≡ Some s → s.step < n) → ((s : Stamp) → y ≡ Some s → s.step < n) →
     cond b x y ≡ Some s → s.step < n
-either true n x y s h g e = h s e
-either false n x y s h g e = g s e
+step-below true n x y s h g e = h s e
+step-below false n x y s h g e = g s e
 
-chosen : {K : Type 0} (b : Bool) (n : ℕ) (m l : K → Option Stamp) → Below n m → Below n l → Below n (cond b m l)
-chosen true n m l h g = h
-chosen false n m l h g = g
+chosen-Below : {K : Type 0} (b : Bool) (n : ℕ) (m l : K → Option Stamp) → Below n m → Below n l → Below n (cond b m l)
+chosen-Below true n m l h g = h
+chosen-Below false n m l h g = g
 
 stored-Below : (n : ℕ) (c : Cells) (p : Place) (x : Option Stamp) → Below n c → ((s : Stamp) → x ≡ Some s → s.step < n) → Below n (stored c p x)
 unfolding stored
 stored-Below n c NoPlace x h g = h
-stored-Below n c (InRegister r) x h g = record { below = λ q s e. either (is_place (InRegister r) q) n x (c q) s g (h.below q) e }
-stored-Below n c (InSlot k) x h g = record { below = λ q s e. either (is_place (InSlot k) q) n x (c q) s g (h.below q) e }
+stored-Below n c (InRegister r) x h g = record { below = λ q s e. step-below (is_place (InRegister r) q) n x (c q) s g (h.below q) e }
+stored-Below n c (InSlot k) x h g = record { below = λ q s e. step-below (is_place (InSlot k) q) n x (c q) s g (h.below q) e }
 
 after_moves-Below : (n : ℕ) (ms : List MoveValue) (c : Cells) → Below n c → Below n (after_moves ms c)
 unfolding after_moves
@@ -86,7 +86,7 @@ unfolding after_early_defs
 after_early_defs-Below n ps k [] c h = h
 after_early_defs-Below n ps k (o ∷ os) c h =
     after_early_defs-Below n ps (k + 1) os _
-    (chosen (is_def o.kind && not (is_late o.position)) n _ c (stored-Below n c (place_at ps k) None h (λ s e. absurd cc)) h)
+    (chosen-Below (is_def o.kind && not (is_late o.position)) n _ c (stored-Below n c (place_at ps k) None h (λ s e. absurd cc)) h)
 
 -- no write of step n from operand k on
 record Fresh {K : Type 0} (n k : ℕ) (m : K → Option Stamp) : Type 0 where
@@ -95,12 +95,12 @@ record Fresh {K : Type 0} (n k : ℕ) (m : K → Option Stamp) : Type 0 where
 fresh_below : {K : Type 0} (n : ℕ) (m : K → Option Stamp) → Below n m → Fresh n 0 m
 fresh_below n m h = record { fresh = λ q j less e. let l = h.below q (record { step = n; operand = j }) e in absurd (omega arith) }
 
-later : {K : Type 0} (n k : ℕ) (m : K → Option Stamp) → Fresh n k m → Fresh n (k + 1) m
-later n k m h = record { fresh = λ q j less e. h.fresh q j (omega arith) e }
+later-Fresh : {K : Type 0} (n k : ℕ) (m : K → Option Stamp) → Fresh n k m → Fresh n (k + 1) m
+later-Fresh n k m h = record { fresh = λ q j less e. h.fresh q j (omega arith) e }
 
-neither : (b : Bool) (x y z : Option Stamp) → (x ≡ z → ⊥) → (y ≡ z → ⊥) → cond b x y ≡ z → ⊥
-neither true x y z h g e = h e
-neither false x y z h g e = g e
+neither-chosen : (b : Bool) (x y z : Option Stamp) → (x ≡ z → ⊥) → (y ≡ z → ⊥) → cond b x y ≡ z → ⊥
+neither-chosen true x y z h g e = h e
+neither-chosen false x y z h g e = g e
 
 operands_apart : (n k j : ℕ) → k < j → ◌≡◌ {A = Option Stamp} (Some (record { step = n; operand = k })) (Some (record { step = n; operand = j })) → ⊥
 operands_apart n k j less e =
@@ -108,17 +108,17 @@ operands_apart n k j less e =
     let i : k ≡ j = ap (λ (s : Stamp). s.operand) d in omega arith
 
 assigned-Fresh : (n k : ℕ) (m : Source) (v : VirtualRegister) → Fresh n k m → Fresh n (k + 1) (assigned m v (Some (record { step = n; operand = k })))
-assigned-Fresh n k m v h = record { fresh = λ q j less e. neither (is_vreg v q) _ (m q) _ (operands_apart n k j (omega arith)) (h.fresh q j (omega arith)) e }
+assigned-Fresh n k m v h = record { fresh = λ q j less e. neither-chosen (is_vreg v q) _ (m q) _ (operands_apart n k j (omega arith)) (h.fresh q j (omega arith)) e }
 
 stored-Fresh : (n k : ℕ) (c : Cells) (p : Place) → Fresh n k c → Fresh n (k + 1) (stored c p (Some (record { step = n; operand = k })))
 unfolding stored
-stored-Fresh n k c NoPlace h = later n k c h
+stored-Fresh n k c NoPlace h = later-Fresh n k c h
 stored-Fresh n k c (InRegister r) h = record {
-  fresh = λ q j less e. neither (is_place (InRegister r) q) _ (c q) _ (operands_apart n k j (omega arith))
+  fresh = λ q j less e. neither-chosen (is_place (InRegister r) q) _ (c q) _ (operands_apart n k j (omega arith))
       (h.fresh q j (omega arith)) e;
 }
 stored-Fresh n k c (InSlot i) h = record {
-  fresh = λ q j less e. neither (is_place (InSlot i) q) _ (c q) _ (operands_apart n k j (omega arith))
+  fresh = λ q j less e. neither-chosen (is_place (InSlot i) q) _ (c q) _ (operands_apart n k j (omega arith))
       (h.fresh q j (omega arith)) e;
 }
 
@@ -130,16 +130,16 @@ chosen-Fresh false n k m l h g = g
 pub record Exact (c : Cells) (m : Source) (F : Facts) : Type 0 where
   pub same : (p : Place) (v : VirtualRegister) → facts_of c m p v ≡ F p v
 
-written : (b : Bool) (s x y : Option Stamp) (g h : Bool) → same_write s y ≡ g → same_write x y ≡ h → same_write (cond b s x) y ≡ cond b g h
-written true s x y g h e d = e
-written false s x y g h e d = d
+same_write-stored : (b : Bool) (s x y : Option Stamp) (g h : Bool) → same_write s y ≡ g → same_write x y ≡ h → same_write (cond b s x) y ≡ cond b g h
+same_write-stored true s x y g h e d = e
+same_write-stored false s x y g h e d = d
 
 stored-Exact : (c : Cells) (m : Source) (F : Facts) (p : Place) (s : Option Stamp) (x : VirtualRegister → Bool) → Exact c m F →
     ((v : VirtualRegister) → same_write s (m v) ≡ x v) → Exact (stored c p s) m (placed p x F)
 unfolding stored placed
 stored-Exact c m F NoPlace s x h e = h
-stored-Exact c m F (InRegister r) s x h e = record { same = λ q v. written (is_place (InRegister r) q) s (c q) (m v) (x v) (F q v) (e v) (h.same q v) }
-stored-Exact c m F (InSlot n) s x h e = record { same = λ q v. written (is_place (InSlot n) q) s (c q) (m v) (x v) (F q v) (e v) (h.same q v) }
+stored-Exact c m F (InRegister r) s x h e = record { same = λ q v. same_write-stored (is_place (InRegister r) q) s (c q) (m v) (x v) (F q v) (e v) (h.same q v) }
+stored-Exact c m F (InSlot n) s x h e = record { same = λ q v. same_write-stored (is_place (InSlot n) q) s (c q) (m v) (x v) (F q v) (e v) (h.same q v) }
 
 chosen-Exact : (b : Bool) (c d : Cells) (m n : Source) (F G : Facts) → Exact c m F → Exact d n G → Exact (cond b c d) (cond b m n) (cond b F G)
 chosen-Exact true c d m n F G h g = h
@@ -162,20 +162,20 @@ after_early_defs-Exact ps k (o ∷ os) c m F h =
     after_early_defs-Exact ps (k + 1) os _ m _
     (same_source (is_def o.kind && not (is_late o.position)) _ c m _ F (stored-Exact c m F (place_at ps k) None (λ v. false) h (λ v. refl)) h)
 
-forgotten : (b : Bool) (x s y : Option Stamp) (g : Bool) → (x ≡ s → ⊥) → same_write x y ≡ g → same_write x (cond b s y) ≡ cond b false g
-forgotten true x s y g h e = apart x s h
-forgotten false x s y g h e = e
+same_write-cleared : (b : Bool) (x s y : Option Stamp) (g : Bool) → (x ≡ s → ⊥) → same_write x y ≡ g → same_write x (cond b s y) ≡ cond b false g
+same_write-cleared true x s y g h e = same_write-apart x s h
+same_write-cleared false x s y g h e = e
 
-made : (b : Bool) (s : Stamp) (y : Option Stamp) → (y ≡ Some s → ⊥) → same_write (Some s) (cond b (Some s) y) ≡ b
-made true s y h = is_stamp-same s
-made false s y h = apart (Some s) y (λ e. h (sym e))
+same_write-defined : (b : Bool) (s : Stamp) (y : Option Stamp) → (y ≡ Some s → ⊥) → same_write (Some s) (cond b (Some s) y) ≡ b
+same_write-defined true s y h = is_stamp-same s
+same_write-defined false s y h = same_write-apart (Some s) y (λ e. h (sym e))
 
 defined-Exact : (c : Cells) (m : Source) (F : Facts) (p : Place) (v : VirtualRegister) (s : Stamp) → Exact c m F →
     ((q : Place) → c q ≡ Some s → ⊥) → ((u : VirtualRegister) → m u ≡ Some s → ⊥) → Exact (stored c p (Some s)) (assigned m v (Some s)) (defined p v F)
 defined-Exact c m F p v s h fc fm =
     stored-Exact c (assigned m v (Some s)) (λ q u. cond (is_vreg v u) false (F q u)) p (Some s) (is_vreg v)
-    (record { same = λ q u. forgotten (is_vreg v u) (c q) (Some s) (m u) (F q u) (fc q) (h.same q u) })
-    (λ u. made (is_vreg v u) s (m u) (fm u))
+    (record { same = λ q u. same_write-cleared (is_vreg v u) (c q) (Some s) (m u) (F q u) (fc q) (h.same q u) })
+    (λ u. same_write-defined (is_vreg v u) s (m u) (fm u))
 
 defs-Exact : (ps : List Place) (n k : ℕ) (os : List OperandValue) (c : Cells) (m : Source) (F : Facts) → Fresh n k c → Fresh n k m → Exact c m F →
     Exact (after_writes ps n k os c) (after_defs n k os m) (facts_after_defs ps k os F)
@@ -183,8 +183,8 @@ unfolding after_writes after_defs facts_after_defs
 defs-Exact ps n k [] c m F fc fm h = h
 defs-Exact ps n k (o ∷ os) c m F fc fm h =
     defs-Exact ps n (k + 1) os _ _ _
-    (chosen-Fresh (is_def o.kind) n (k + 1) _ c (stored-Fresh n k c (place_at ps k) fc) (later n k c fc))
-    (chosen-Fresh (is_def o.kind) n (k + 1) _ m (assigned-Fresh n k m o.vreg fm) (later n k m fm))
+    (chosen-Fresh (is_def o.kind) n (k + 1) _ c (stored-Fresh n k c (place_at ps k) fc) (later-Fresh n k c fc))
+    (chosen-Fresh (is_def o.kind) n (k + 1) _ m (assigned-Fresh n k m o.vreg fm) (later-Fresh n k m fm))
     (chosen-Exact (is_def o.kind) _ c _ m _ F
     (defined-Exact c m F (place_at ps k) o.vreg (record { step = n; operand = k }) h (λ q. fc.fresh q k (omega arith)) (λ u. fm.fresh u k (omega arith)))
     h)
@@ -196,7 +196,7 @@ after_clobbers-Exact clobbers c m F h = record { same = at }
   where
     at : (p : Place) (v : VirtualRegister) → facts_of (after_clobbers clobbers c) m p v ≡ facts_after_clobbers clobbers F p v
     at NoPlace v = h.same NoPlace v
-    at (InRegister r) v = written (has_register clobbers r) None (c (InRegister r)) (m v) false (F (InRegister r) v) refl (h.same (InRegister r) v)
+    at (InRegister r) v = same_write-stored (has_register clobbers r) None (c (InRegister r)) (m v) false (F (InRegister r) v) refl (h.same (InRegister r) v)
     at (InSlot n) v = h.same (InSlot n) v
 
 -- edges

@@ -26,14 +26,14 @@ both_ok (Ok v) to p q = to p q
 both_ok (Err e) to p q = tt
 
 -- a list has exactly the slots that an output names
-abbrev pub AreNamed : FunctionValue → OutputValue → List (ℕ × ℕ) → Type 0
-AreNamed f out xs = (n u : ℕ) → Contains xs (n, u) ↔ IsSlotTaken f out n u
+abbrev pub AreSlotsNamed : FunctionValue → OutputValue → List (ℕ × ℕ) → Type 0
+AreSlotsNamed f out xs = (n u : ℕ) → Contains xs (n, u) ↔ IsSlotTaken f out n u
 
-pub named_same : (f : FunctionValue) (out : OutputValue) (xs ys : List (ℕ × ℕ)) → xs ≡ ys → AreNamed f out ys → AreNamed f out xs
-named_same f out xs ys same h = subst (λ (l : List (ℕ × ℕ)). AreNamed f out l) (sym same) h
+pub named_same : (f : FunctionValue) (out : OutputValue) (xs ys : List (ℕ × ℕ)) → xs ≡ ys → AreSlotsNamed f out ys → AreSlotsNamed f out xs
+named_same f out xs ys same h = subst (λ (l : List (ℕ × ℕ)). AreSlotsNamed f out l) (sym same) h
 
 -- where none is wrong, places are cells
-pub cells_of : (f : FunctionValue) (env : MachineValue) (out : OutputValue) (b : Bool) (xs : List (ℕ × ℕ)) → b ≡ f.named_by_last_slot → AreNamed f out xs →
+pub cells_of : (f : FunctionValue) (env : MachineValue) (out : OutputValue) (b : Bool) (xs : List (ℕ × ℕ)) → b ≡ f.named_by_last_slot → AreSlotsNamed f out xs →
     ArePlacesOfMachine f env out → ((n u : ℕ) → Contains xs (n, u) → IsInFrame b out.num_spillslots n u) → AreAllApart b xs → AreCells f env out
 cells_of f env out b xs last named places frame apart = record {
   places = places;
@@ -42,7 +42,7 @@ cells_of f env out b xs last named places frame apart = record {
 }
 
 -- what is wrong with the list's slots is wrong with the output's slots
-pub fault_of : (f : FunctionValue) (env : MachineValue) (out : OutputValue) (b : Bool) (xs : List (ℕ × ℕ)) → b ≡ f.named_by_last_slot → AreNamed f out xs →
+pub fault_of : (f : FunctionValue) (env : MachineValue) (out : OutputValue) (b : Bool) (xs : List (ℕ × ℕ)) → b ≡ f.named_by_last_slot → AreSlotsNamed f out xs →
     (e : CellFault) → IsSlotFault b out.num_spillslots xs e → IsCellFault f env out e
 fault_of f env out b xs last named (Operand i k) h = absurd h
 fault_of f env out b xs last named (MoveEnd k) h = absurd h

@@ -16,13 +16,13 @@ class_small Int = omega arith
 class_small Float = omega arith
 class_small Vector = omega arith
 
-vregs : (m n : ℕ) (c d : RegClass) → m ≡ n → c ≡ d → ◌≡◌ {A = VirtualRegister} (record { number = m; class = c }) (record { number = n; class = d })
-vregs m n c d e f = rw (e, f) refl
+vreg-same : (m n : ℕ) (c d : RegClass) → m ≡ n → c ≡ d → ◌≡◌ {A = VirtualRegister} (record { number = m; class = c }) (record { number = n; class = d })
+vreg-same m n c d e f = rw (e, f) refl
 
 -- a vreg's encoding gives it back
 pub vreg_back : (v : VirtualRegister) → vreg_of_bits (bits_of_vreg v) ≡ v
 vreg_back v =
     let small : class_code v.class < 3 = class_small v.class in
     let code : (v.number * 4 + class_code v.class) % 4 ≡ class_code v.class = omega arith in
-    vregs ((v.number * 4 + class_code v.class) / 4) v.number (class_of_code ((v.number * 4 + class_code v.class) % 4)) v.class (omega arith)
+    vreg-same ((v.number * 4 + class_code v.class) / 4) v.number (class_of_code ((v.number * 4 + class_code v.class) % 4)) v.class (omega arith)
     (ap class_of_code code ∙ class_back v.class)

@@ -120,8 +120,8 @@ contains-flat f (z ∷ zs) x y (zero, less, at) h = Contains-append_left (f z) (
 contains-flat f (z ∷ zs) x y (suc k, less, at) h =
     Contains-append_right (f z) (flat_map f zs) y (contains-flat f zs x y (k, omega arith, at) h)
 
-later : {X : Type 0} (z x : X) (xs : List X) → Contains xs x → Contains (z ∷ xs) x
-later z x xs (k, less, at) = (suc k, omega arith, at)
+contains-later : {X : Type 0} (z x : X) (xs : List X) → Contains xs x → Contains (z ∷ xs) x
+contains-later z x xs (k, less, at) = (suc k, omega arith, at)
 
 -- each item of a flattened list is one to which an item of the list is mapped
 pub from-flat : {X A : Type 0} (f : X → List A) (xs : List X) (y : A) → Contains (flat_map f xs) y → (x : X) × Contains xs x × Contains (f x) y
@@ -131,17 +131,17 @@ from-flat {X = X} f (x ∷ xs) y h = by_part (from-flat f xs y) (Contains-append
     by_part : (Contains (flat_map f xs) y → (z : X) × Contains xs z × Contains (f z) y) → Contains (f x) y ⊎ Contains (flat_map f xs) y →
         (z : X) × Contains (x ∷ xs) z × Contains (f z) y
     by_part rest (inl g) = (x, (0, omega arith, refl), g)
-    by_part rest (inr g) = let r = rest g in (r.0, later x r.0 xs r.1, r.2)
+    by_part rest (inr g) = let r = rest g in (r.0, contains-later x r.0 xs r.1, r.2)
 
 pub contains-map : {X A : Type 0} (f : X → A) (xs : List X) (x : X) → Contains xs x → Contains (map f xs) (f x)
 contains-map f [] x (k, less, at) = absurd (omega arith)
 contains-map f (z ∷ zs) x (zero, less, at) = (0, omega arith, ap f at)
-contains-map f (z ∷ zs) x (suc k, less, at) = later (f z) (f x) (map f zs) (contains-map f zs x (k, omega arith, at))
+contains-map f (z ∷ zs) x (suc k, less, at) = contains-later (f z) (f x) (map f zs) (contains-map f zs x (k, omega arith, at))
 
 pub from-map : {X A : Type 0} (f : X → A) (xs : List X) (y : A) → Contains (map f xs) y → (x : X) × Contains xs x × (f x ≡ y)
 from-map f [] y (k, less, at) = absurd (omega arith)
 from-map f (x ∷ xs) y (zero, less, at) = (x, (0, omega arith, refl), at)
-from-map f (x ∷ xs) y (suc k, less, at) = let r = from-map f xs y (k, omega arith, at) in (r.0, later x r.0 xs r.1, r.2)
+from-map f (x ∷ xs) y (suc k, less, at) = let r = from-map f xs y (k, omega arith, at) in (r.0, contains-later x r.0 xs r.1, r.2)
 
 -- places that are among others have their bits among the bits of the others
 bits-among : (ps qs : List Place) → ((p : Place) → Contains ps p → Contains qs p) → (n : ℕ) → Contains (flat_map bits_unless_missing ps) n →

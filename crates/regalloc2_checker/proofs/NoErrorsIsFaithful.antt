@@ -1,8 +1,8 @@
 -- An output without errors is a faithful one.
-use Rattle.std.proofs.Common.{ℕ, zero, suc, ◌≡◌, ◌+◌, ◌-◌, ◌<◌, ◌≤◌, inl, inr, true, false, List, [], ◌∷◌, ◌++◌, length, refl, sym, ap, ◌∙◌, subst}
-use Rattle.std.proofs.Common.{arith, nat_eq, eqb-true}
+use Rattle.std.proofs.Common.{ℕ, zero, suc, ◌≡◌, ◌+◌, ◌-◌, ◌<◌, ◌≤◌, inl, inr, true, List, [], ◌∷◌, ◌++◌, length, refl, sym, ap, ◌∙◌, subst}
+use Rattle.std.proofs.Common.{arith}
 use Rattle.std.specs.Prelude.{◌↔◌, All, Option, None, Some, IsSome}
-use Rattle.std.specs.Option.{option_to_list, option_map}
+use Rattle.std.specs.Option.{option_to_list}
 use Rattle.std.proofs.lemmas.Bool.{cases_lt}
 use Rattle.std.proofs.lemmas.List.{get_or_default}
 use Rattle.std.proofs.lemmas.List.Elements.{All-cons}
@@ -21,9 +21,7 @@ use Rattle.regalloc2_function.specs.SourceRun.{source_read}
 use Rattle.regalloc2_function.specs.AllocatedRun.{moves_at, allocated_read}
 use Rattle.regalloc2_function.specs.Faithful.{Meets, IsStackToStack, StepIsFaithful, IsFaithful}
 use Rattle.regalloc2_function.specs.Held.{Holds, IsReached, cell_at}
-use Rattle.regalloc2_function.specs.Views.{output_of}
 use Rattle.regalloc2_function.specs.WellFormed.{IsFramed}
-use Rattle.regalloc2_function.specs.declared.listing.Output.{Output}
 use Rattle.regalloc2_checker.specs.declared.errors.CheckerError.{CheckerError}
 use Rattle.regalloc2_checker.specs.Fixpoint.{IsReachedBlock, nth_of}
 use Rattle.regalloc2_checker.specs.Report.{operand_at, IsValueFault, IsConstraintFault, IsOperandFault, IsFine, IsFineAt, AreFineBelow, AreOperandsJudged}
@@ -236,29 +234,3 @@ faithful_report f env o ok h (suc n) le es (BlockReports.next _ xs ys rs r) =
 pub report_verdict : {A : Type 0} (f : FunctionValue) (env : MachineValue) (o : OutputValue) (es : List (CheckerError A)) → IsFramed f → IsReport f env o es →
     (es ≡ []) ↔ IsFaithful f env o
 report_verdict f env o es ok r = (report_faithful f env o es ok r, λ h. faithful_report f env o ok h (length f.blocks) (omega arith) es r)
-
--- what a checker with a prepared output returns, by the errors
-no_items : {X : Type 0} (xs : List X) (n : ℕ) → length xs ≡ n → nat_eq n 0 ≡ true → xs ≡ []
-no_items [] n l e = refl
-no_items (x ∷ xs) n l e = absurd (let z : n ≡ 0 = eqb-true n 0 e in omega arith)
-
-some_items : {X : Type 0} (xs : List X) (n : ℕ) → length xs ≡ n → nat_eq n 0 ≡ false → xs ≡ [] → ⊥
-some_items [] n l e z = (let q : nat_eq 0 0 ≡ false = subst (λ (k : ℕ). nat_eq k 0 ≡ false) (sym l) e in absurd cc)
-some_items (x ∷ xs) n l e z = (let q : suc (length xs) ≡ 0 = ap length z in omega arith)
-
--- in a structurally valid function, where the report of the prepared output has no errors, that output is faithful
-pub accepts : {A C : Type 0} (f : FunctionValue) (env : MachineValue) (prepared : Option (Output C)) (out : Output C) (es : List (CheckerError A)) (n : ℕ) →
-    IsFramed f → prepared ≡ Some out →
-    IsReport f env (output_of out) es → length es ≡ n → nat_eq n 0 ≡ true → (o : OutputValue) × (option_map output_of prepared ≡ Some o) × IsFaithful f env o
-accepts f env prepared out es n ok e r l z = (output_of out, ap (option_map output_of) e, (report_verdict f env (output_of out) es ok r).0 (no_items es n l z))
-
--- in a structurally valid function, where the prepared output's report has errors, that output is not faithful and these are its report
-pub refuses : {A C : Type 0} (f : FunctionValue) (env : MachineValue) (prepared : Option (Output C)) (out : Output C) (es : List (CheckerError A)) (n : ℕ) →
-    IsFramed f → prepared ≡ Some out →
-    IsReport f env (output_of out) es → length es ≡ n → nat_eq n 0 ≡ false → (o : OutputValue) → option_map output_of prepared ≡ Some o →
-    (IsFaithful f env o → ⊥) × IsReport f env o es
-refuses f env prepared out es n ok e r l z o p =
-    let both : Some (output_of out) ≡ Some o = sym (ap (option_map output_of) e) ∙ p in
-    let same : output_of out ≡ o = cc in
-    let report : IsReport f env o es = subst (λ (x : OutputValue). IsReport f env x es) same r in
-    (λ h. some_items es n l z ((report_verdict f env o es ok report).1 h), report)

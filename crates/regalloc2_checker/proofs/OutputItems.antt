@@ -32,14 +32,14 @@ location_is out k x d less is =
     (get_or-map location_seen out.debug_locations.items k d (record { label = 0; start = 0; end = 0; place = NoPlace }) less))
 
 -- the number that stands for a class's first register has no bit in an empty word
-zeros : (class : RegClass) → slice_index (0 ∷ 0 ∷ 0 ∷ []) (class_code class) ≡ 0
-zeros Int = refl
-zeros Float = refl
-zeros Vector = refl
+zero-by_class : (class : RegClass) → slice_index (0 ∷ 0 ∷ 0 ∷ []) (class_code class) ≡ 0
+zero-by_class Int = refl
+zero-by_class Float = refl
+zero-by_class Vector = refl
 
 -- reading an array of sets gives the same members whether the default is the set without words or the empty set
 pub default_set : (xs : List PRegSet) (i : ℕ) (r : Register) → has_register (get_or xs i (record { bits = [] })) r ≡ has_register (get_or xs i empty_set) r
 unfolding has_register
-default_set [] i r = rw (zeros r.class) refl
+default_set [] i r = rw (zero-by_class r.class) refl
 default_set (x ∷ xs) zero r = refl
 default_set (x ∷ xs) (suc i) r = default_set xs i r

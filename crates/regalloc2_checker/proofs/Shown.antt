@@ -376,9 +376,9 @@ shown-new t s n c l h = record {
 }
 
 -- tables that hold nothing show nothing
-pub shown-nothing : (t : Holding) (p : Option Passed) (s : List (Option Passed)) → ((k i y : ℕ) → holds_in t k i y ≡ false) → (k i y : ℕ) →
+pub shown-empty : (t : Holding) (p : Option Passed) (s : List (Option Passed)) → ((k i y : ℕ) → holds_in t k i y ≡ false) → (k i y : ℕ) →
     shows_in (showing t p s) k i y ≡ false
-shown-nothing t p s h k i y = ap (λ b. nat_lt k (length s) && b) (h k i (read_as t.vregs (get_or s k None) y)) ∙ and-false (nat_lt k (length s))
+shown-empty t p s h k i y = ap (λ b. nat_lt k (length s) && b) (h k i (read_as t.vregs (get_or s k None) y)) ∙ and-false (nat_lt k (length s))
 
 -- the bits of a parameter are read as its argument's
 pub read-here : (vs : List ℕ) (p : Passed) (y : ℕ) → y ≡ get_or vs p.parameter 0 → read_as vs (Some p) y ≡ get_or vs p.argument 0

@@ -85,17 +85,17 @@ step-false true n m l = omega arith
 step-false false n m l = omega arith
 
 -- a number that is listed has a position
-somewhere : (xs : List ℕ) (x k : ℕ) → k < length xs → get_or xs k x ≡ x → position_or_len (λ n. nat_eq n x) xs < length xs
-somewhere [] x k less e = absurd (omega arith)
-somewhere (z ∷ xs) x zero less e = step-true (nat_eq z x) (prefix_len (λ n. not (nat_eq n x)) xs) (length xs) (eq-eqb z x e)
-somewhere (z ∷ xs) x (suc k) less e =
-    let r : position_or_len (λ n. nat_eq n x) xs < length xs = somewhere xs x k (omega arith) e in
+position-below : (xs : List ℕ) (x k : ℕ) → k < length xs → get_or xs k x ≡ x → position_or_len (λ n. nat_eq n x) xs < length xs
+position-below [] x k less e = absurd (omega arith)
+position-below (z ∷ xs) x zero less e = step-true (nat_eq z x) (prefix_len (λ n. not (nat_eq n x)) xs) (length xs) (eq-eqb z x e)
+position-below (z ∷ xs) x (suc k) less e =
+    let r : position_or_len (λ n. nat_eq n x) xs < length xs = position-below xs x k (omega arith) e in
     step-false (nat_eq z x) (prefix_len (λ n. not (nat_eq n x)) xs) (length xs) r
 
 -- a number without a position isn't listed
 pub not-found : (xs : List ℕ) (x : ℕ) → position (λ n. nat_eq n x) xs ≡ None → Contains xs x → ⊥
 not-found xs x e (k, less, at) =
-    let l : position_or_len (λ n. nat_eq n x) xs < length xs = somewhere xs x k less at in
+    let l : position_or_len (λ n. nat_eq n x) xs < length xs = position-below xs x k less at in
     by_test (nat_lt (position_or_len (λ n. nat_eq n x) xs) (length xs)) (is-below _ _ l) e
   where
     is-below : (m n : ℕ) → m < n → nat_lt m n ≡ true
@@ -222,10 +222,10 @@ moved-is t u from to j i none atf pf at packed e h =
     (λ v. facts-at t.places (shows_now t) from v (Some j) atf ∙ ap (λ b. b && (is_packed_vreg v && shows_now t j (bits_of_vreg v))) pf)
 
 -- a place gets nothing, where the place that is copied isn't listed
-pub moved-nothing : (t u : Showing) (from to : Place) (i : ℕ) → IsMissingUnlisted t.places → place_in t.places from ≡ None →
+pub moved-unlisted : (t u : Showing) (from to : Place) (i : ℕ) → IsMissingUnlisted t.places → place_in t.places from ≡ None →
     place_in t.places to ≡ Some i → is_packed to ≡ true → u.places ≡ t.places →
     ShowsNow u (λ j y. cond (nat_eq j i) false (shows_now t j y)) → facts_now u ≡ placed to (facts_now t from) (facts_now t)
-moved-nothing t u from to i none atf at packed e h =
+moved-unlisted t u from to i none atf at packed e h =
     let same : (λ (v : VirtualRegister). false) ≡ facts_now t from = λ k v. sym (unlisted-holds t.places (shows_now t) from v atf) k in
     cleared-is t u to i none at packed e h ∙ ap (λ (x : VirtualRegister → Bool). placed to x (facts_now t)) same
 
@@ -238,9 +238,9 @@ forgotten-in : (places : List ℕ) (has have : ℕ → ℕ → Bool) (u : Virtua
     facts_in places have ≡ (λ q v. cond (is_vreg u v) false (facts_in places has q v))
 forgotten-in places has have u h = one-facts _ _ (λ q v. by_position q v (place_in places q) refl)
   where
-    nothing : (b a x y : Bool) → y ≡ cond b false x → (a && y) ≡ cond b false (a && x)
-    nothing true a x y e = rw e (and-false a)
-    nothing false a x y e = rw e refl
+    and-cond : (b a x y : Bool) → y ≡ cond b false x → (a && y) ≡ cond b false (a && x)
+    and-cond true a x y e = rw e (and-false a)
+    and-cond false a x y e = rw e refl
 
     by_position : (q : Place) (v : VirtualRegister) (o : Option ℕ) → place_in places q ≡ o →
         facts_in places have q v ≡ cond (is_vreg u v) false (facts_in places has q v)
@@ -248,8 +248,8 @@ forgotten-in places has have u h = one-facts _ _ (λ q v. by_position q v (place
         unlisted-holds places have q v e ∙ sym (kept-false (is_vreg u v) (facts_in places has q v) (unlisted-holds places has q v e))
     by_position q v (Some j) e =
         facts-at places have q v (Some j) e
-        ∙ nothing (is_vreg u v) (is_packed q) (is_packed_vreg v && has j (bits_of_vreg v)) (is_packed_vreg v && have j (bits_of_vreg v))
-        (nothing (is_vreg u v) (is_packed_vreg v) (has j (bits_of_vreg v)) (have j (bits_of_vreg v))
+        ∙ and-cond (is_vreg u v) (is_packed q) (is_packed_vreg v && has j (bits_of_vreg v)) (is_packed_vreg v && have j (bits_of_vreg v))
+        (and-cond (is_vreg u v) (is_packed_vreg v) (has j (bits_of_vreg v)) (have j (bits_of_vreg v))
         (h j (bits_of_vreg v) ∙ ap (λ b. cond b false (has j (bits_of_vreg v))) (vreg-bits u v)))
         ∙ sym (ap (λ b. cond (is_vreg u v) false b) (facts-at places has q v (Some j) e))
 

@@ -28,17 +28,17 @@ contains-of (x ∷ xs) y l = elim (cases_eq x y) [
       (suc r.0, (let s = r.1 in omega arith), r.2)
 ]
 
-some : (b : Bool) → 0 < (if b then 1 else 0) → b ≡ true
-some true h = refl
-some false h = absurd (omega arith)
+count-some : (b : Bool) → 0 < (if b then 1 else 0) → b ≡ true
+count-some true h = refl
+count-some false h = absurd (omega arith)
 
-one : (b : Bool) → b ≡ true → ◌≡◌ {A = ℕ} (if b then 1 else 0) 1
-one true h = refl
-one false h = absurd cc
+count-one : (b : Bool) → b ≡ true → ◌≡◌ {A = ℕ} (if b then 1 else 0) 1
+count-one true h = refl
+count-one false h = absurd cc
 
 -- of a list with the same numbers as one that lists each member once
 pub members-are : (has : ℕ → Bool) (ys zs : List ℕ) → ListsBits has ys → ((n : ℕ) → Contains zs n ↔ Contains ys n) → (y : ℕ) → Contains zs y ↔ (has y ≡ true)
 members-are has ys zs h e y = (
-  λ k. some (has y) (let a = h y in let b = times-of ys y ((e y).0 k) in omega arith),
-  λ is. (e y).1 (contains-of ys y (let a = h y in let b = one (has y) is in omega arith)),
+  λ k. count-some (has y) (let a = h y in let b = times-of ys y ((e y).0 k) in omega arith),
+  λ is. (e y).1 (contains-of ys y (let a = h y in let b = count-one (has y) is in omega arith)),
 )

@@ -2,6 +2,7 @@
 use Rattle.std.proofs.Common.{ℕ, zero, suc, ◌≡◌, ◌+◌, ◌<◌, ◌≤◌, arith, Bool, true, false, cond, nat_eq}
 use Rattle.std.proofs.Common.{eq-eqb, ne_eqb, List, [], ◌∷◌, length, get_or, set, refl, sym, ap, ◌∙◌, subst}
 use Rattle.std.proofs.Common.{inl, inr}
+use Rattle.std.proofs.Math.Bool.{and-false}
 use Rattle.std.specs.Prelude.{◌&&◌, Option, None, Some}
 use Rattle.std.specs.Bool.{OnTrue, OnFalse}
 use Rattle.std.proofs.lemmas.Bool.{cases_eq}
@@ -130,11 +131,11 @@ facts-both places has have both h p v = by_position (place_in places p) refl
     join true false x y = refl
     join false b x y = refl
 
-    nothing : (x y : Bool) → x ≡ false → (x && y) ≡ false
-    nothing x y e = rw e refl
+    false-and : (x y : Bool) → x ≡ false → (x && y) ≡ false
+    false-and x y e = rw e refl
 
     by_position : (o : Option ℕ) → place_in places p ≡ o → facts_in places both p v ≡ (facts_in places has p v && facts_in places have p v)
-    by_position None e = unlisted-holds places both p v e ∙ sym (nothing (facts_in places has p v) (facts_in places have p v) (unlisted-holds places has p v e))
+    by_position None e = unlisted-holds places both p v e ∙ sym (false-and (facts_in places has p v) (facts_in places have p v) (unlisted-holds places has p v e))
     by_position (Some i) e =
         facts-at places both p v (Some i) e
         ∙ ap (λ b. is_packed p && (is_packed_vreg v && b)) (h i (bits_of_vreg v) (at-position places (bits_of_place p) i e).0)
@@ -200,7 +201,7 @@ update-less t u rs b d less marked e h true lost kept =
     let fewer : pairs_held (length t.places) (shows_in u b) < pairs_held (length t.places) (shows_in t b) =
     fewer-held (length t.places) (shows_in u b) (shows_in t b) (λ i y l k. and-left _ _ (sym (here i y l) ∙ k)) lost.place lost.bits lost.place_small
     (rw bits_end_is lost.bits_small)
-    (here lost.place lost.bits lost.place_small ∙ ap (λ c. shows_in t b lost.place lost.bits && c) lost.not_there ∙ nothing (shows_in t b lost.place lost.bits))
+    (here lost.place lost.bits lost.place_small ∙ ap (λ c. shows_in t b lost.place lost.bits && c) lost.not_there ∙ and-false (shows_in t b lost.place lost.bits))
     lost.here in
     let long = ap (λ n. pairs_held n (shows_in u b)) size in
     let again : set rs b true ≡ rs = set-again rs b true d less marked in
@@ -215,10 +216,6 @@ update-less t u rs b d less marked e h true lost kept =
     true_not_false : (c : Bool) (P : Type 0) → c ≡ true → c ≡ false → P
     true_not_false true P h g = absurd cc
     true_not_false false P h g = absurd cc
-
-    nothing : (z : Bool) → (z && false) ≡ false
-    nothing true = refl
-    nothing false = refl
 update-less t u rs b d less marked e h false lost kept =
     let all : (j i y : ℕ) → i < length t.places → shows_in u j i y ≡ shows_in t j i y =
     λ j i y l. elim (cases_eq j b) [

@@ -59,7 +59,7 @@ pub struct Checker<'a, F: Function, A: Allocator = Global, B: Allocator = Global
 }
 
 /// Returns a list of `error` alone, in `room`, which was allocated earlier.
-fn alone<E: Drop, A: Allocator>(mut room: Vec<E, A>, error: E) -> Vec<E, A>
+fn single_error<E: Drop, A: Allocator>(mut room: Vec<E, A>, error: E) -> Vec<E, A>
     requires empty { vec_len room ≡ 0 }
     requires space { 0 < vec_capacity room }
     ensures { result.items ≡ error ∷ [] }
@@ -134,11 +134,11 @@ impl<'a, F: Function, A: Allocator + Copy, B: Allocator> Checker<'a, F, A, B> {
             room,
         } = self;
         let Some(out) = prepared else {
-            return alone(room, CheckerError::MalformedOutput);
+            return single_error(room, CheckerError::MalformedOutput);
         };
         match find_errors(alloc, f, env, &out) {
             Ok(errors) => errors,
-            Err(_) => alone(room, CheckerError::Memory),
+            Err(_) => single_error(room, CheckerError::Memory),
         }
     }
 

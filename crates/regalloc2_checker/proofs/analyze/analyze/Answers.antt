@@ -8,7 +8,6 @@ use Rattle.regalloc2_checker.proofs.Laid.{way-all}
 use Rattle.regalloc2_checker.proofs.Queues.{all-settled, ready-popped}
 use Rattle.regalloc2_checker.proofs.RoundInvariant.{solved}
 use Rattle.regalloc2_checker.proofs.TransferFollowsFacts.{named_same}
-use Rattle.std.proofs.lemmas.Result.{err_from_is_err_and}
 use Rattle.regalloc2_checker.proofs.analyze.analyze.Goals as goal
 
 pub passes-init : goal.passes-init
@@ -87,35 +86,3 @@ returns-clause-named g c = c.passes.invariant.named
 
 pub returns-clause-count : goal.returns-clause-count
 returns-clause-count g c = c.passes.invariant.sized.count
-
-pub returns-in_err-state-clause-named : goal.returns-in_err-state-clause-named
-returns-in_err-state-clause-named g c =
-    let p = err_from_is_err_and c.from_residual.result c.from_residual.ensures.1 in rw p.1 tt
-
-pub returns-in_err-state-clause-count : goal.returns-in_err-state-clause-count
-returns-in_err-state-clause-count g c =
-    let p = err_from_is_err_and c.from_residual.result c.from_residual.ensures.1 in rw p.1 tt
-
-pub returns-in_err-state-clause-long : goal.returns-in_err-state-clause-long
-returns-in_err-state-clause-long g c =
-    let p = err_from_is_err_and c.from_residual.result c.from_residual.ensures.1 in rw p.1 tt
-
-pub returns-in_err-state-clause-solved : goal.returns-in_err-state-clause-solved
-returns-in_err-state-clause-solved g c =
-    let p = err_from_is_err_and c.from_residual.result c.from_residual.ensures.1 in rw p.1 tt
-
-pub returns-in_err-propagate_block-clause-named : goal.returns-in_err-propagate_block-clause-named
-returns-in_err-propagate_block-clause-named g c =
-    let p = err_from_is_err_and c.from_residual-in_err-propagate_block.result c.from_residual-in_err-propagate_block.ensures.1 in rw p.1 tt
-
-pub returns-in_err-propagate_block-clause-count : goal.returns-in_err-propagate_block-clause-count
-returns-in_err-propagate_block-clause-count g c =
-    let p = err_from_is_err_and c.from_residual-in_err-propagate_block.result c.from_residual-in_err-propagate_block.ensures.1 in rw p.1 tt
-
-pub returns-in_err-propagate_block-clause-long : goal.returns-in_err-propagate_block-clause-long
-returns-in_err-propagate_block-clause-long g c =
-    let p = err_from_is_err_and c.from_residual-in_err-propagate_block.result c.from_residual-in_err-propagate_block.ensures.1 in rw p.1 tt
-
-pub returns-in_err-propagate_block-clause-solved : goal.returns-in_err-propagate_block-clause-solved
-returns-in_err-propagate_block-clause-solved g c =
-    let p = err_from_is_err_and c.from_residual-in_err-propagate_block.result c.from_residual-in_err-propagate_block.ensures.1 in rw p.1 tt

@@ -14,7 +14,6 @@ use Rattle.regalloc2_checker.proofs.Queues.{views-kept, alike-after, alike-same,
 use Rattle.regalloc2_checker.proofs.TableSteps.{kept-twice}
 use Rattle.regalloc2_checker.proofs.TransferFollowsFacts.{named_same}
 use Rattle.regalloc2_checker.proofs.UnmarkedStaySolved.{edges-first, edge-passed}
-use Rattle.std.proofs.lemmas.Result.{err_from_is_err_and}
 use Rattle.regalloc2_checker.proofs.analyze.propagate_block.Goals as goal
 
 pub load-requires : goal.load-requires
@@ -158,63 +157,3 @@ returns g c =
           (end-laid f o b done vs (views t rs) (facts_now w) away.here ends));
       falls = omega (arith, sums, p.falls);
     }
-
-pub returns-in_err-transfer_block-clause-alike : goal.returns-in_err-transfer_block-clause-alike
-returns-in_err-transfer_block-clause-alike g c =
-    let p = err_from_is_err_and c.from_residual.result c.from_residual.ensures.1 in rw p.1 tt
-
-pub returns-in_err-transfer_block-clause-sized : goal.returns-in_err-transfer_block-clause-sized
-returns-in_err-transfer_block-clause-sized g c =
-    let p = err_from_is_err_and c.from_residual.result c.from_residual.ensures.1 in rw p.1 tt
-
-pub returns-in_err-transfer_block-clause-queue : goal.returns-in_err-transfer_block-clause-queue
-returns-in_err-transfer_block-clause-queue g c =
-    let p = err_from_is_err_and c.from_residual.result c.from_residual.ensures.1 in rw p.1 tt
-
-pub returns-in_err-transfer_block-clause-on_way : goal.returns-in_err-transfer_block-clause-on_way
-returns-in_err-transfer_block-clause-on_way g c =
-    let p = err_from_is_err_and c.from_residual.result c.from_residual.ensures.1 in rw p.1 tt
-
-pub returns-in_err-transfer_block-clause-falls : goal.returns-in_err-transfer_block-clause-falls
-returns-in_err-transfer_block-clause-falls g c =
-    let p = err_from_is_err_and c.from_residual.result c.from_residual.ensures.1 in rw p.1 tt
-
-pub returns-in_err-propagate_over-clause-alike : goal.returns-in_err-propagate_over-clause-alike
-returns-in_err-propagate_over-clause-alike g c =
-    let p = err_from_is_err_and c.from_residual-in_err-propagate_over.result c.from_residual-in_err-propagate_over.ensures.1 in rw p.1 tt
-
-pub returns-in_err-propagate_over-clause-sized : goal.returns-in_err-propagate_over-clause-sized
-returns-in_err-propagate_over-clause-sized g c =
-    let p = err_from_is_err_and c.from_residual-in_err-propagate_over.result c.from_residual-in_err-propagate_over.ensures.1 in rw p.1 tt
-
-pub returns-in_err-propagate_over-clause-queue : goal.returns-in_err-propagate_over-clause-queue
-returns-in_err-propagate_over-clause-queue g c =
-    let p = err_from_is_err_and c.from_residual-in_err-propagate_over.result c.from_residual-in_err-propagate_over.ensures.1 in rw p.1 tt
-
-pub returns-in_err-propagate_over-clause-on_way : goal.returns-in_err-propagate_over-clause-on_way
-returns-in_err-propagate_over-clause-on_way g c =
-    let p = err_from_is_err_and c.from_residual-in_err-propagate_over.result c.from_residual-in_err-propagate_over.ensures.1 in rw p.1 tt
-
-pub returns-in_err-propagate_over-clause-falls : goal.returns-in_err-propagate_over-clause-falls
-returns-in_err-propagate_over-clause-falls g c =
-    let p = err_from_is_err_and c.from_residual-in_err-propagate_over.result c.from_residual-in_err-propagate_over.ensures.1 in rw p.1 tt
-
-pub returns-in_err-propagate_edges-clause-alike : goal.returns-in_err-propagate_edges-clause-alike
-returns-in_err-propagate_edges-clause-alike g c =
-    let p = err_from_is_err_and c.from_residual-in_err-propagate_edges.result c.from_residual-in_err-propagate_edges.ensures.1 in rw p.1 tt
-
-pub returns-in_err-propagate_edges-clause-sized : goal.returns-in_err-propagate_edges-clause-sized
-returns-in_err-propagate_edges-clause-sized g c =
-    let p = err_from_is_err_and c.from_residual-in_err-propagate_edges.result c.from_residual-in_err-propagate_edges.ensures.1 in rw p.1 tt
-
-pub returns-in_err-propagate_edges-clause-queue : goal.returns-in_err-propagate_edges-clause-queue
-returns-in_err-propagate_edges-clause-queue g c =
-    let p = err_from_is_err_and c.from_residual-in_err-propagate_edges.result c.from_residual-in_err-propagate_edges.ensures.1 in rw p.1 tt
-
-pub returns-in_err-propagate_edges-clause-on_way : goal.returns-in_err-propagate_edges-clause-on_way
-returns-in_err-propagate_edges-clause-on_way g c =
-    let p = err_from_is_err_and c.from_residual-in_err-propagate_edges.result c.from_residual-in_err-propagate_edges.ensures.1 in rw p.1 tt
-
-pub returns-in_err-propagate_edges-clause-falls : goal.returns-in_err-propagate_edges-clause-falls
-returns-in_err-propagate_edges-clause-falls g c =
-    let p = err_from_is_err_and c.from_residual-in_err-propagate_edges.result c.from_residual-in_err-propagate_edges.ensures.1 in rw p.1 tt

@@ -14,7 +14,6 @@ use Rattle.regalloc2_checker.proofs.Queues.{views-kept, alike-after, alike-twice
 use Rattle.regalloc2_checker.proofs.TableSteps.{now-as, table-kept}
 use Rattle.regalloc2_checker.proofs.UnmarkedStaySolved.{EdgesPassed, edges-first, edge-passed}
 use Rattle.regalloc2_checker.proofs.Updates.{views-beside, table-saved}
-use Rattle.std.proofs.lemmas.Result.{err_from_is_err_and}
 use Rattle.regalloc2_checker.proofs.analyze.propagate_edges.Goals as goal
 
 pub loop-k-init : goal.loop-k-init
@@ -109,43 +108,3 @@ returns g c =
           c.args.block c.loop-k.k all on.passed inv.queue on.reached;
       falls = inv.falls;
     }
-
-pub returns-in_err-save-clause-alike : goal.returns-in_err-save-clause-alike
-returns-in_err-save-clause-alike g c =
-    let p = err_from_is_err_and c.from_residual.result c.from_residual.ensures.1 in rw p.1 tt
-
-pub returns-in_err-save-clause-sized : goal.returns-in_err-save-clause-sized
-returns-in_err-save-clause-sized g c =
-    let p = err_from_is_err_and c.from_residual.result c.from_residual.ensures.1 in rw p.1 tt
-
-pub returns-in_err-save-clause-queue : goal.returns-in_err-save-clause-queue
-returns-in_err-save-clause-queue g c =
-    let p = err_from_is_err_and c.from_residual.result c.from_residual.ensures.1 in rw p.1 tt
-
-pub returns-in_err-save-clause-on_way : goal.returns-in_err-save-clause-on_way
-returns-in_err-save-clause-on_way g c =
-    let p = err_from_is_err_and c.from_residual.result c.from_residual.ensures.1 in rw p.1 tt
-
-pub returns-in_err-save-clause-falls : goal.returns-in_err-save-clause-falls
-returns-in_err-save-clause-falls g c =
-    let p = err_from_is_err_and c.from_residual.result c.from_residual.ensures.1 in rw p.1 tt
-
-pub returns-in_err-propagate_over-clause-alike : goal.returns-in_err-propagate_over-clause-alike
-returns-in_err-propagate_over-clause-alike g c =
-    let p = err_from_is_err_and c.from_residual-in_err-propagate_over.result c.from_residual-in_err-propagate_over.ensures.1 in rw p.1 tt
-
-pub returns-in_err-propagate_over-clause-sized : goal.returns-in_err-propagate_over-clause-sized
-returns-in_err-propagate_over-clause-sized g c =
-    let p = err_from_is_err_and c.from_residual-in_err-propagate_over.result c.from_residual-in_err-propagate_over.ensures.1 in rw p.1 tt
-
-pub returns-in_err-propagate_over-clause-queue : goal.returns-in_err-propagate_over-clause-queue
-returns-in_err-propagate_over-clause-queue g c =
-    let p = err_from_is_err_and c.from_residual-in_err-propagate_over.result c.from_residual-in_err-propagate_over.ensures.1 in rw p.1 tt
-
-pub returns-in_err-propagate_over-clause-on_way : goal.returns-in_err-propagate_over-clause-on_way
-returns-in_err-propagate_over-clause-on_way g c =
-    let p = err_from_is_err_and c.from_residual-in_err-propagate_over.result c.from_residual-in_err-propagate_over.ensures.1 in rw p.1 tt
-
-pub returns-in_err-propagate_over-clause-falls : goal.returns-in_err-propagate_over-clause-falls
-returns-in_err-propagate_over-clause-falls g c =
-    let p = err_from_is_err_and c.from_residual-in_err-propagate_over.result c.from_residual-in_err-propagate_over.ensures.1 in rw p.1 tt

@@ -5,7 +5,6 @@ use Rattle.regalloc2_function.specs.FunctionValue.{FunctionValue}
 use Rattle.regalloc2_checker.specs.Tables.{views}
 use Rattle.regalloc2_checker.proofs.Queues.{reached-one}
 use Rattle.regalloc2_checker.proofs.Started.{started, started-entry}
-use Rattle.std.proofs.lemmas.Result.{err_from_is_err_and}
 use Rattle.regalloc2_checker.proofs.analyze.start.Goals as goal
 
 pub returns : goal.returns
@@ -25,27 +24,3 @@ returns g c =
           (reached-one (views values rs) [] entries f.entry refl
           (started-entry f o values rs marks entries there h.long h.one h.size h.marked t.empty) h.entries);
     }
-
-pub returns-in_err-reached-clause-named : goal.returns-in_err-reached-clause-named
-returns-in_err-reached-clause-named g c =
-    let p = err_from_is_err_and c.from_residual.result c.from_residual.ensures.1 in rw p.1 tt
-
-pub returns-in_err-reached-clause-sized : goal.returns-in_err-reached-clause-sized
-returns-in_err-reached-clause-sized g c =
-    let p = err_from_is_err_and c.from_residual.result c.from_residual.ensures.1 in rw p.1 tt
-
-pub returns-in_err-reached-clause-on_way : goal.returns-in_err-reached-clause-on_way
-returns-in_err-reached-clause-on_way g c =
-    let p = err_from_is_err_and c.from_residual.result c.from_residual.ensures.1 in rw p.1 tt
-
-pub returns-in_err-values-clause-named : goal.returns-in_err-values-clause-named
-returns-in_err-values-clause-named g c =
-    let p = err_from_is_err_and c.from_residual-in_err-values.result c.from_residual-in_err-values.ensures.1 in rw p.1 tt
-
-pub returns-in_err-values-clause-sized : goal.returns-in_err-values-clause-sized
-returns-in_err-values-clause-sized g c =
-    let p = err_from_is_err_and c.from_residual-in_err-values.result c.from_residual-in_err-values.ensures.1 in rw p.1 tt
-
-pub returns-in_err-values-clause-on_way : goal.returns-in_err-values-clause-on_way
-returns-in_err-values-clause-on_way g c =
-    let p = err_from_is_err_and c.from_residual-in_err-values.result c.from_residual-in_err-values.ensures.1 in rw p.1 tt

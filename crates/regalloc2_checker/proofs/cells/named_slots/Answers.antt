@@ -24,49 +24,13 @@ returns-clause-named g c =
     (adds_both Q R c.test_insts.new.named c.test_moves.new.named c.test_locations.new.named c.in_ok-test_moves.ensures.named
     c.in_ok-test_locations.ensures.named)))
 
-pub returns-in_err-named-clause-places : goal.returns-in_err-named-clause-places
-returns-in_err-named-clause-places g c =
-    let p = err_from_is_err_and c.from_residual.result c.from_residual.ensures.1 in rw p.1 tt
-
-pub returns-in_err-named-clause-named : goal.returns-in_err-named-clause-named
-returns-in_err-named-clause-named g c =
-    let p = err_from_is_err_and c.from_residual.result c.from_residual.ensures.1 in rw p.1 tt
-
-pub returns-in_err-named-clause-fault : goal.returns-in_err-named-clause-fault
-returns-in_err-named-clause-fault g c =
-    let p = err_from_is_err_and c.from_residual.result c.from_residual.ensures.1 in rw (p.1, p.2) tt
-
-pub returns-in_err-test_insts-clause-places : goal.returns-in_err-test_insts-clause-places
-returns-in_err-test_insts-clause-places g c =
-    let p = err_from_is_err_and c.from_residual-in_err-test_insts.result c.from_residual-in_err-test_insts.ensures.1 in rw p.1 tt
-
-pub returns-in_err-test_insts-clause-named : goal.returns-in_err-test_insts-clause-named
-returns-in_err-test_insts-clause-named g c =
-    let p = err_from_is_err_and c.from_residual-in_err-test_insts.result c.from_residual-in_err-test_insts.ensures.1 in rw p.1 tt
-
 pub returns-in_err-test_insts-clause-fault : goal.returns-in_err-test_insts-clause-fault
 returns-in_err-test_insts-clause-fault g c =
     let p = err_from_is_err_and c.from_residual-in_err-test_insts.result c.from_residual-in_err-test_insts.ensures.1 in rw (p.1, p.2) c.in_err-test_insts.ensures.fault
 
-pub returns-in_err-test_moves-clause-places : goal.returns-in_err-test_moves-clause-places
-returns-in_err-test_moves-clause-places g c =
-    let p = err_from_is_err_and c.from_residual-in_err-test_moves.result c.from_residual-in_err-test_moves.ensures.1 in rw p.1 tt
-
-pub returns-in_err-test_moves-clause-named : goal.returns-in_err-test_moves-clause-named
-returns-in_err-test_moves-clause-named g c =
-    let p = err_from_is_err_and c.from_residual-in_err-test_moves.result c.from_residual-in_err-test_moves.ensures.1 in rw p.1 tt
-
 pub returns-in_err-test_moves-clause-fault : goal.returns-in_err-test_moves-clause-fault
 returns-in_err-test_moves-clause-fault g c =
     let p = err_from_is_err_and c.from_residual-in_err-test_moves.result c.from_residual-in_err-test_moves.ensures.1 in rw (p.1, p.2) c.in_err-test_moves.ensures.fault
-
-pub returns-in_err-test_locations-clause-places : goal.returns-in_err-test_locations-clause-places
-returns-in_err-test_locations-clause-places g c =
-    let p = err_from_is_err_and c.from_residual-in_err-test_locations.result c.from_residual-in_err-test_locations.ensures.1 in rw p.1 tt
-
-pub returns-in_err-test_locations-clause-named : goal.returns-in_err-test_locations-clause-named
-returns-in_err-test_locations-clause-named g c =
-    let p = err_from_is_err_and c.from_residual-in_err-test_locations.result c.from_residual-in_err-test_locations.ensures.1 in rw p.1 tt
 
 pub returns-clause-fault : goal.returns-clause-fault
 returns-clause-fault g c = tt

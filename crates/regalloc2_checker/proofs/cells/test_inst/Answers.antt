@@ -8,7 +8,6 @@ use Rattle.regalloc2_function.specs.Views.{machine_of, output_of}
 use Rattle.regalloc2_checker.specs.Cells.{operand_of, IsOperandCell, IsTakenByOperand}
 use Rattle.regalloc2_checker.specs.Report.{invalid_operand}
 use Rattle.regalloc2_checker.proofs.AddedSlots.{adds_none, adds_more, adds_at, adds_all}
-use Rattle.std.proofs.lemmas.Result.{err_from_is_err_and}
 use Rattle.std.proofs.lemmas.Bool.{false≢true}
 use Rattle.regalloc2_checker.proofs.cells.test_inst.Goals as goal
 
@@ -47,14 +46,6 @@ returns-clause-named g c =
     adds_all (λ j n u. IsTakenByOperand f out c.args.inst j n u) c.loop-k.k _ c.args.named.now c.loop-k.named
     (omega (arith, c.loop-k.invariant.within, count)) (omega (arith, c.loop-k-test.false, count)) c.loop-k.invariant.named
 
-pub returns-in_err-add_slot-clause-cells : goal.returns-in_err-add_slot-clause-cells
-returns-in_err-add_slot-clause-cells g c =
-    let p = err_from_is_err_and c.from_residual.result c.from_residual.ensures.1 in rw p.1 tt
-
-pub returns-in_err-add_slot-clause-named : goal.returns-in_err-add_slot-clause-named
-returns-in_err-add_slot-clause-named g c =
-    let p = err_from_is_err_and c.from_residual.result c.from_residual.ensures.1 in rw p.1 tt
-
 pub inst_operands-operands-requires : goal.inst_operands-operands-requires
 inst_operands-operands-requires g c = c.requires.inst
 
@@ -91,10 +82,6 @@ pub returns-clause-cells : goal.returns-clause-cells
 returns-clause-cells g c =
     let count = ap length c.loop-k.invariant.operands in
     λ j less. c.loop-k.invariant.cells j (omega (arith, less, count, c.loop-k-test.false))
-
-pub returns-in_err-add_slot-clause-fault : goal.returns-in_err-add_slot-clause-fault
-returns-in_err-add_slot-clause-fault g c =
-    let p = err_from_is_err_and c.from_residual.result c.from_residual.ensures.1 in rw (p.1, p.2) tt
 
 pub returns-then-not-is_operand_cell-clause-cells : goal.returns-then-not-is_operand_cell-clause-cells
 returns-then-not-is_operand_cell-clause-cells g c = tt

@@ -33,14 +33,6 @@ returns-clause-named g c =
     (omega (arith, c.loop-i.invariant.within, c.loop-i.invariant.whole)) (omega (arith, c.loop-i-test.false, c.loop-i.invariant.whole))
     c.loop-i.invariant.named
 
-pub returns-in_err-test_inst-clause-cells : goal.returns-in_err-test_inst-clause-cells
-returns-in_err-test_inst-clause-cells g c =
-    let p = err_from_is_err_and c.from_residual.result c.from_residual.ensures.1 in rw p.1 tt
-
-pub returns-in_err-test_inst-clause-named : goal.returns-in_err-test_inst-clause-named
-returns-in_err-test_inst-clause-named g c =
-    let p = err_from_is_err_and c.from_residual.result c.from_residual.ensures.1 in rw p.1 tt
-
 pub returns-in_err-test_inst-clause-fault : goal.returns-in_err-test_inst-clause-fault
 returns-in_err-test_inst-clause-fault g c =
     let p = err_from_is_err_and c.from_residual.result c.from_residual.ensures.1 in rw (p.1, p.2) c.in_err-test_inst.ensures.fault

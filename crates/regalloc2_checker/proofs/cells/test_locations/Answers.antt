@@ -8,7 +8,6 @@ use Rattle.regalloc2_function.specs.Views.{machine_of, output_of}
 use Rattle.regalloc2_checker.specs.Cells.{location_of_index, IsTakenByLocation}
 use Rattle.regalloc2_checker.proofs.AddedSlots.{adds_more, adds_at, adds_all}
 use Rattle.regalloc2_checker.proofs.OutputItems.{location_is, location_seen}
-use Rattle.std.proofs.lemmas.Result.{err_from_is_err_and}
 use Rattle.regalloc2_checker.proofs.cells.test_locations.Goals as goal
 
 pub returns-then-not-is_proper_of_any-clause-fault : goal.returns-then-not-is_proper_of_any-clause-fault
@@ -47,14 +46,6 @@ returns-clause-named g c =
     adds_all (λ j n u. IsTakenByLocation out j n u) c.loop-k.k (length out.debug_locations) c.args.named.now c.loop-k.named
     (omega (arith, c.loop-k.invariant.within, c.loop-k.invariant.whole)) (omega (arith, c.loop-k-test.false, c.loop-k.invariant.whole))
     c.loop-k.invariant.named
-
-pub returns-in_err-add_slot-clause-cells : goal.returns-in_err-add_slot-clause-cells
-returns-in_err-add_slot-clause-cells g c =
-    let p = err_from_is_err_and c.from_residual.result c.from_residual.ensures.1 in rw p.1 tt
-
-pub returns-in_err-add_slot-clause-named : goal.returns-in_err-add_slot-clause-named
-returns-in_err-add_slot-clause-named g c =
-    let p = err_from_is_err_and c.from_residual.result c.from_residual.ensures.1 in rw p.1 tt
 
 pub returns-clause-cells : goal.returns-clause-cells
 returns-clause-cells g c = λ k less. c.loop-k.invariant.cells k (omega (arith, less, c.loop-k-test.false, c.loop-k.invariant.whole))

@@ -8,7 +8,6 @@ use Rattle.regalloc2_function.specs.Views.{edit_of, machine_of, output_of}
 use Rattle.regalloc2_checker.specs.Cells.{move_of_index, units_beside, IsTakenByMove}
 use Rattle.regalloc2_checker.proofs.AddedSlots.{adds_more, adds_both, adds_at, adds_all}
 use Rattle.regalloc2_checker.proofs.OutputItems.{move_is}
-use Rattle.std.proofs.lemmas.Result.{err_from_is_err_and}
 use Rattle.regalloc2_checker.proofs.cells.test_moves.Goals as goal
 
 pub returns-then-not-are_move_ends-clause-fault : goal.returns-then-not-are_move_ends-clause-fault
@@ -79,38 +78,6 @@ returns-clause-named g c =
     adds_all (λ j n u. IsTakenByMove (g.F.Function.function c.args.f.now) (move_of_index out j) n u) c.loop-k.k (length out.edits) c.args.named.now
     c.loop-k.named (omega (arith, c.loop-k.invariant.within, c.loop-k.invariant.whole)) (omega (arith, c.loop-k-test.false, c.loop-k.invariant.whole))
     c.loop-k.invariant.named
-
-pub returns-in_err-add_end-clause-ends : goal.returns-in_err-add_end-clause-ends
-returns-in_err-add_end-clause-ends g c =
-    let p = err_from_is_err_and c.from_residual.result c.from_residual.ensures.1 in rw p.1 tt
-
-pub returns-in_err-add_end-clause-classes : goal.returns-in_err-add_end-clause-classes
-returns-in_err-add_end-clause-classes g c =
-    let p = err_from_is_err_and c.from_residual.result c.from_residual.ensures.1 in rw p.1 tt
-
-pub returns-in_err-add_end-clause-named : goal.returns-in_err-add_end-clause-named
-returns-in_err-add_end-clause-named g c =
-    let p = err_from_is_err_and c.from_residual.result c.from_residual.ensures.1 in rw p.1 tt
-
-pub returns-in_err-add_end-2-clause-ends : goal.returns-in_err-add_end-2-clause-ends
-returns-in_err-add_end-2-clause-ends g c =
-    let p = err_from_is_err_and c.from_residual-in_err-add_end-2.result c.from_residual-in_err-add_end-2.ensures.1 in rw p.1 tt
-
-pub returns-in_err-add_end-2-clause-classes : goal.returns-in_err-add_end-2-clause-classes
-returns-in_err-add_end-2-clause-classes g c =
-    let p = err_from_is_err_and c.from_residual-in_err-add_end-2.result c.from_residual-in_err-add_end-2.ensures.1 in rw p.1 tt
-
-pub returns-in_err-add_end-2-clause-named : goal.returns-in_err-add_end-2-clause-named
-returns-in_err-add_end-2-clause-named g c =
-    let p = err_from_is_err_and c.from_residual-in_err-add_end-2.result c.from_residual-in_err-add_end-2.ensures.1 in rw p.1 tt
-
-pub returns-in_err-add_end-clause-fault : goal.returns-in_err-add_end-clause-fault
-returns-in_err-add_end-clause-fault g c =
-    let p = err_from_is_err_and c.from_residual.result c.from_residual.ensures.1 in rw (p.1, p.2) tt
-
-pub returns-in_err-add_end-2-clause-fault : goal.returns-in_err-add_end-2-clause-fault
-returns-in_err-add_end-2-clause-fault g c =
-    let p = err_from_is_err_and c.from_residual-in_err-add_end-2.result c.from_residual-in_err-add_end-2.ensures.1 in rw (p.1, p.2) tt
 
 pub returns-then-not-are_move_ends-clause-ends : goal.returns-then-not-are_move_ends-clause-ends
 returns-then-not-are_move_ends-clause-ends g c = tt

@@ -1,4 +1,3 @@
-use Rattle.std.proofs.lemmas.Result.{IfOk-from_err}
 use Rattle.std.proofs.Common.{◌≡◌, map, sym, subst, List, ℕ}
 use Rattle.std.specs.Prelude.{All}
 use Rattle.std.specs.Option.{option_to_list}
@@ -103,52 +102,3 @@ moves-moves-requires-clause-inst g c = rw c.requires.1.1.0.moves.size c.requires
 
 pub places-places-requires-clause-inst : goal.places-places-requires-clause-inst
 places-places-requires-clause-inst g c = rw c.requires.1.1.0.one_offset_each c.requires.1.1.1.1.1.1.1
-
-pub returns-in_err-check_moves : goal.returns-in_err-check_moves
-returns-in_err-check_moves g c = record {
-  kept = IfOk-from_err c.from_residual.result _ c.from_residual.ensures.0;
-  now = IfOk-from_err c.from_residual.result _ c.from_residual.ensures.0;
-  judged = IfOk-from_err c.from_residual.result _ c.from_residual.ensures.0;
-}
-
-pub returns-in_err-go_to_early : goal.returns-in_err-go_to_early
-returns-in_err-go_to_early g c = record {
-  kept = IfOk-from_err c.from_residual-in_err-go_to_early.result _ c.from_residual-in_err-go_to_early.ensures.0;
-  now = IfOk-from_err c.from_residual-in_err-go_to_early.result _ c.from_residual-in_err-go_to_early.ensures.0;
-  judged = IfOk-from_err c.from_residual-in_err-go_to_early.result _ c.from_residual-in_err-go_to_early.ensures.0;
-}
-
-pub returns-in_err-early : goal.returns-in_err-early
-returns-in_err-early g c = record {
-  kept = IfOk-from_err c.from_residual-in_err-early.result _ c.from_residual-in_err-early.ensures.0;
-  now = IfOk-from_err c.from_residual-in_err-early.result _ c.from_residual-in_err-early.ensures.0;
-  judged = IfOk-from_err c.from_residual-in_err-early.result _ c.from_residual-in_err-early.ensures.0;
-}
-
-pub returns-in_err-add : goal.returns-in_err-add
-returns-in_err-add g c = record {
-  kept = IfOk-from_err c.from_residual-in_err-add.result _ c.from_residual-in_err-add.ensures.0;
-  now = IfOk-from_err c.from_residual-in_err-add.result _ c.from_residual-in_err-add.ensures.0;
-  judged = IfOk-from_err c.from_residual-in_err-add.result _ c.from_residual-in_err-add.ensures.0;
-}
-
-pub returns-in_err-go_to_late : goal.returns-in_err-go_to_late
-returns-in_err-go_to_late g c = record {
-  kept = IfOk-from_err c.from_residual-in_err-go_to_late.result _ c.from_residual-in_err-go_to_late.ensures.0;
-  now = IfOk-from_err c.from_residual-in_err-go_to_late.result _ c.from_residual-in_err-go_to_late.ensures.0;
-  judged = IfOk-from_err c.from_residual-in_err-go_to_late.result _ c.from_residual-in_err-go_to_late.ensures.0;
-}
-
-pub returns-in_err-late : goal.returns-in_err-late
-returns-in_err-late g c = record {
-  kept = IfOk-from_err c.from_residual-in_err-late.result _ c.from_residual-in_err-late.ensures.0;
-  now = IfOk-from_err c.from_residual-in_err-late.result _ c.from_residual-in_err-late.ensures.0;
-  judged = IfOk-from_err c.from_residual-in_err-late.result _ c.from_residual-in_err-late.ensures.0;
-}
-
-pub returns-in_err-add-2 : goal.returns-in_err-add-2
-returns-in_err-add-2 g c = record {
-  kept = IfOk-from_err c.from_residual-in_err-add-2.result _ c.from_residual-in_err-add-2.ensures.0;
-  now = IfOk-from_err c.from_residual-in_err-add-2.result _ c.from_residual-in_err-add-2.ensures.0;
-  judged = IfOk-from_err c.from_residual-in_err-add-2.result _ c.from_residual-in_err-add-2.ensures.0;
-}

@@ -1,4 +1,3 @@
-use Rattle.std.proofs.lemmas.Result.{IfOk-from_err}
 use Rattle.std.proofs.Common.{ap, ◌∙◌, ◌++◌, ◌∷◌, []}
 use Rattle.regalloc2_checker.specs.declared.errors.CheckerError.{CheckerError}
 use Rattle.regalloc2_checker.proofs.OperandErrors.{added_none, added_fine, added_fault, added_all}
@@ -22,6 +21,3 @@ loop-k-preserved g c = λ env h.
 pub returns : goal.returns
 returns g c = λ env h. let r = added_all env c.args.moves.now c.loop-k.k c.args.errors.now.items c.loop-k.errors.items c.loop-k-test.false
     (c.loop-k.invariant env h) in (r.added, r.all, r.faults)
-
-pub returns-in_err-push : goal.returns-in_err-push
-returns-in_err-push g c = IfOk-from_err c.from_residual.result _ c.from_residual.ensures.0

@@ -1,4 +1,3 @@
-use Rattle.std.proofs.lemmas.Result.{IfOk-from_err}
 use Rattle.std.proofs.Common.{◌≡◌, sym}
 use Rattle.std.specs.Prelude.{true}
 use Rattle.regalloc2_names.specs.Register.{VirtualRegister}
@@ -30,6 +29,3 @@ returns g c = λ env h.
     (operand_is c.args.at.now.operands.now c.args.k c.index-operands-k.result c.requires c.index-operands-k.is) c.place_at-place.ensures c.in_ok-fault.fault
     c.check_constraint.result (sym c.if-is_some.ensures) (is_there _ (sym c.if-is_none.ensures))
     c.in_ok-fault.ensures (c.check_constraint.ensures env h (is_there _ (sym c.if-is_none.ensures)))
-
-pub returns-in_err-fault : goal.returns-in_err-fault
-returns-in_err-fault g c = IfOk-from_err c.from_residual.result _ c.from_residual.ensures.0

@@ -1,4 +1,3 @@
-use Rattle.std.proofs.lemmas.Result.{IfOk-from_err}
 use Rattle.std.proofs.Common.{◌≡◌, ◌∙◌, sym, arith, rules, eqb-true, eq-eqb}
 use Rattle.std.specs.Prelude.{true}
 use Rattle.std.specs.Vec.{vec_len}
@@ -24,6 +23,3 @@ returns g c = (
       (λ e. not_both _ (eq-eqb (vec_len c.in_ok-actual.actual) 0 (omega (arith, e, c.in_ok-actual.actual.ok.0))) (sym c.if-is_empty.ensures))
       (λ h. not_both _ h (rw c.vreg.ensures at (sym c.holds.ensures ∙ c.if-holds.false))) c.in_ok-actual.ensures,
 )
-
-pub returns-in_err-actual : goal.returns-in_err-actual
-returns-in_err-actual g c = IfOk-from_err c.from_residual.result _ c.from_residual.ensures.0

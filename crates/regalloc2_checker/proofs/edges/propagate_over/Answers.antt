@@ -1,4 +1,3 @@
-use Rattle.std.proofs.lemmas.Result.{IfOk-from_err}
 use Rattle.std.proofs.Common.{ℕ, ◌≡◌, ◌<◌, List, Bool, length, slice_index, ◌∙◌, ap, sym, subst, refl, arith, true, false}
 use Rattle.std.proofs.lemmas.List.{length-set}
 use Rattle.std.specs.BinaryHeap.{heap_items, heap_len}
@@ -106,33 +105,3 @@ returns g c =
       falls = left-falls old mid new c.index-target.result (heap_len c.args.state.now.queue.heap) (heap_len c.push.new.self.heap)
           (facts_now c.transfer_edge.new.values) same met c.in_ok-push.ensures.longer;
     }
-
-pub returns-in_err-transfer_edge : goal.returns-in_err-transfer_edge
-returns-in_err-transfer_edge g c = record {
-  alike = IfOk-from_err c.from_residual.result _ c.from_residual.ensures.0;
-  sized = IfOk-from_err c.from_residual.result _ c.from_residual.ensures.0;
-  kept = IfOk-from_err c.from_residual.result _ c.from_residual.ensures.0;
-  over = IfOk-from_err c.from_residual.result _ c.from_residual.ensures.0;
-  queue = IfOk-from_err c.from_residual.result _ c.from_residual.ensures.0;
-  falls = IfOk-from_err c.from_residual.result _ c.from_residual.ensures.0;
-}
-
-pub returns-in_err-changed : goal.returns-in_err-changed
-returns-in_err-changed g c = record {
-  alike = IfOk-from_err c.from_residual-in_err-changed.result _ c.from_residual-in_err-changed.ensures.0;
-  sized = IfOk-from_err c.from_residual-in_err-changed.result _ c.from_residual-in_err-changed.ensures.0;
-  kept = IfOk-from_err c.from_residual-in_err-changed.result _ c.from_residual-in_err-changed.ensures.0;
-  over = IfOk-from_err c.from_residual-in_err-changed.result _ c.from_residual-in_err-changed.ensures.0;
-  queue = IfOk-from_err c.from_residual-in_err-changed.result _ c.from_residual-in_err-changed.ensures.0;
-  falls = IfOk-from_err c.from_residual-in_err-changed.result _ c.from_residual-in_err-changed.ensures.0;
-}
-
-pub returns-in_err-push : goal.returns-in_err-push
-returns-in_err-push g c = record {
-  alike = IfOk-from_err c.from_residual-in_err-push.result _ c.from_residual-in_err-push.ensures.0;
-  sized = IfOk-from_err c.from_residual-in_err-push.result _ c.from_residual-in_err-push.ensures.0;
-  kept = IfOk-from_err c.from_residual-in_err-push.result _ c.from_residual-in_err-push.ensures.0;
-  over = IfOk-from_err c.from_residual-in_err-push.result _ c.from_residual-in_err-push.ensures.0;
-  queue = IfOk-from_err c.from_residual-in_err-push.result _ c.from_residual-in_err-push.ensures.0;
-  falls = IfOk-from_err c.from_residual-in_err-push.result _ c.from_residual-in_err-push.ensures.0;
-}

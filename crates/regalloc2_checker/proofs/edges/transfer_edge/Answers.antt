@@ -1,4 +1,3 @@
-use Rattle.std.proofs.lemmas.Result.{IfOk-from_err}
 use Rattle.std.proofs.Common.{◌≡◌, ◌<◌, ℕ, List, length, slice_index, ◌∙◌, ap, sym, subst}
 use Rattle.std.specs.Prelude.{All}
 use Rattle.regalloc2_names.specs.Register.{VirtualRegister}
@@ -35,9 +34,3 @@ returns-clause-now g c =
     over_run f c.args.block c.args.position (facts_now c.args.values.now) (facts_now c.take_arguments.new.values) c.block_params-params.result.now
     c.branch_blockparams-arguments.result.now (c.block_params-params.ensures ∙ ap (λ (t : ℕ). (block_at f t).params) target)
     c.branch_blockparams-arguments.ensures c.in_ok-take_arguments.ensures.now
-
-pub returns-in_err-take_arguments : goal.returns-in_err-take_arguments
-returns-in_err-take_arguments g c = record {
-  kept = IfOk-from_err c.from_residual.result _ c.from_residual.ensures.0;
-  now = IfOk-from_err c.from_residual.result _ c.from_residual.ensures.0;
-}

@@ -1,4 +1,3 @@
-use Rattle.std.proofs.lemmas.Result.{IfOk-from_err}
 use Rattle.std.proofs.Common.{◌∙◌, sym, refl}
 use Rattle.std.specs.Prelude.{◌&&◌}
 use Rattle.regalloc2_checker.specs.Showing.{shows_in, shows_now}
@@ -25,19 +24,3 @@ returns-clause-others g c = others-kept c.args.values.now c.save.new.self c.args
 pub returns-clause-met : goal.returns-clause-met
 returns-clause-met g c = update-first c.args.values.now c.save.new.self c.args.reached.now.items c.args.target c.index.result.now
     c.requires.target (sym c.index.ensures ∙ c.if-index.false) c.save.ensures.places c.in_ok-save.ensures.tables
-
-pub returns-in_err-changed : goal.returns-in_err-changed
-returns-in_err-changed g c = record {
-  alike = IfOk-from_err c.from_residual.result _ c.from_residual.ensures.0;
-  long = IfOk-from_err c.from_residual.result _ c.from_residual.ensures.0;
-  others = IfOk-from_err c.from_residual.result _ c.from_residual.ensures.0;
-  met = IfOk-from_err c.from_residual.result _ c.from_residual.ensures.0;
-}
-
-pub returns-in_err-save : goal.returns-in_err-save
-returns-in_err-save g c = record {
-  alike = IfOk-from_err c.from_residual-in_err-save.result _ c.from_residual-in_err-save.ensures.0;
-  long = IfOk-from_err c.from_residual-in_err-save.result _ c.from_residual-in_err-save.ensures.0;
-  others = IfOk-from_err c.from_residual-in_err-save.result _ c.from_residual-in_err-save.ensures.0;
-  met = IfOk-from_err c.from_residual-in_err-save.result _ c.from_residual-in_err-save.ensures.0;
-}

@@ -7,7 +7,6 @@ use Rattle.regalloc2_checker.proofs.Blocks.{judged_first, judged_next, judged_en
 use Rattle.regalloc2_checker.proofs.BlocksInRange.{insts_within, nonempty}
 use Rattle.regalloc2_checker.proofs.TableSteps.{now-as, kept-twice}
 use Rattle.regalloc2_checker.proofs.TransferFollowsFacts.{named_same}
-use Rattle.std.proofs.lemmas.Result.{err_from_is_err_and}
 use Rattle.regalloc2_checker.proofs.find_errors.check_block.Goals as goal
 
 pub load-requires : goal.load-requires
@@ -87,11 +86,3 @@ returns g c =
           (facts_table c.args.values.now c.args.block) c.args.errors.now.items c.loop-i.errors.items
           (facts_now c.loop-i.values) at (c.loop-i.invariant.judged env s k);
     }
-
-pub returns-in_err-check_inst-clause-kept : goal.returns-in_err-check_inst-clause-kept
-returns-in_err-check_inst-clause-kept g c =
-    let p = err_from_is_err_and c.from_residual.result c.from_residual.ensures.1 in rw p.1 tt
-
-pub returns-in_err-check_inst-clause-judged : goal.returns-in_err-check_inst-clause-judged
-returns-in_err-check_inst-clause-judged g c =
-    let p = err_from_is_err_and c.from_residual.result c.from_residual.ensures.1 in rw p.1 tt

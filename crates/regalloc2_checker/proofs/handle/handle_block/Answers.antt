@@ -1,4 +1,3 @@
-use Rattle.std.proofs.lemmas.Result.{IfOk-from_err}
 use Rattle.std.proofs.Common.{◌≡◌, ◌∙◌, ◌+◌, ℕ, List, ap, sym, length, map, subst, arith}
 use Rattle.regalloc2_index.specs.Range.{Span}
 use Rattle.regalloc2_names.specs.Point.{before}
@@ -99,10 +98,3 @@ returns g c =
       listed = copying_ends f (output_of c.args.out.now) c.args.out.now.edits.items c.args.block c.loop-i.listing.items c.loop-i.invariant.copying
           (sym c.loop-i.invariant.long ∙ at) (nonempty f c.requires.framed c.args.block c.requires.block);
     }
-
-pub returns-in_err-handle_inst : goal.returns-in_err-handle_inst
-returns-in_err-handle_inst g c = record {
-  within = IfOk-from_err c.from_residual.result _ c.from_residual.ensures.0;
-  passed = IfOk-from_err c.from_residual.result _ c.from_residual.ensures.0;
-  listed = IfOk-from_err c.from_residual.result _ c.from_residual.ensures.0;
-}

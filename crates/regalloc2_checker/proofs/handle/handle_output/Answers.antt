@@ -3,7 +3,6 @@ use Rattle.std.proofs.lemmas.List.{map-append}
 use Rattle.regalloc2_names.specs.Place.{Place}
 use Rattle.regalloc2_function.specs.OutputValue.{OutputValue}
 use Rattle.regalloc2_function.specs.Views.{edit_of}
-use Rattle.std.proofs.lemmas.Result.{err_from_is_err_and}
 use Rattle.regalloc2_checker.proofs.handle.handle_output.Goals as goal
 
 -- what is put behind nothing, as it is seen
@@ -21,19 +20,3 @@ returns g c =
     let locations = behind (λ d. record { label = d.0; start = d.1; end = d.2; place = d.3 }) _ _ _ c.args.out.now.debug_locations.items
     (ap (λ (o : OutputValue). o.debug_locations) o) c.in_ok-extend_from_slice-4.ensures.items c.deref-4.ensures.value in
     rw (edits, allocs, offsets, locations) refl
-
-pub returns-in_err-extend_from_slice : goal.returns-in_err-extend_from_slice
-returns-in_err-extend_from_slice g c =
-    let p = err_from_is_err_and c.from_residual.result c.from_residual.ensures.1 in rw p.1 tt
-
-pub returns-in_err-extend_from_slice-2 : goal.returns-in_err-extend_from_slice-2
-returns-in_err-extend_from_slice-2 g c =
-    let p = err_from_is_err_and c.from_residual-in_err-extend_from_slice-2.result c.from_residual-in_err-extend_from_slice-2.ensures.1 in rw p.1 tt
-
-pub returns-in_err-extend_from_slice-3 : goal.returns-in_err-extend_from_slice-3
-returns-in_err-extend_from_slice-3 g c =
-    let p = err_from_is_err_and c.from_residual-in_err-extend_from_slice-3.result c.from_residual-in_err-extend_from_slice-3.ensures.1 in rw p.1 tt
-
-pub returns-in_err-extend_from_slice-4 : goal.returns-in_err-extend_from_slice-4
-returns-in_err-extend_from_slice-4 g c =
-    let p = err_from_is_err_and c.from_residual-in_err-extend_from_slice-4.result c.from_residual-in_err-extend_from_slice-4.ensures.1 in rw p.1 tt

@@ -1,4 +1,3 @@
-use Rattle.std.proofs.lemmas.Result.{IfOk-from_err}
 use Rattle.std.proofs.Common.{ℕ, ◌<◌, List, length, arith, subst}
 use Rattle.std.specs.Prelude.{All}
 use Rattle.regalloc2_function.specs.FunctionValue.{FunctionValue, block_at}
@@ -41,11 +40,4 @@ returns g c = record {
   more = c.loop-b.invariant.more;
   params = λ b less. c.loop-b.invariant.params b (omega (arith, less, c.loop-b-test.false, c.loop-b.invariant.end));
   arguments = λ b k less here. c.loop-b.invariant.arguments b (omega (arith, less, c.loop-b-test.false, c.loop-b.invariant.end)) k here;
-}
-
-pub returns-in_err-list_block_vregs : goal.returns-in_err-list_block_vregs
-returns-in_err-list_block_vregs g c = record {
-  more = IfOk-from_err c.from_residual.result _ c.from_residual.ensures.0;
-  params = IfOk-from_err c.from_residual.result _ c.from_residual.ensures.0;
-  arguments = IfOk-from_err c.from_residual.result _ c.from_residual.ensures.0;
 }

@@ -1,4 +1,3 @@
-use Rattle.std.proofs.lemmas.Result.{IfOk-from_err}
 use Rattle.std.proofs.Common.{ℕ, List, length, ap, arith, subst}
 use Rattle.std.specs.Prelude.{All}
 use Rattle.regalloc2_names.specs.Register.{VirtualRegister}
@@ -32,10 +31,4 @@ pub returns : goal.returns
 returns g c = record {
   more = c.loop-k.invariant.more;
   listed = λ j less. c.loop-k.invariant.listed j (omega (arith, less, c.loop-k-test.false, c.loop-k.invariant.end));
-}
-
-pub returns-in_err-list_vregs : goal.returns-in_err-list_vregs
-returns-in_err-list_vregs g c = record {
-  more = IfOk-from_err c.from_residual.result _ c.from_residual.ensures.0;
-  listed = IfOk-from_err c.from_residual.result _ c.from_residual.ensures.0;
 }

@@ -1,4 +1,3 @@
-use Rattle.std.proofs.lemmas.Result.{IfOk-from_err}
 use Rattle.std.proofs.Common.{List, subst}
 use Rattle.std.specs.Prelude.{All}
 use Rattle.regalloc2_names.specs.Register.{VirtualRegister}
@@ -13,18 +12,4 @@ returns g c = record {
   params = all-vregs-more c.list_vregs.new.bits c.list_arguments.new.bits _ c.in_ok-list_arguments.ensures.more
       (subst (λ (vs : List VirtualRegister). All (IsListedVReg c.list_vregs.new.bits) vs) c.block_params.ensures c.in_ok-list_vregs.ensures.listed);
   arguments = c.in_ok-list_arguments.ensures.listed;
-}
-
-pub returns-in_err-list_vregs : goal.returns-in_err-list_vregs
-returns-in_err-list_vregs g c = record {
-  more = IfOk-from_err c.from_residual.result _ c.from_residual.ensures.0;
-  params = IfOk-from_err c.from_residual.result _ c.from_residual.ensures.0;
-  arguments = IfOk-from_err c.from_residual.result _ c.from_residual.ensures.0;
-}
-
-pub returns-in_err-list_arguments : goal.returns-in_err-list_arguments
-returns-in_err-list_arguments g c = record {
-  more = IfOk-from_err c.from_residual-in_err-list_arguments.result _ c.from_residual-in_err-list_arguments.ensures.0;
-  params = IfOk-from_err c.from_residual-in_err-list_arguments.result _ c.from_residual-in_err-list_arguments.ensures.0;
-  arguments = IfOk-from_err c.from_residual-in_err-list_arguments.result _ c.from_residual-in_err-list_arguments.ensures.0;
 }

@@ -1,4 +1,3 @@
-use Rattle.std.proofs.lemmas.Result.{IfOk-from_err}
 use Rattle.std.proofs.Common.{ℕ, List, arith, subst}
 use Rattle.std.specs.Prelude.{All}
 use Rattle.regalloc2_names.specs.Operand.{OperandValue}
@@ -34,10 +33,4 @@ pub returns : goal.returns
 returns g c = record {
   more = c.loop-i.invariant.more;
   listed = λ i less. c.loop-i.invariant.listed i (omega (arith, less, c.loop-i-test.false, c.loop-i.invariant.end));
-}
-
-pub returns-in_err-list_operands : goal.returns-in_err-list_operands
-returns-in_err-list_operands g c = record {
-  more = IfOk-from_err c.from_residual.result _ c.from_residual.ensures.0;
-  listed = IfOk-from_err c.from_residual.result _ c.from_residual.ensures.0;
 }

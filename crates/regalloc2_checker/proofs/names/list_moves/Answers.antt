@@ -1,4 +1,3 @@
-use Rattle.std.proofs.lemmas.Result.{IfOk-from_err}
 use Rattle.std.proofs.Common.{ℕ, List, [], ◌∷◌, arith, subst, sym}
 use Rattle.regalloc2_names.specs.Place.{Place}
 use Rattle.regalloc2_function.specs.declared.listing.Edit.{Edit}
@@ -24,9 +23,3 @@ loop-k-preserved g c =
 
 pub returns : goal.returns
 returns g c = edits-all c.args.bits.now c.loop-k.bits c.args.moves.now c.loop-k.k (omega (arith, c.loop-k-test.false)) c.loop-k.invariant
-
-pub returns-in_err-list : goal.returns-in_err-list
-returns-in_err-list g c = IfOk-from_err c.from_residual.result _ c.from_residual.ensures.0
-
-pub returns-in_err-list-2 : goal.returns-in_err-list-2
-returns-in_err-list-2 g c = IfOk-from_err c.from_residual-in_err-list-2.result _ c.from_residual-in_err-list-2.ensures.0

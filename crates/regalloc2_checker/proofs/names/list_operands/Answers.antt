@@ -1,4 +1,3 @@
-use Rattle.std.proofs.lemmas.Result.{IfOk-from_err}
 use Rattle.std.proofs.Common.{ℕ, List, arith}
 use Rattle.regalloc2_names.specs.Operand.{OperandValue}
 use Rattle.regalloc2_checker.specs.TableFacts.{IsListedVReg}
@@ -24,10 +23,4 @@ returns g c = record {
   more = c.loop-k.invariant.more;
   listed = all_done (λ (o : OperandValue). IsListedVReg c.loop-k.bits o.vreg) c.args.operands.now c.loop-k.k (omega (arith, c.loop-k-test.false))
       c.loop-k.invariant.listed;
-}
-
-pub returns-in_err-list_vreg : goal.returns-in_err-list_vreg
-returns-in_err-list_vreg g c = record {
-  more = IfOk-from_err c.from_residual.result _ c.from_residual.ensures.0;
-  listed = IfOk-from_err c.from_residual.result _ c.from_residual.ensures.0;
 }

@@ -1,4 +1,3 @@
-use Rattle.std.proofs.lemmas.Result.{IfOk-from_err}
 use Rattle.std.proofs.Common.{arith}
 use Rattle.regalloc2_checker.proofs.NamedPlaces.{added-none, added-more, added-all}
 use Rattle.regalloc2_checker.proofs.names.list_places.Goals as goal
@@ -12,6 +11,3 @@ loop-k-preserved g c = added-more c.args.bits.now c.loop-k.bits c.list.new.self 
 
 pub returns : goal.returns
 returns g c = added-all c.args.bits.now c.loop-k.bits c.args.places.now c.loop-k.k (omega (arith, c.loop-k-test.false)) c.loop-k.invariant
-
-pub returns-in_err-list : goal.returns-in_err-list
-returns-in_err-list g c = IfOk-from_err c.from_residual.result _ c.from_residual.ensures.0

@@ -1,4 +1,3 @@
-use Rattle.std.proofs.lemmas.Result.{IfOk-from_err}
 use Rattle.std.proofs.Common.{inl, inr, sym}
 use Rattle.regalloc2_checker.proofs.names.list_vreg.Goals as goal
 
@@ -6,10 +5,4 @@ pub returns : goal.returns
 returns g c = record {
   more = λ n h. (c.in_ok-list.ensures n).1 (inl h);
   listed = (c.in_ok-list.ensures _).1 (inr (sym c.bits.ensures.bits));
-}
-
-pub returns-in_err-list : goal.returns-in_err-list
-returns-in_err-list g c = record {
-  more = IfOk-from_err c.from_residual.result _ c.from_residual.ensures.0;
-  listed = IfOk-from_err c.from_residual.result _ c.from_residual.ensures.0;
 }

@@ -1,4 +1,3 @@
-use Rattle.std.proofs.lemmas.Result.{IfOk-from_err}
 use Rattle.std.proofs.Common.{ℕ, List, arith}
 use Rattle.regalloc2_checker.specs.TableFacts.{IsListedVReg}
 use Rattle.regalloc2_checker.proofs.NamedBits.{more-same, more-twice, all_more, all_done}
@@ -21,10 +20,4 @@ pub returns : goal.returns
 returns g c = record {
   more = c.loop-k.invariant.more;
   listed = all_done (IsListedVReg c.loop-k.bits) c.args.vregs.now c.loop-k.k (omega (arith, c.loop-k-test.false)) c.loop-k.invariant.listed;
-}
-
-pub returns-in_err-list_vreg : goal.returns-in_err-list_vreg
-returns-in_err-list_vreg g c = record {
-  more = IfOk-from_err c.from_residual.result _ c.from_residual.ensures.0;
-  listed = IfOk-from_err c.from_residual.result _ c.from_residual.ensures.0;
 }

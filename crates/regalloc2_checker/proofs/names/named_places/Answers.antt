@@ -1,4 +1,3 @@
-use Rattle.std.proofs.lemmas.Result.{IfOk-from_err}
 use Rattle.std.proofs.Common.{◌++◌, List, ℕ, map, refl, subst}
 use Rattle.std.specs.Prelude.{◌↔◌, Contains}
 use Rattle.std.specs.List.{flat_map}
@@ -28,15 +27,3 @@ returns g c =
     all-named f (output_of c.args.out.now) edits c.all_clobbers.result end c.of.result refl c.all_clobbers.ensures
     (subst (λ (l : List ℕ). ArePlacesAdded l end (flat_map places_of_edit edits ++ (places ++ regs))) c.in_ok-bits.ensures added)
     (subst (λ (l : List ℕ). (n : ℕ) → Contains c.of.result n ↔ Contains l n) c.in_ok-into_numbers.ensures c.of.ensures.members) c.of.ensures.rising
-
-pub returns-in_err-bits : goal.returns-in_err-bits
-returns-in_err-bits g c = IfOk-from_err c.from_residual.result _ c.from_residual.ensures.0
-
-pub returns-in_err-list_moves : goal.returns-in_err-list_moves
-returns-in_err-list_moves g c = IfOk-from_err c.from_residual-in_err-list_moves.result _ c.from_residual-in_err-list_moves.ensures.0
-
-pub returns-in_err-list_places : goal.returns-in_err-list_places
-returns-in_err-list_places g c = IfOk-from_err c.from_residual-in_err-list_places.result _ c.from_residual-in_err-list_places.ensures.0
-
-pub returns-in_err-into_numbers : goal.returns-in_err-into_numbers
-returns-in_err-into_numbers g c = IfOk-from_err c.from_residual-in_err-into_numbers.result _ c.from_residual-in_err-into_numbers.ensures.0

@@ -1,4 +1,3 @@
-use Rattle.std.proofs.lemmas.Result.{IfOk-from_err}
 use Rattle.std.proofs.Common.{ℕ, ◌+◌, List, take, sym, refl, subst}
 use Rattle.regalloc2_checker.proofs.Shown.{AreWithout, without-none, without-step, without-pass, without-all, without-here, without-others}
 use Rattle.regalloc2_checker.proofs.passing.all_but.Goals as goal
@@ -26,9 +25,3 @@ pub returns-clause-others : goal.returns-clause-others
 returns-clause-others g c y n =
     without-others c.loop-other.left.items c.args.numbers.now c.args.number y
     (without-all c.loop-other.left.items c.args.numbers.now c.loop-other.other-index c.args.number c.loop-other-test.false c.loop-other.invariant) n
-
-pub returns-in_err-push : goal.returns-in_err-push
-returns-in_err-push g c = record {
-  gone = IfOk-from_err c.from_residual.result _ c.from_residual.ensures.0;
-  others = IfOk-from_err c.from_residual.result _ c.from_residual.ensures.0;
-}

@@ -1,4 +1,3 @@
-use Rattle.std.proofs.lemmas.Result.{IfOk-from_err}
 use Rattle.std.proofs.Common.{ℕ, List, length, get_or, ap, sym, ◌∙◌, subst}
 use Rattle.std.specs.Prelude.{Option}
 use Rattle.regalloc2_checker.specs.Holding.{holds_now, HoldsNow, is_in}
@@ -39,6 +38,3 @@ returns-clause-now g c =
     (sym c.in-Some.is)
     (settled-now c.args.tables.now c.give.new.self c.in-Some.passed c.deref.result.now c.give.ensures.kept.places
     (λ i. ap (λ (hs : List ℕ). is_in hs i) c.deref.ensures.value ∙ c.in_ok-holders.ensures i) ok)) c.give.ensures.now
-
-pub returns-in_err-holders-clause-now : goal.returns-in_err-holders-clause-now
-returns-in_err-holders-clause-now g c = IfOk-from_err c.from_residual.result _ c.from_residual.ensures.0

@@ -1,4 +1,3 @@
-use Rattle.std.proofs.lemmas.Result.{IfOk-from_err}
 use Rattle.std.proofs.Common.{ℕ, List, arith, sym, ◌∙◌, subst}
 use Rattle.regalloc2_checker.specs.Showing.{ListsPassed}
 use Rattle.regalloc2_checker.proofs.Shown.{IsSettledIn, settled-places, settled-vregs, settled-in-now, settled-in-tables}
@@ -101,21 +100,3 @@ returns-clause-tables g c =
     } in
     settled-in-tables c.args.tables.now c.save.new.self c.load.new.self c.settle.new.tables c.save-2.new.self c.load-2.new.self c.args.passed c.args.table
     c.args.spare h
-
-pub returns-in_err-save-clause-now : goal.returns-in_err-save-clause-now
-returns-in_err-save-clause-now g c = IfOk-from_err c.from_residual.result _ c.from_residual.ensures.0
-
-pub returns-in_err-save-clause-tables : goal.returns-in_err-save-clause-tables
-returns-in_err-save-clause-tables g c = IfOk-from_err c.from_residual.result _ c.from_residual.ensures.0
-
-pub returns-in_err-settle-clause-now : goal.returns-in_err-settle-clause-now
-returns-in_err-settle-clause-now g c = IfOk-from_err c.from_residual-in_err-settle.result _ c.from_residual-in_err-settle.ensures.0
-
-pub returns-in_err-settle-clause-tables : goal.returns-in_err-settle-clause-tables
-returns-in_err-settle-clause-tables g c = IfOk-from_err c.from_residual-in_err-settle.result _ c.from_residual-in_err-settle.ensures.0
-
-pub returns-in_err-save-2-clause-now : goal.returns-in_err-save-2-clause-now
-returns-in_err-save-2-clause-now g c = IfOk-from_err c.from_residual-in_err-save-2.result _ c.from_residual-in_err-save-2.ensures.0
-
-pub returns-in_err-save-2-clause-tables : goal.returns-in_err-save-2-clause-tables
-returns-in_err-save-2-clause-tables g c = IfOk-from_err c.from_residual-in_err-save-2.result _ c.from_residual-in_err-save-2.ensures.0

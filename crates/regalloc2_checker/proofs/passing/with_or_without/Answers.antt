@@ -1,4 +1,3 @@
-use Rattle.std.proofs.lemmas.Result.{IfOk-from_err}
 use Rattle.regalloc2_index.proofs.Bools.{not_both}
 use Rattle.regalloc2_checker.proofs.Shown.{with-here, with-others}
 use Rattle.regalloc2_checker.proofs.passing.with_or_without.Goals as goal
@@ -16,15 +15,3 @@ returns-clause-others g c y n =
     let a = with-others c.in_ok-changed.changed.items c.push.new.self.items c.args.number y c.in_ok-push.ensures.items n in
     let b = c.in_ok-changed.ensures.others y n in
     (λ d. b.0 (a.0 d), λ d. a.1 (b.1 d))
-
-pub returns-in_err-changed : goal.returns-in_err-changed
-returns-in_err-changed g c = record {
-  here = IfOk-from_err c.from_residual.result _ c.from_residual.ensures.0;
-  others = IfOk-from_err c.from_residual.result _ c.from_residual.ensures.0;
-}
-
-pub returns-in_err-push : goal.returns-in_err-push
-returns-in_err-push g c = record {
-  here = IfOk-from_err c.from_residual-in_err-push.result _ c.from_residual-in_err-push.ensures.0;
-  others = IfOk-from_err c.from_residual-in_err-push.result _ c.from_residual-in_err-push.ensures.0;
-}

@@ -5,7 +5,6 @@ use Rattle.std.proofs.lemmas.List.{get_or_default, get_or-set_other, get_or-set_
 use Rattle.regalloc2_function.specs.FunctionValue.{FunctionValue}
 use Rattle.regalloc2_checker.specs.Swept.{done_at}
 use Rattle.regalloc2_checker.proofs.Sweeps.{swept-checked}
-use Rattle.std.proofs.lemmas.Result.{err_from_is_err_and}
 use Rattle.regalloc2_checker.proofs.Queues.{alike-same}
 use Rattle.regalloc2_checker.proofs.sweep.finish.Goals as goal
 
@@ -32,22 +31,6 @@ returns-clause-swept g c =
     c.args.sweep.now.state.reached.items c.index-index.result c.args.block c.new-errors.result.items c.check_block.new.errors.items c.index-index.ensures
     (omega (arith, less, tables.reached)) (omega (arith, less, tables.done)) undone c.in_ok-check_block.ensures.kept c.new-errors.ensures.items
     (nil_from_length _ (sym c.check_block.new.errors.ok.0 ∙ none)) c.in_ok-check_block.ensures.judged)
-
-pub returns-in_err-check_block-clause-further : goal.returns-in_err-check_block-clause-further
-returns-in_err-check_block-clause-further g c =
-    let p = err_from_is_err_and c.from_residual.result c.from_residual.ensures.1 in rw p.1 tt
-
-pub returns-in_err-check_block-clause-queue : goal.returns-in_err-check_block-clause-queue
-returns-in_err-check_block-clause-queue g c =
-    let p = err_from_is_err_and c.from_residual.result c.from_residual.ensures.1 in rw p.1 tt
-
-pub returns-in_err-check_block-clause-swept : goal.returns-in_err-check_block-clause-swept
-returns-in_err-check_block-clause-swept g c =
-    let p = err_from_is_err_and c.from_residual.result c.from_residual.ensures.1 in rw p.1 tt
-
-pub returns-in_err-check_block-clause-here : goal.returns-in_err-check_block-clause-here
-returns-in_err-check_block-clause-here g c =
-    let p = err_from_is_err_and c.from_residual.result c.from_residual.ensures.1 in rw p.1 tt
 
 pub returns-then-not-index-clause-further : goal.returns-then-not-index-clause-further
 returns-then-not-index-clause-further g c = record { alike = alike-same c.args.sweep.now.state.values; reached = refl; size = refl; kept = λ b done. done }

@@ -4,7 +4,6 @@ use Rattle.regalloc2_checker.specs.Swept.{done_at}
 use Rattle.regalloc2_checker.proofs.Queues.{alike-same}
 use Rattle.regalloc2_checker.proofs.Sweeps.{further-twice}
 use Rattle.regalloc2_checker.proofs.TransferFollowsFacts.{named_same}
-use Rattle.std.proofs.lemmas.Result.{err_from_is_err_and}
 use Rattle.regalloc2_checker.proofs.sweep.finish_below.Goals as goal
 
 pub loop-b-preserved : goal.loop-b-preserved
@@ -59,22 +58,6 @@ returns g c =
       swept = inv.swept;
       all = λ none b less r. inv.all none b (omega (arith, less, c.loop-b-test.false, inv.within)) r;
     }
-
-pub returns-in_err-finish-clause-further : goal.returns-in_err-finish-clause-further
-returns-in_err-finish-clause-further g c =
-    let p = err_from_is_err_and c.from_residual.result c.from_residual.ensures.1 in rw p.1 tt
-
-pub returns-in_err-finish-clause-queue : goal.returns-in_err-finish-clause-queue
-returns-in_err-finish-clause-queue g c =
-    let p = err_from_is_err_and c.from_residual.result c.from_residual.ensures.1 in rw p.1 tt
-
-pub returns-in_err-finish-clause-swept : goal.returns-in_err-finish-clause-swept
-returns-in_err-finish-clause-swept g c =
-    let p = err_from_is_err_and c.from_residual.result c.from_residual.ensures.1 in rw p.1 tt
-
-pub returns-in_err-finish-clause-all : goal.returns-in_err-finish-clause-all
-returns-in_err-finish-clause-all g c =
-    let p = err_from_is_err_and c.from_residual.result c.from_residual.ensures.1 in rw p.1 tt
 
 pub returns-then-not-branch-clause-further : goal.returns-then-not-branch-clause-further
 returns-then-not-branch-clause-further g c =

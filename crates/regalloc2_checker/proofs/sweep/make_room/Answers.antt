@@ -3,7 +3,6 @@ use Rattle.std.proofs.lemmas.Bool.{OnTrue_at}
 use Rattle.regalloc2_function.specs.FunctionValue.{FunctionValue}
 use Rattle.regalloc2_checker.proofs.Queues.{alike-same}
 use Rattle.regalloc2_checker.proofs.Sweeps.{swept-dropped}
-use Rattle.std.proofs.lemmas.Result.{err_from_is_err_and}
 use Rattle.regalloc2_checker.proofs.sweep.make_room.Goals as goal
 
 pub returns-clause-swept : goal.returns-clause-swept
@@ -14,30 +13,6 @@ returns-clause-swept g c = λ vs s.
     swept-dropped g.row.A.Denot f g.o c.args.by.now.slots t.is_done.items t.state.values c.drop_marked.new.self t.state.reached.items d.places
     (λ k i y un less. d.tables k i y (ap (λ (xs : List Bool). get_or xs k false) c.deref-3.ensures.value ∙ un) less) vs
     (OnTrue_at c.if-not-branch.false c.in_ok-finish_below.ensures.swept vs s)
-
-pub returns-in_err-finish_below-clause-further : goal.returns-in_err-finish_below-clause-further
-returns-in_err-finish_below-clause-further g c =
-    let p = err_from_is_err_and c.from_residual.result c.from_residual.ensures.1 in rw p.1 tt
-
-pub returns-in_err-finish_below-clause-queue : goal.returns-in_err-finish_below-clause-queue
-returns-in_err-finish_below-clause-queue g c =
-    let p = err_from_is_err_and c.from_residual.result c.from_residual.ensures.1 in rw p.1 tt
-
-pub returns-in_err-finish_below-clause-swept : goal.returns-in_err-finish_below-clause-swept
-returns-in_err-finish_below-clause-swept g c =
-    let p = err_from_is_err_and c.from_residual.result c.from_residual.ensures.1 in rw p.1 tt
-
-pub returns-in_err-drop_marked-clause-further : goal.returns-in_err-drop_marked-clause-further
-returns-in_err-drop_marked-clause-further g c =
-    let p = err_from_is_err_and c.from_residual-in_err-drop_marked.result c.from_residual-in_err-drop_marked.ensures.1 in rw p.1 tt
-
-pub returns-in_err-drop_marked-clause-queue : goal.returns-in_err-drop_marked-clause-queue
-returns-in_err-drop_marked-clause-queue g c =
-    let p = err_from_is_err_and c.from_residual-in_err-drop_marked.result c.from_residual-in_err-drop_marked.ensures.1 in rw p.1 tt
-
-pub returns-in_err-drop_marked-clause-swept : goal.returns-in_err-drop_marked-clause-swept
-returns-in_err-drop_marked-clause-swept g c =
-    let p = err_from_is_err_and c.from_residual-in_err-drop_marked.result c.from_residual-in_err-drop_marked.ensures.1 in rw p.1 tt
 
 pub returns-clause-further : goal.returns-clause-further
 returns-clause-further g c =

@@ -7,7 +7,6 @@ use Rattle.regalloc2_checker.proofs.FactsFollowMaps.{AreEarlier}
 use Rattle.regalloc2_checker.proofs.Queues.{all-settled, ready-popped}
 use Rattle.regalloc2_checker.proofs.RoundInvariant.{solved}
 use Rattle.regalloc2_checker.proofs.Sweeps.{report-swept}
-use Rattle.std.proofs.lemmas.Result.{err_from_is_err_and}
 use Rattle.regalloc2_checker.proofs.sweep.pass_all_on.Goals as goal
 
 pub returns-in_default : goal.returns-in_default
@@ -58,11 +57,3 @@ pass_on-requires g c κs within =
         ),
       ),
     )
-
-pub returns-in_err-is_clean : goal.returns-in_err-is_clean
-returns-in_err-is_clean g c =
-    let p = err_from_is_err_and c.from_residual.result c.from_residual.ensures.1 in rw p.1 tt
-
-pub returns-in_err-pass_on : goal.returns-in_err-pass_on
-returns-in_err-pass_on g c =
-    let p = err_from_is_err_and c.from_residual-in_err-pass_on.result c.from_residual-in_err-pass_on.ensures.1 in rw p.1 tt

@@ -7,7 +7,6 @@ use Rattle.regalloc2_checker.specs.Swept.{LeadsToNoneDone}
 use Rattle.regalloc2_checker.proofs.Queues.{alike-twice}
 use Rattle.regalloc2_checker.proofs.Sweeps.{sweep-tables, way-swept}
 use Rattle.regalloc2_checker.proofs.TransferFollowsFacts.{named_same}
-use Rattle.std.proofs.lemmas.Result.{err_from_is_err_and}
 use Rattle.regalloc2_checker.proofs.sweep.pass_on.Goals as goal
 
 pub propagate_block-requires : goal.propagate_block-requires
@@ -64,14 +63,6 @@ returns g c =
       swept = w.1;
       on_way = w.2;
     }
-
-pub returns-in_err-make_room : goal.returns-in_err-make_room
-returns-in_err-make_room g c =
-    let p = err_from_is_err_and c.from_residual.result c.from_residual.ensures.1 in rw p.1 tt
-
-pub returns-in_err-propagate_block : goal.returns-in_err-propagate_block
-returns-in_err-propagate_block g c =
-    let p = err_from_is_err_and c.from_residual-in_err-propagate_block.result c.from_residual-in_err-propagate_block.ensures.1 in rw p.1 tt
 
 pub returns-then-not-branch : goal.returns-then-not-branch
 returns-then-not-branch g c = tt

@@ -1,4 +1,3 @@
-use Rattle.std.proofs.lemmas.Result.{IfOk-from_err}
 use Rattle.std.proofs.Common.{ℕ, List, false, nat_eq, nat_lt, length, arith, ap, ◌∙◌}
 use Rattle.std.specs.Prelude.{◌&&◌, if◌then◌else◌}
 use Rattle.regalloc2_function.specs.Numbers.{times_listed}
@@ -44,6 +43,3 @@ pub returns-in_err-drop_at-clause-still : goal.returns-in_err-drop_at-clause-sti
 returns-in_err-drop_at-clause-still g c =
     still-then c.args.sets.now c.loop-place.sets c.drop_at.new.sets c.args.entries.now c.loop-place.entries c.drop_at.new.entries
     c.loop-place.invariant.still c.in_err-drop_at.ensures.still
-
-pub returns-in_err-drop_at-clause-ok : goal.returns-in_err-drop_at-clause-ok
-returns-in_err-drop_at-clause-ok g c = IfOk-from_err c.from_residual.result _ c.from_residual.ensures.0

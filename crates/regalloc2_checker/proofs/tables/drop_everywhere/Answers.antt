@@ -26,9 +26,6 @@ returns-clause-ok g c =
 pub returns-in_err-drop_few-clause-still : goal.returns-in_err-drop_few-clause-still
 returns-in_err-drop_few-clause-still g c = c.in_err-drop_few.ensures.still
 
-pub returns-in_err-drop_few-clause-ok : goal.returns-in_err-drop_few-clause-ok
-returns-in_err-drop_few-clause-ok g c = let p = err_from_is_err_and c.from_residual.result c.from_residual.ensures.1 in rw p.1 tt
-
 pub returns-in_err-drop_few-clause-err : goal.returns-in_err-drop_few-clause-err
 returns-in_err-drop_few-clause-err g c =
     let p = err_from_is_err_and c.from_residual.result c.from_residual.ensures.1 in rw p.1 c.in_err-drop_few.ensures.err

@@ -4,7 +4,6 @@ use Rattle.regalloc2_checker_sets.specs.Held.{held}
 use Rattle.regalloc2_checker_sets.proofs.Walked.{walked-on, walked-all}
 use Rattle.regalloc2_checker.proofs.Holders.{still-same, still-then, dropped-none, dropped-more}
 use Rattle.std.specs.Prelude.{◌&&◌, if◌then◌else◌}
-use Rattle.std.proofs.lemmas.Result.{err_from_is_err_and}
 use Rattle.regalloc2_checker.proofs.tables.drop_members.Goals as goal
 
 pub loop-place-init : goal.loop-place-init
@@ -38,9 +37,6 @@ pub returns-in_err-drop_at-clause-still : goal.returns-in_err-drop_at-clause-sti
 returns-in_err-drop_at-clause-still g c =
     still-then c.args.sets.now c.loop-place.sets c.drop_at.new.sets c.args.entries.now c.loop-place.entries c.drop_at.new.entries
     c.loop-place.invariant.still c.in_err-drop_at.ensures.still
-
-pub returns-in_err-drop_at-clause-ok : goal.returns-in_err-drop_at-clause-ok
-returns-in_err-drop_at-clause-ok g c = let p = err_from_is_err_and c.from_residual.result c.from_residual.ensures.1 in rw p.1 tt
 
 -- one is above 0, and none is not
 counted : (b : Bool) → nat_lt 0 (if b then 1 else 0) ≡ b

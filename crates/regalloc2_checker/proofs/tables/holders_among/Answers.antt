@@ -1,4 +1,3 @@
-use Rattle.std.proofs.lemmas.Result.{IfOk-from_err}
 use Rattle.std.proofs.Common.{ℕ, List, nat_lt, ap, ◌∙◌}
 use Rattle.std.specs.Prelude.{◌&&◌, ◌||◌}
 use Rattle.regalloc2_function.specs.Numbers.{NumberSet, has_number}
@@ -20,9 +19,3 @@ returns g c =
     (λ i. c.in_ok-list_members.ensures i
     ∙ ap (λ (s : NumberSet). is_in c.list_few.new.holders.items i
     || (has_number s i && (nat_lt i c.args.bound && held c.args.sets.now c.args.entries.now i c.args.bits))) c.in-Some.ensures.some)
-
-pub returns-in_err-list_few : goal.returns-in_err-list_few
-returns-in_err-list_few g c = IfOk-from_err c.from_residual.result _ c.from_residual.ensures.0
-
-pub returns-in_err-list_members : goal.returns-in_err-list_members
-returns-in_err-list_members g c = IfOk-from_err c.from_residual-in_err-list_members.result _ c.from_residual-in_err-list_members.ensures.0

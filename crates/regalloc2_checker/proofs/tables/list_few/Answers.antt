@@ -1,4 +1,3 @@
-use Rattle.std.proofs.lemmas.Result.{IfOk-from_err}
 use Rattle.std.proofs.Common.{ℕ, List, nat_lt, ap, ◌∙◌}
 use Rattle.std.specs.Prelude.{◌&&◌, ◌||◌}
 use Rattle.regalloc2_function.specs.Numbers.{times_listed}
@@ -28,6 +27,3 @@ returns g c i =
     c.loop-place.invariant.holders i
     ∙ ap (λ b. is_in c.args.holders.now.items i || (b && (nat_lt i c.args.bound && held c.args.sets.now c.args.entries.now i c.args.bits)))
     (few-ended c.args.home.now c.loop-place.yielded c.loop-place.place-iterator c.loop-place.invariant.all c.in-None.ensures.steps.0 i)
-
-pub returns-in_err-list_holder : goal.returns-in_err-list_holder
-returns-in_err-list_holder g c = IfOk-from_err c.from_residual.result _ c.from_residual.ensures.0

@@ -1,4 +1,3 @@
-use Rattle.std.proofs.lemmas.Result.{IfOk-from_err}
 use Rattle.std.proofs.Common.{ℕ, List, nat_lt, ap, sym, ◌∙◌}
 use Rattle.std.specs.Prelude.{◌&&◌}
 use Rattle.std.proofs.Math.Bool.{and-false}
@@ -26,6 +25,3 @@ returns g c i =
     ∙ holder-is c.args.holders.now.items (λ i. nat_lt i c.args.bound && held c.args.sets.now c.args.entries.now i c.args.bits) c.args.place
     (ap (λ b. b && held c.args.sets.now c.args.entries.now c.args.place c.args.bits) (lt-ltb c.args.place c.args.bound c.if-place-bound.false)
     ∙ ap (λ n. is_member c.args.sets.now n c.args.bits) (sym c.get.ensures) ∙ sym c.if-not-has.ensures) i
-
-pub returns-in_err-push : goal.returns-in_err-push
-returns-in_err-push g c = IfOk-from_err c.from_residual.result _ c.from_residual.ensures.0

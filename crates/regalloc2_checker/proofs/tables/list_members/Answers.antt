@@ -1,4 +1,3 @@
-use Rattle.std.proofs.lemmas.Result.{IfOk-from_err}
 use Rattle.std.proofs.Common.{ℕ, List, nat_lt, ap, ◌∙◌}
 use Rattle.std.specs.Prelude.{◌&&◌}
 use Rattle.regalloc2_function.specs.Numbers.{times_listed}
@@ -22,6 +21,3 @@ loop-place-preserved g c = record {
       (λ i. nat_lt i c.args.bound && held c.args.sets.now c.args.entries.now i c.args.bits) c.loop-place.yielded c.in-Some.place
       c.loop-place.invariant.holders c.in_ok-list_holder.ensures;
 }
-
-pub returns-in_err-list_holder : goal.returns-in_err-list_holder
-returns-in_err-list_holder g c = IfOk-from_err c.from_residual.result _ c.from_residual.ensures.0

@@ -1,4 +1,3 @@
-use Rattle.std.proofs.lemmas.Result.{IfOk-from_err}
 use Rattle.std.proofs.Common.{arith, refl}
 use Rattle.regalloc2_checker_sets.proofs.Walked.{times-nil}
 use Rattle.regalloc2_checker.proofs.Holders.{homes-same, homes-then, noted-more}
@@ -13,6 +12,3 @@ loop-bits-preserved g c = let h = c.in_ok-note.ensures.noted in record {
   noted = noted-more c.args.vregs.now c.loop-bits.homes c.note.new.homes c.args.members.now c.loop-bits.bits-index c.args.place _
       c.loop-bits-test.true refl c.in_ok-note.ensures.more c.loop-bits.invariant.noted c.in_ok-note.ensures.noted;
 }
-
-pub returns-in_err-note-clause-noted : goal.returns-in_err-note-clause-noted
-returns-in_err-note-clause-noted g c = IfOk-from_err c.from_residual.result _ c.from_residual.ensures.0

@@ -1,4 +1,3 @@
-use Rattle.std.proofs.lemmas.Result.{IfOk-from_err}
 use Rattle.std.proofs.Common.{ℕ, ap, sym, ◌∙◌, refl, subst}
 use Rattle.std.proofs.lemmas.Bool.{eqb-true}
 use Rattle.regalloc2_index.proofs.Bools.{not_both}
@@ -19,10 +18,10 @@ returns-then-set-eq0-clause-noted g c y is =
 
 pub returns-in-Some-clause-noted : goal.returns-in-Some-clause-noted
 returns-in-Some-clause-noted g c =
-    let alone = c.in-Some.ensures c.in-Some.only refl in
+    let only = c.in-Some.ensures c.in-Some.only refl in
     on_ok_as _ _ c.note.result
     (λ ok y is. subst (λ (b : ℕ). IsHome c.args.vregs.now c.note.new.homes c.args.place b)
-    (sym (eqb-true y c.in-Some.only (sym (alone.members y) ∙ is))) ok) c.note.ensures.noted
+    (sym (eqb-true y c.in-Some.only (sym (only.members y) ∙ is))) ok) c.note.ensures.noted
 
 pub returns-in_err-members-clause-more : goal.returns-in_err-members-clause-more
 returns-in_err-members-clause-more g c = homes-same c.args.homes.now
@@ -39,6 +38,3 @@ returns-in-Some-two-clause-noted g c =
     on_ok_of_both _ _ _ c.note_two.result
     (λ first second y is. either_member (IsHome c.args.vregs.now c.note_two.new.homes c.args.place) c.in-Some-two.pair.0 c.in-Some-two.pair.1 y
     (sym (members y) ∙ is) first second) c.note_two.ensures.first c.note_two.ensures.second
-
-pub returns-in_err-members-clause-noted : goal.returns-in_err-members-clause-noted
-returns-in_err-members-clause-noted g c = IfOk-from_err c.from_residual.result _ c.from_residual.ensures.0

@@ -1,4 +1,3 @@
-use Rattle.std.proofs.lemmas.Result.{IfOk-from_err}
 use Rattle.regalloc2_checker.proofs.Holders.{homes-then, home-kept}
 use Rattle.regalloc2_checker_sets.proofs.Results.{on_ok_as}
 use Rattle.regalloc2_checker.proofs.tables.note_two.Goals as goal
@@ -13,9 +12,3 @@ returns-clause-first g c = on_ok_as _ _ c.note-2.result
 
 pub returns-clause-second : goal.returns-clause-second
 returns-clause-second g c = c.note-2.ensures.noted
-
-pub returns-in_err-note-clause-first : goal.returns-in_err-note-clause-first
-returns-in_err-note-clause-first g c = IfOk-from_err c.from_residual.result _ c.from_residual.ensures.0
-
-pub returns-in_err-note-clause-second : goal.returns-in_err-note-clause-second
-returns-in_err-note-clause-second g c = IfOk-from_err c.from_residual.result _ c.from_residual.ensures.0

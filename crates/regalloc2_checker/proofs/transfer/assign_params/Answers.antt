@@ -1,4 +1,3 @@
-use Rattle.std.proofs.lemmas.Result.{IfOk-from_err}
 use Rattle.std.proofs.Common.{◌≡◌, ◌<◌, ◌≤◌, ℕ, List, length, get_or, sym, ◌∙◌, ap, subst, arith}
 use Rattle.std.specs.Prelude.{min}
 use Rattle.std.specs.declared.vec.Vec.{Vec}
@@ -61,21 +60,3 @@ returns-clause-now g c =
     renamed_all c.args.params.now c.args.arguments.now c.loop-k.k (facts_now c.args.values.now) (facts_now c.loop-k.values)
     (subst (λ (n : ℕ). min (length c.args.params.now) n ≤ c.loop-k.k) c.in_ok-had.ensures.long (omega (arith, c.loop-k-test.false, c.min-k-end.ensures)))
     c.loop-k.invariant.renamed
-
-pub returns-in_err-had : goal.returns-in_err-had
-returns-in_err-had g c = record {
-  kept = IfOk-from_err c.from_residual.result _ c.from_residual.ensures.0;
-  now = IfOk-from_err c.from_residual.result _ c.from_residual.ensures.0;
-}
-
-pub returns-in_err-forget_params : goal.returns-in_err-forget_params
-returns-in_err-forget_params g c = record {
-  kept = IfOk-from_err c.from_residual-in_err-forget_params.result _ c.from_residual-in_err-forget_params.ensures.0;
-  now = IfOk-from_err c.from_residual-in_err-forget_params.result _ c.from_residual-in_err-forget_params.ensures.0;
-}
-
-pub returns-in_err-give : goal.returns-in_err-give
-returns-in_err-give g c = record {
-  kept = IfOk-from_err c.from_residual-in_err-give.result _ c.from_residual-in_err-give.ensures.0;
-  now = IfOk-from_err c.from_residual-in_err-give.result _ c.from_residual-in_err-give.ensures.0;
-}

@@ -1,4 +1,3 @@
-use Rattle.std.proofs.lemmas.Result.{IfOk-from_err}
 use Rattle.std.proofs.Common.{sym}
 use Rattle.regalloc2_names.specs.RegisterBits.{bits_of_vreg}
 use Rattle.regalloc2_checker.proofs.TableSteps.{forgotten-is, not-found}
@@ -12,9 +11,3 @@ pub returns-clause-now : goal.returns-clause-now
 returns-clause-now g c =
     forgotten-is c.args.values.now c.forget.new.self c.args.vreg c.in-Some.vreg (sym c.in-Some.ensures.position) c.forget.ensures.kept.places
     c.in_ok-forget.ensures.now
-
-pub returns-in_err-forget : goal.returns-in_err-forget
-returns-in_err-forget g c = record {
-  kept = IfOk-from_err c.from_residual.result _ c.from_residual.ensures.0;
-  now = IfOk-from_err c.from_residual.result _ c.from_residual.ensures.0;
-}

@@ -1,4 +1,3 @@
-use Rattle.std.proofs.lemmas.Result.{IfOk-from_err}
 use Rattle.std.proofs.Common.{ℕ, List, sym, subst, arith, ap, ◌∙◌, cond, false}
 use Rattle.regalloc2_checker.specs.Facts.{Facts}
 use Rattle.regalloc2_checker.specs.TableFacts.{facts_now, IsListedVReg}
@@ -29,12 +28,4 @@ loop-k-preserved g c = record {
   without = without-more c.args.params.now c.loop-k.k c.index-params-k.result (facts_now c.args.values.now) (facts_now c.loop-k.values)
       (facts_now c.forget.new.values) (omega (arith, c.loop-k-test.true, c.min-count.ensures)) c.index-params-k.is c.loop-k.invariant.without
       c.in_ok-forget.ensures.now;
-}
-
-pub returns-in_err-forget : goal.returns-in_err-forget
-returns-in_err-forget g c = record {
-  kept = IfOk-from_err c.from_residual.result _ c.from_residual.ensures.0;
-  others = IfOk-from_err c.from_residual.result _ c.from_residual.ensures.0;
-  few = IfOk-from_err c.from_residual.result _ c.from_residual.ensures.0;
-  many = IfOk-from_err c.from_residual.result _ c.from_residual.ensures.0;
 }

@@ -1,4 +1,3 @@
-use Rattle.std.proofs.lemmas.Result.{IfOk-from_err}
 use Rattle.std.proofs.Common.{sym}
 use Rattle.regalloc2_names.specs.RegisterBits.{bits_of_vreg}
 use Rattle.regalloc2_checker.proofs.TableSteps.{given-is, not-found}
@@ -12,9 +11,3 @@ pub returns-clause-now : goal.returns-clause-now
 returns-clause-now g c =
     given-is c.args.values.now c.give.new.self c.args.param c.in-Some.param c.args.places.now (sym c.in-Some.ensures.position) c.vreg_position.ensures.packed
     c.give.ensures.kept.places c.in_ok-give.ensures.now
-
-pub returns-in_err-give : goal.returns-in_err-give
-returns-in_err-give g c = record {
-  kept = IfOk-from_err c.from_residual.result _ c.from_residual.ensures.0;
-  now = IfOk-from_err c.from_residual.result _ c.from_residual.ensures.0;
-}

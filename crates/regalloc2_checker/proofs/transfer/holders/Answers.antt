@@ -1,4 +1,3 @@
-use Rattle.std.proofs.lemmas.Result.{IfOk-from_err}
 use Rattle.std.proofs.Common.{sym}
 use Rattle.regalloc2_names.specs.RegisterBits.{bits_of_vreg}
 use Rattle.regalloc2_checker.proofs.TableSteps.{holders-are, not-found}
@@ -11,6 +10,3 @@ pub returns : goal.returns
 returns g c =
     holders-are c.args.values.now c.args.vreg c.in-Some.vreg c.in_ok-found.found.items (sym c.in-Some.ensures.position) c.vreg_position.ensures.packed
     c.in_ok-found.ensures
-
-pub returns-in_err-found : goal.returns-in_err-found
-returns-in_err-found g c = IfOk-from_err c.from_residual.result _ c.from_residual.ensures.0

@@ -1,5 +1,5 @@
 use Rattle.std.proofs.Common.{◌∙◌, sym}
-use Rattle.regalloc2_checker.proofs.TableSteps.{placed-missing, moved-is, moved-nothing}
+use Rattle.regalloc2_checker.proofs.TableSteps.{placed-missing, moved-is, moved-unlisted}
 use Rattle.regalloc2_checker.proofs.transfer.make_move.Goals as goal
 
 pub returns-in_default-clause-now : goal.returns-in_default-clause-now
@@ -8,7 +8,7 @@ returns-in_default-clause-now g c =
 
 pub returns-in-None-clause-now : goal.returns-in-None-clause-now
 returns-in-None-clause-now g c =
-    moved-nothing c.args.values.now c.clear.new.self c.args.from c.args.to c.in-Some.target c.requires.missing
+    moved-unlisted c.args.values.now c.clear.new.self c.args.from c.args.to c.in-Some.target c.requires.missing
     (sym c.position-2.ensures.position ∙ c.in-None.is) (sym c.position.ensures.position ∙ c.in-Some.is) c.position.ensures.packed
     c.clear.ensures.kept.places c.clear.ensures.now
 

@@ -1,4 +1,3 @@
-use Rattle.std.proofs.lemmas.Result.{IfOk-from_err}
 use Rattle.std.proofs.Common.{ℕ, List, sym, ◌∙◌, refl, subst, arith}
 use Rattle.regalloc2_names.specs.Place.{Place}
 use Rattle.regalloc2_checker.specs.Listing.{listed_move}
@@ -33,10 +32,4 @@ pub returns : goal.returns
 returns g c = record {
   kept = c.loop-k.invariant.kept;
   now = sym (moves_done c.args.moves.now c.loop-k.k (facts_now c.loop-k.values) (omega (arith, c.loop-k-test.false))) ∙ c.loop-k.invariant.now;
-}
-
-pub returns-in_err-make_move : goal.returns-in_err-make_move
-returns-in_err-make_move g c = record {
-  kept = IfOk-from_err c.from_residual.result _ c.from_residual.ensures.0;
-  now = IfOk-from_err c.from_residual.result _ c.from_residual.ensures.0;
 }

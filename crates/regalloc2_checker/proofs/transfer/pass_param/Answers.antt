@@ -1,4 +1,3 @@
-use Rattle.std.proofs.lemmas.Result.{IfOk-from_err}
 use Rattle.std.proofs.Common.{sym}
 use Rattle.regalloc2_names.specs.RegisterBits.{bits_of_vreg}
 use Rattle.regalloc2_checker.proofs.TableSteps.{passed-is, not-found}
@@ -17,9 +16,3 @@ returns-clause-now g c =
     passed-is c.args.values.now c.pass.new.self c.args.param c.args.argument c.in-Some.param c.in-Some-vreg_position.argument (sym c.in-Some.ensures.position)
     (sym c.in-Some-vreg_position.ensures.position) c.vreg_position.ensures.packed c.vreg_position-2.ensures.packed c.pass.ensures.kept.places
     c.in_ok-pass.ensures.now
-
-pub returns-in_err-pass : goal.returns-in_err-pass
-returns-in_err-pass g c = record {
-  kept = IfOk-from_err c.from_residual.result _ c.from_residual.ensures.0;
-  now = IfOk-from_err c.from_residual.result _ c.from_residual.ensures.0;
-}

@@ -1,4 +1,3 @@
-use Rattle.std.proofs.lemmas.Result.{IfOk-from_err}
 use Rattle.std.proofs.Common.{ℕ, List, sym, ◌∙◌, refl, arith, subst}
 use Rattle.regalloc2_function.specs.OutputValue.{place_at}
 use Rattle.regalloc2_checker.specs.TableFacts.{facts_now, IsMissingUnlisted, IsListed, IsListedVReg}
@@ -37,10 +36,4 @@ returns g c = record {
   kept = c.loop-k.invariant.kept;
   now = sym (defs_done c.args.places.now c.args.operands.now c.loop-k.k (facts_now c.loop-k.values) (omega (arith, c.loop-k-test.false)))
       ∙ c.loop-k.invariant.now;
-}
-
-pub returns-in_err-write_def : goal.returns-in_err-write_def
-returns-in_err-write_def g c = record {
-  kept = IfOk-from_err c.from_residual.result _ c.from_residual.ensures.0;
-  now = IfOk-from_err c.from_residual.result _ c.from_residual.ensures.0;
 }

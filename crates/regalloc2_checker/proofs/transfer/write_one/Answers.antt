@@ -1,4 +1,3 @@
-use Rattle.std.proofs.lemmas.Result.{IfOk-from_err}
 use Rattle.std.proofs.Common.{sym}
 use Rattle.regalloc2_names.specs.RegisterBits.{bits_of_vreg}
 use Rattle.regalloc2_checker.proofs.TableSteps.{defined-is, defined-nowhere, not-found}
@@ -18,15 +17,3 @@ returns-clause-now g c =
     defined-is c.args.values.now c.define.new.self c.args.place c.args.vreg c.in-Some-position.place c.in-Some.vreg c.requires.missing
     (sym c.in-Some-position.ensures.position) c.position.ensures.packed (sym c.in-Some.ensures.position) c.vreg_position.ensures.packed
     c.define.ensures.kept.places c.in_ok-define.ensures.now
-
-pub returns-in_err-forget : goal.returns-in_err-forget
-returns-in_err-forget g c = record {
-  kept = IfOk-from_err c.from_residual.result _ c.from_residual.ensures.0;
-  now = IfOk-from_err c.from_residual.result _ c.from_residual.ensures.0;
-}
-
-pub returns-in_err-define : goal.returns-in_err-define
-returns-in_err-define g c = record {
-  kept = IfOk-from_err c.from_residual-in_err-define.result _ c.from_residual-in_err-define.ensures.0;
-  now = IfOk-from_err c.from_residual-in_err-define.result _ c.from_residual-in_err-define.ensures.0;
-}

@@ -9,7 +9,6 @@ use Rattle.regalloc2_checker.specs.Listing.{listed_move}
 use Rattle.regalloc2_checker.specs.TableFacts.{facts_now, IsListed, IsListedVReg, IsMissingUnlisted}
 use Rattle.regalloc2_checker.proofs.NamedPlaces.{no-missing, moves-listed, operands-listed}
 use Rattle.regalloc2_checker.proofs.TransferFollowsFacts.{IsReadAt, after_run, listed_moves, listed_places}
-use Rattle.std.proofs.lemmas.Result.{err_from_is_err_and}
 use Rattle.regalloc2_checker.proofs.transfer_block.transfer_inst.Goals as goal
 
 pub returns-clause-now : goal.returns-clause-now
@@ -69,19 +68,3 @@ moves-moves-requires-clause-inst g c = rw c.requires.1.1.0.moves.size c.requires
 
 pub places-places-requires-clause-inst : goal.places-places-requires-clause-inst
 places-places-requires-clause-inst g c = rw c.requires.1.1.0.one_offset_each c.requires.1.1.1.1.1.1.1
-
-pub returns-in_err-go_to_early-clause-kept : goal.returns-in_err-go_to_early-clause-kept
-returns-in_err-go_to_early-clause-kept g c =
-    let p = err_from_is_err_and c.from_residual.result c.from_residual.ensures.1 in rw p.1 tt
-
-pub returns-in_err-go_to_early-clause-now : goal.returns-in_err-go_to_early-clause-now
-returns-in_err-go_to_early-clause-now g c =
-    let p = err_from_is_err_and c.from_residual.result c.from_residual.ensures.1 in rw p.1 tt
-
-pub returns-in_err-go_to_late-clause-kept : goal.returns-in_err-go_to_late-clause-kept
-returns-in_err-go_to_late-clause-kept g c =
-    let p = err_from_is_err_and c.from_residual-in_err-go_to_late.result c.from_residual-in_err-go_to_late.ensures.1 in rw p.1 tt
-
-pub returns-in_err-go_to_late-clause-now : goal.returns-in_err-go_to_late-clause-now
-returns-in_err-go_to_late-clause-now g c =
-    let p = err_from_is_err_and c.from_residual-in_err-go_to_late.result c.from_residual-in_err-go_to_late.ensures.1 in rw p.1 tt

@@ -1,4 +1,3 @@
-use Rattle.std.proofs.lemmas.Result.{IfOk-from_err}
 use Rattle.std.proofs.Common.{sym, arith}
 use Rattle.regalloc2_checker.proofs.VRegsInPlace.{found_none, found_skip, found_more, found_all, found_nowhere}
 use Rattle.regalloc2_checker.proofs.vregs_in.vregs_in.Goals as goal
@@ -31,9 +30,3 @@ returns g c =
     found_all c.args.values.now c.args.place c.in-Some.position c.in_ok-members.members.items c.loop-k.k c.loop-k.found.items
     (sym c.in-Some.ensures.position) c.position.ensures.packed c.in_ok-members.ensures.members (omega (arith, c.loop-k-test.false)) c.loop-k.invariant.low
     c.loop-k.invariant.found
-
-pub returns-in_err-members : goal.returns-in_err-members
-returns-in_err-members g c = IfOk-from_err c.from_residual.result _ c.from_residual.ensures.0
-
-pub returns-in_err-push : goal.returns-in_err-push
-returns-in_err-push g c = IfOk-from_err c.from_residual-in_err-push.result _ c.from_residual-in_err-push.ensures.0

@@ -17,7 +17,7 @@ image h None x y e g = absurd cc
 image h (Some z) x y e g = cc
 
 pub returns-in_default-clause-unprepared : goal.returns-in_default-clause-unprepared
-returns-in_default-clause-unprepared g c = λ e. c.alone.ensures
+returns-in_default-clause-unprepared g c = λ e. c.single_error.ensures
 
 pub returns-in-Ok-clause-unprepared : goal.returns-in-Ok-clause-unprepared
 returns-in-Ok-clause-unprepared g c = λ none. absurd (prepared _ c.args.self.prepared c.in-Some.out c.in-Some.is none)
@@ -31,4 +31,4 @@ pub returns-in-Err-clause-unprepared : goal.returns-in-Err-clause-unprepared
 returns-in-Err-clause-unprepared g c = λ none. absurd (prepared _ c.args.self.prepared c.in-Some.out c.in-Some.is none)
 
 pub returns-in-Err-clause-prepared : goal.returns-in-Err-clause-prepared
-returns-in-Err-clause-prepared g c = λ o e. inl c.alone-in-Err.ensures
+returns-in-Err-clause-prepared g c = λ o e. inl c.single_error-in-Err.ensures

@@ -1,4 +1,3 @@
-use Rattle.std.proofs.lemmas.Result.{IfOk-from_err}
 use Rattle.std.proofs.Common.{ℕ, ◌∙◌, ◌++◌, ◌∷◌, [], List, inl, inr, sym, ap, subst}
 use Rattle.std.specs.Prelude.{Contains}
 use Rattle.regalloc2_checker.proofs.AddedSlots.{adds_one}
@@ -21,6 +20,3 @@ returns-then-slot-len g c = adds_one c.args.self.now c.push.new.self.items c.arg
 pub returns-else-slot-len : goal.returns-else-slot-len
 returns-else-slot-len g c = adds_one c.args.self.now c.push.new.self.items c.args.slot c.args.units
     (c.in_ok-push.ensures.items ∙ ap (λ (l : List (ℕ × ℕ)). l ++ (c.args.slot, c.args.units) ∷ []) c.self.view_is)
-
-pub returns-in_err-push : goal.returns-in_err-push
-returns-in_err-push g c = IfOk-from_err c.from_residual.result _ c.from_residual.ensures.0

@@ -1,4 +1,3 @@
-use Rattle.std.proofs.lemmas.Result.{IfOk-from_err}
 use Rattle.std.proofs.Common.{ℕ, ◌≡◌, ◌+◌, ◌<◌, [], ◌∷◌, ◌++◌, ◌∙◌, List, Option, None, Some, length, get_or, take, arith, ap, sym}
 use Rattle.std.proofs.lemmas.List.{append-nil, get_or_default, take_all}
 use Rattle.std.specs.List.{flat_map}
@@ -40,12 +39,3 @@ returns g c =
     c.in_ok-extend_from_slice.ensures.items
     ∙ ap (λ (l : List ℕ). l ++ c.deref.result.now) (c.loop-k.invariant ∙ ap (flat_map option_to_list) all)
     ∙ ap (λ (l : List ℕ). flat_map option_to_list cells ++ l) c.deref.ensures.value ∙ c.self.view_is
-
-pub returns-in_err-numbers : goal.returns-in_err-numbers
-returns-in_err-numbers g c = IfOk-from_err c.from_residual.result _ c.from_residual.ensures.0
-
-pub returns-in_err-push : goal.returns-in_err-push
-returns-in_err-push g c = IfOk-from_err c.from_residual-in_err-push.result _ c.from_residual-in_err-push.ensures.0
-
-pub returns-in_err-extend_from_slice : goal.returns-in_err-extend_from_slice
-returns-in_err-extend_from_slice g c = IfOk-from_err c.from_residual-in_err-extend_from_slice.result _ c.from_residual-in_err-extend_from_slice.ensures.0

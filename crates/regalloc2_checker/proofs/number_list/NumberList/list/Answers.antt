@@ -1,4 +1,3 @@
-use Rattle.std.proofs.lemmas.Result.{IfOk-from_err}
 use Rattle.std.proofs.Common.{arith, length, set, ◌≡◌, ◌∙◌, ◌<◌, ℕ, List, [], ◌∷◌, ◌++◌, None, Some, Option, sym, ap, subst}
 use Rattle.std.proofs.lemmas.List.{get_or_default, append_assoc}
 use Rattle.std.specs.Prelude.{◌↔◌, ◌⊎◌, Contains}
@@ -35,6 +34,3 @@ returns g c =
     let pushed = ap (λ (l : List ℕ). cells ++ l) c.in_ok-push.ensures.items ∙ sym (append_assoc cells others (c.args.number ∷ [])) in
     subst (λ (old : List ℕ). (n : ℕ) → Contains (cells ++ c.push.new.self.items) n ↔ (Contains old n ⊎ (n ≡ c.args.number))) c.self.view_is
     (members-pushed (cells ++ others) (cells ++ c.push.new.self.items) c.args.number pushed)
-
-pub returns-in_err-push : goal.returns-in_err-push
-returns-in_err-push g c = IfOk-from_err c.from_residual.result _ c.from_residual.ensures.0

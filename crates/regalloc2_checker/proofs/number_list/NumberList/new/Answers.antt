@@ -1,4 +1,3 @@
-use Rattle.std.proofs.lemmas.Result.{IfOk-from_err}
 use Rattle.std.proofs.Common.{◌≡◌, ◌+◌, ◌*◌, ◌/◌, ◌∙◌, List, Option, None, ◌++◌, ℕ, ap, arith, refl}
 use Rattle.std.specs.Prelude.{Some}
 use Rattle.std.specs.List.{flat_map}
@@ -17,6 +16,3 @@ invariant_of-result g c = omega (arith, c.in_ok-cells.ensures.len, c.in_ok-cells
 pub returns : goal.returns
 returns g c = ap (λ (l : List ℕ). l ++ c.new.result.items)
     (ap (flat_map option_to_list) (c.in_ok-cells.ensures.items_if_clones_equal (only_none _ (λ x no. no))) ∙ cells-made (c.args.keys / 2 * 2 + 1)) ∙ c.new.ensures.items
-
-pub returns-in_err-cells : goal.returns-in_err-cells
-returns-in_err-cells g c = IfOk-from_err c.from_residual.result _ c.from_residual.ensures.0

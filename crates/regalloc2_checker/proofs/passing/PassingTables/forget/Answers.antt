@@ -1,4 +1,3 @@
-use Rattle.std.proofs.lemmas.Result.{IfOk-from_err}
 use Rattle.std.proofs.Common.{ℕ, ◌<◌, List, length, get_or, ap, sym, subst}
 use Rattle.regalloc2_checker_sets.proofs.Results.{on_ok_as}
 use Rattle.regalloc2_checker.proofs.Shown.{shown-after, inside-kept, settled-seen, forgotten-shown}
@@ -30,6 +29,3 @@ returns-clause-now g c =
     (λ ok. forgotten-shown c.args.self.now c.self.inside.tables c.forget.new.self c.self.inside.passed c.self.inside.saved.items (get_or
     c.self.inside.tables.vregs c.args.vreg 0) (get_or c.args.self.now.vregs c.args.vreg 0) b
     c.forget.ensures.kept (ap (λ (vs : List ℕ). get_or vs c.args.vreg 0) b.vregs) ok) c.forget.ensures.now
-
-pub returns-in_err-settle_for-clause-now : goal.returns-in_err-settle_for-clause-now
-returns-in_err-settle_for-clause-now g c = IfOk-from_err c.from_residual.result _ c.from_residual.ensures.0

@@ -1,4 +1,3 @@
-use Rattle.std.proofs.lemmas.Result.{IfOk-from_err}
 use Rattle.std.proofs.Common.{◌<◌, arith, sym, ◌∙◌, subst}
 use Rattle.regalloc2_checker_sets.proofs.Bits.{ok-as}
 use Rattle.regalloc2_checker.proofs.Shown.{on_ok_with, shown-after, both-bare, met-bare, less-bare, same-bare}
@@ -78,21 +77,3 @@ returns-clause-same g c =
     c.in_ok-settle_saved.ensures.now c.in_ok-settle_saved.ensures.tables c.in_ok-settle_saved.ensures.none in
     ok-as _ _ c.meet.result (λ r h. same-bare c.args.self.now c.self.inside.tables c.self.inside.passed c.self.inside.saved.items c.args.table r b h)
     c.meet.ensures.same
-
-pub returns-in_err-settle-clause-met : goal.returns-in_err-settle-clause-met
-returns-in_err-settle-clause-met g c = IfOk-from_err c.from_residual.result _ c.from_residual.ensures.0
-
-pub returns-in_err-settle-clause-less : goal.returns-in_err-settle-clause-less
-returns-in_err-settle-clause-less g c = IfOk-from_err c.from_residual.result _ c.from_residual.ensures.0
-
-pub returns-in_err-settle-clause-same : goal.returns-in_err-settle-clause-same
-returns-in_err-settle-clause-same g c = IfOk-from_err c.from_residual.result _ c.from_residual.ensures.0
-
-pub returns-in_err-settle_saved-clause-met : goal.returns-in_err-settle_saved-clause-met
-returns-in_err-settle_saved-clause-met g c = IfOk-from_err c.from_residual-in_err-settle_saved.result _ c.from_residual-in_err-settle_saved.ensures.0
-
-pub returns-in_err-settle_saved-clause-less : goal.returns-in_err-settle_saved-clause-less
-returns-in_err-settle_saved-clause-less g c = IfOk-from_err c.from_residual-in_err-settle_saved.result _ c.from_residual-in_err-settle_saved.ensures.0
-
-pub returns-in_err-settle_saved-clause-same : goal.returns-in_err-settle_saved-clause-same
-returns-in_err-settle_saved-clause-same g c = IfOk-from_err c.from_residual-in_err-settle_saved.result _ c.from_residual-in_err-settle_saved.ensures.0

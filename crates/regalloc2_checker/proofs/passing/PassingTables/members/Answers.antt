@@ -5,7 +5,6 @@ use Rattle.regalloc2_checker.specs.Holding.{holds_now}
 use Rattle.regalloc2_checker.specs.Showing.{Showing, read_as, shows_now}
 use Rattle.regalloc2_checker.specs.declared.passing.Passed.{Passed}
 use Rattle.regalloc2_checker.proofs.Shown.{read-none, shown-members}
-use Rattle.std.proofs.lemmas.Result.{err_from_is_err_and}
 use Rattle.regalloc2_checker.proofs.passing.PassingTables.members.Goals as goal
 
 pub members-requires : goal.members-requires
@@ -47,19 +46,5 @@ returns-clause-members g c y =
     subst (λ (l : List ℕ). Contains l y ↔ (shows_now c.args.self.now c.args.place y ≡ true)) (sym c.into_numbers.ensures)
     (λ d. sym same ∙ shown.0 (all.0 d), λ d. all.1 (shown.1 (same ∙ d)))
 
-pub returns-in_err-held-clause-rising : goal.returns-in_err-held-clause-rising
-returns-in_err-held-clause-rising g c = let p = err_from_is_err_and c.from_residual.result c.from_residual.ensures.1 in rw p.1 tt
-
-pub returns-in_err-held-clause-members : goal.returns-in_err-held-clause-members
-returns-in_err-held-clause-members g c = let p = err_from_is_err_and c.from_residual.result c.from_residual.ensures.1 in rw p.1 tt
-
 pub returns-in_default-clause-rising : goal.returns-in_default-clause-rising
 returns-in_default-clause-rising g c = c.in_ok-held.ensures.rising
-
-pub returns-in_err-shown-clause-rising : goal.returns-in_err-shown-clause-rising
-returns-in_err-shown-clause-rising g c =
-    let p = err_from_is_err_and c.from_residual-in_err-shown.result c.from_residual-in_err-shown.ensures.1 in rw p.1 tt
-
-pub returns-in_err-shown-clause-members : goal.returns-in_err-shown-clause-members
-returns-in_err-shown-clause-members g c =
-    let p = err_from_is_err_and c.from_residual-in_err-shown.result c.from_residual-in_err-shown.ensures.1 in rw p.1 tt

@@ -2,8 +2,7 @@ use Rattle.std.proofs.Common.{◌≡◌, ◌∙◌, List, Option, length, get_or
 use Rattle.std.specs.Prelude.{None, Some}
 use Rattle.std.proofs.lemmas.List.{get_or-replicate}
 use Rattle.regalloc2_checker.specs.declared.passing.Passed.{Passed}
-use Rattle.regalloc2_checker.proofs.Shown.{nones, shown-new, shown-nothing}
-use Rattle.std.proofs.lemmas.Result.{err_from_is_err_and}
+use Rattle.regalloc2_checker.proofs.Shown.{nones, shown-new, shown-empty}
 use Rattle.regalloc2_checker.proofs.passing.PassingTables.new.Goals as goal
 
 -- a value that is no `Some` is `None`
@@ -26,47 +25,7 @@ pub returns-clause-now : goal.returns-clause-now
 returns-clause-now g c i y = c.in_ok-tables.ensures.now i _
 
 pub returns-clause-tables : goal.returns-clause-tables
-returns-clause-tables g c k i y = shown-nothing c.in_ok-tables.tables None c.in_ok-saved.saved.items c.in_ok-tables.ensures.tables k i y
-
-pub returns-in_err-saved-clause-places : goal.returns-in_err-saved-clause-places
-returns-in_err-saved-clause-places g c =
-    let p = err_from_is_err_and c.from_residual.result c.from_residual.ensures.1 in rw p.1 tt
-
-pub returns-in_err-saved-clause-vregs : goal.returns-in_err-saved-clause-vregs
-returns-in_err-saved-clause-vregs g c =
-    let p = err_from_is_err_and c.from_residual.result c.from_residual.ensures.1 in rw p.1 tt
-
-pub returns-in_err-saved-clause-count : goal.returns-in_err-saved-clause-count
-returns-in_err-saved-clause-count g c =
-    let p = err_from_is_err_and c.from_residual.result c.from_residual.ensures.1 in rw p.1 tt
-
-pub returns-in_err-saved-clause-now : goal.returns-in_err-saved-clause-now
-returns-in_err-saved-clause-now g c =
-    let p = err_from_is_err_and c.from_residual.result c.from_residual.ensures.1 in rw p.1 tt
-
-pub returns-in_err-saved-clause-tables : goal.returns-in_err-saved-clause-tables
-returns-in_err-saved-clause-tables g c =
-    let p = err_from_is_err_and c.from_residual.result c.from_residual.ensures.1 in rw p.1 tt
-
-pub returns-in_err-tables-clause-places : goal.returns-in_err-tables-clause-places
-returns-in_err-tables-clause-places g c =
-    let p = err_from_is_err_and c.from_residual-in_err-tables.result c.from_residual-in_err-tables.ensures.1 in rw p.1 tt
-
-pub returns-in_err-tables-clause-vregs : goal.returns-in_err-tables-clause-vregs
-returns-in_err-tables-clause-vregs g c =
-    let p = err_from_is_err_and c.from_residual-in_err-tables.result c.from_residual-in_err-tables.ensures.1 in rw p.1 tt
-
-pub returns-in_err-tables-clause-count : goal.returns-in_err-tables-clause-count
-returns-in_err-tables-clause-count g c =
-    let p = err_from_is_err_and c.from_residual-in_err-tables.result c.from_residual-in_err-tables.ensures.1 in rw p.1 tt
-
-pub returns-in_err-tables-clause-now : goal.returns-in_err-tables-clause-now
-returns-in_err-tables-clause-now g c =
-    let p = err_from_is_err_and c.from_residual-in_err-tables.result c.from_residual-in_err-tables.ensures.1 in rw p.1 tt
-
-pub returns-in_err-tables-clause-tables : goal.returns-in_err-tables-clause-tables
-returns-in_err-tables-clause-tables g c =
-    let p = err_from_is_err_and c.from_residual-in_err-tables.result c.from_residual-in_err-tables.ensures.1 in rw p.1 tt
+returns-clause-tables g c k i y = shown-empty c.in_ok-tables.tables None c.in_ok-saved.saved.items c.in_ok-tables.ensures.tables k i y
 
 pub new-requires-clause-places : goal.new-requires-clause-places
 new-requires-clause-places g c = c.requires.places

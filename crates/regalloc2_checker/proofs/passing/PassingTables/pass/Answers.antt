@@ -1,4 +1,3 @@
-use Rattle.std.proofs.lemmas.Result.{IfOk-from_err}
 use Rattle.std.proofs.Common.{ℕ, ◌<◌, List, length, sym, subst}
 use Rattle.std.specs.Prelude.{Some}
 use Rattle.regalloc2_checker.proofs.TableLaws.{kept_same}
@@ -27,6 +26,3 @@ returns-clause-now g c =
     let b = settled-bare c.args.self.now c.settle.new.self c.self.inside.tables c.self.inside.passed c.self.inside.saved.items c.self.view_is
     c.in_ok-settle.ensures.none c.in_ok-settle.ensures.kept c.in_ok-settle.ensures.now in
     passed-shown c.args.self.now c.self.inside.tables (record { parameter = c.args.parameter; argument = c.args.argument }) c.self.inside.saved.items b
-
-pub returns-in_err-settle-clause-now : goal.returns-in_err-settle-clause-now
-returns-in_err-settle-clause-now g c = IfOk-from_err c.from_residual.result _ c.from_residual.ensures.0

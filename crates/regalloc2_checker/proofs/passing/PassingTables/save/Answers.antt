@@ -1,4 +1,3 @@
-use Rattle.std.proofs.lemmas.Result.{IfOk-from_err}
 use Rattle.std.proofs.Common.{ℕ, ◌≡◌, ◌<◌, length, arith, ap, ◌∙◌, subst, nat_eq}
 use Rattle.std.specs.Prelude.{if◌then◌else◌, slice_set}
 use Rattle.std.proofs.lemmas.List.{length-set}
@@ -64,6 +63,3 @@ returns-clause-tables g c =
     ≡ (if nat_eq k c.args.table then shows_now o i y else shows_in o k i y)) c.self.view_is
     (saved-shown c.self.inside.tables c.save.new.self c.self.inside.passed c.self.inside.saved.items c.args.table l
     (record { places = c.in_ok-save.ensures.places; vregs = c.in_ok-save.ensures.vregs; tables = c.in_ok-save.ensures.tables }))
-
-pub returns-in_err-save-clause-tables : goal.returns-in_err-save-clause-tables
-returns-in_err-save-clause-tables g c = IfOk-from_err c.from_residual.result _ c.from_residual.ensures.0

@@ -1,4 +1,3 @@
-use Rattle.std.proofs.lemmas.Result.{IfOk-from_err}
 use Rattle.std.proofs.Common.{ap, ◌∙◌, subst}
 use Rattle.std.specs.Prelude.{None}
 use Rattle.regalloc2_checker.specs.Holding.{holds_now}
@@ -35,9 +34,3 @@ pub returns-clause-now : goal.returns-clause-now
 returns-clause-now g c =
     subst (λ (o : Showing). ShowsNow (showing c.settle.new.tables None c.self.inside.saved.items) (shows_now o)) c.self.view_is
     (λ i y l. ap (holds_now c.settle.new.tables i) (read-none c.settle.new.tables.vregs y) ∙ c.in_ok-settle.ensures.now i y l)
-
-pub returns-in_err-settle-clause-now : goal.returns-in_err-settle-clause-now
-returns-in_err-settle-clause-now g c = IfOk-from_err c.from_residual.result _ c.from_residual.ensures.0
-
-pub returns-in_err-settle-clause-none : goal.returns-in_err-settle-clause-none
-returns-in_err-settle-clause-none g c = IfOk-from_err c.from_residual.result _ c.from_residual.ensures.0

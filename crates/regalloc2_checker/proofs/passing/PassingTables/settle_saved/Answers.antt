@@ -1,4 +1,3 @@
-use Rattle.std.proofs.lemmas.Result.{IfOk-from_err}
 use Rattle.std.proofs.Common.{ℕ, ◌≡◌, ◌<◌, length, get_or, arith, ap, sym, ◌∙◌, refl, subst, nat_eq}
 use Rattle.std.specs.Prelude.{if◌then◌else◌, slice_set, Option, None, Some}
 use Rattle.std.proofs.lemmas.List.{get_or-set_same, length-set}
@@ -94,12 +93,3 @@ pub returns-clause-none : goal.returns-clause-none
 returns-clause-none g c =
     let l = inside-table c.args.self.now c.self.inside.tables c.self.inside.passed c.self.inside.saved.items c.args.table c.self.view_is c.requires in
     get_or-set_same c.self.inside.saved.items c.args.table None None l
-
-pub returns-in_err-settle_in-clause-now : goal.returns-in_err-settle_in-clause-now
-returns-in_err-settle_in-clause-now g c = IfOk-from_err c.from_residual.result _ c.from_residual.ensures.0
-
-pub returns-in_err-settle_in-clause-tables : goal.returns-in_err-settle_in-clause-tables
-returns-in_err-settle_in-clause-tables g c = IfOk-from_err c.from_residual.result _ c.from_residual.ensures.0
-
-pub returns-in_err-settle_in-clause-none : goal.returns-in_err-settle_in-clause-none
-returns-in_err-settle_in-clause-none g c = IfOk-from_err c.from_residual.result _ c.from_residual.ensures.0

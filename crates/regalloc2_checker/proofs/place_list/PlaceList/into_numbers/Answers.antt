@@ -1,4 +1,3 @@
-use Rattle.std.proofs.lemmas.Result.{IfOk-from_err}
 use Rattle.std.proofs.Common.{◌≡◌, ◌∙◌, ◌++◌, ℕ, List, ap, refl, map, append_assoc}
 use Rattle.std.specs.List.{flat_map}
 use Rattle.regalloc2_names.specs.Place.{InRegister}
@@ -26,15 +25,3 @@ returns g c =
     c.in_ok-extend_from_slice.ensures.items ∙ ap (λ (l : List ℕ). l ++ c.deref.result.now) (c.loop-reg.invariant.listed
     ∙ ap (λ (rs : List Register). flat_map bits_unless_missing (map InRegister rs)) all)
     ∙ ap (λ (l : List ℕ). bits_of_registers c.self.inside.registers ++ l) slots ∙ c.self.view_is
-
-pub returns-in_err-slots : goal.returns-in_err-slots
-returns-in_err-slots g c = IfOk-from_err c.from_residual.result _ c.from_residual.ensures.0
-
-pub returns-in_err-numbers : goal.returns-in_err-numbers
-returns-in_err-numbers g c = IfOk-from_err c.from_residual-in_err-numbers.result _ c.from_residual-in_err-numbers.ensures.0
-
-pub returns-in_err-push : goal.returns-in_err-push
-returns-in_err-push g c = IfOk-from_err c.from_residual-in_err-push.result _ c.from_residual-in_err-push.ensures.0
-
-pub returns-in_err-extend_from_slice : goal.returns-in_err-extend_from_slice
-returns-in_err-extend_from_slice g c = IfOk-from_err c.from_residual-in_err-extend_from_slice.result _ c.from_residual-in_err-extend_from_slice.ensures.0

@@ -1,4 +1,3 @@
-use Rattle.std.proofs.lemmas.Result.{IfOk-from_err}
 use Rattle.std.proofs.Common.{◌∙◌, ◌<◌, ℕ, List, [], ◌∷◌, ◌++◌, arith, sym, subst}
 use Rattle.regalloc2_names.specs.Place.{Place}
 use Rattle.regalloc2_checker.specs.NamedBits.{ArePlacesAdded}
@@ -26,6 +25,3 @@ returns-in_ok-list g c =
 pub returns-else-is_stack : goal.returns-else-is_stack
 returns-else-is_stack g c = added-missing c.args.self.now c.args.place
     (neither-is-missing c.args.place (sym c.as_reg.ensures ∙ c.in_default.is) (sym c.is_stack.ensures ∙ c.if-is_stack.false))
-
-pub returns-in_err-list : goal.returns-in_err-list
-returns-in_err-list g c = IfOk-from_err c.from_residual.result _ c.from_residual.ensures.0

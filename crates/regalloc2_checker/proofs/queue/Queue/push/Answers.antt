@@ -1,4 +1,3 @@
-use Rattle.std.proofs.lemmas.Result.{IfOk-from_err}
 use Rattle.std.proofs.Common.{◌≡◌, true, inl, inr, refl, arith}
 use Rattle.std.specs.BinaryHeap.{heap_items}
 use Rattle.regalloc2_checker.specs.Propagation.{mark_at}
@@ -21,12 +20,4 @@ returns g c = record {
   queue = queue-pushed c.args.self.now.is_queued.items (heap_items c.args.self.now.heap) _ _ c.args.block refl c.requires.block
       c.in_ok-push.ensures.permutation c.requires.queue;
   longer = omega (arith, c.in_ok-push.ensures.len);
-}
-
-pub returns-in_err-push : goal.returns-in_err-push
-returns-in_err-push g c = record {
-  marks = IfOk-from_err c.from_residual.result _ c.from_residual.ensures.0;
-  entries = IfOk-from_err c.from_residual.result _ c.from_residual.ensures.0;
-  queue = IfOk-from_err c.from_residual.result _ c.from_residual.ensures.0;
-  longer = IfOk-from_err c.from_residual.result _ c.from_residual.ensures.0;
 }

@@ -1,4 +1,3 @@
-use Rattle.std.proofs.lemmas.Result.{IfOk-from_err}
 use Rattle.std.proofs.Common.{ℕ, ◌<◌, List, length, sym, subst}
 use Rattle.regalloc2_checker.proofs.TableLaws.{kept_then}
 use Rattle.regalloc2_checker_sets.proofs.Results.{on_ok_as}
@@ -25,6 +24,3 @@ returns-clause-now g c =
     on_ok_as _ _ c.put.result
     (add-now c.args.self.now c.with.new.self c.put.new.self c.args.place c.args.vreg c.in_ok-set.set c.in_ok-set.ensures.kept c.put.ensures.kept
     c.in_ok-set.ensures.now c.in_ok-set.ensures.set) c.put.ensures.now
-
-pub returns-in_err-set-clause-now : goal.returns-in_err-set-clause-now
-returns-in_err-set-clause-now g c = IfOk-from_err c.from_residual.result _ c.from_residual.ensures.0

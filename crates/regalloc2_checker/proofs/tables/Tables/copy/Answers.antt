@@ -1,4 +1,3 @@
-use Rattle.std.proofs.lemmas.Result.{IfOk-from_err}
 use Rattle.std.proofs.Common.{◌<◌, length, arith, ap, sym, ◌∙◌, refl, subst, nat_eq}
 use Rattle.std.specs.Prelude.{if◌then◌else◌}
 use Rattle.regalloc2_checker_sets.specs.EntrySets.{is_member}
@@ -107,6 +106,3 @@ returns-clause-now g c =
     subst (λ (o : Holding). HoldsNow (record old { entries = c.set.new.self; homes = c.note_set.new.homes })
     (λ i y. if nat_eq i c.args.to then holds_now o c.args.from y else holds_now o i y)) c.self.view_is
     (λ i y l. p.now i y l ∙ ap (λ n. if nat_eq i c.args.to then is_member c.self.inside.sets n y else holds_now old i y) c.get-set.ensures)
-
-pub returns-in_err-note_set-clause-now : goal.returns-in_err-note_set-clause-now
-returns-in_err-note_set-clause-now g c = IfOk-from_err c.from_residual.result _ c.from_residual.ensures.0

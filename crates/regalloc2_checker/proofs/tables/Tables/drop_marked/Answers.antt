@@ -5,7 +5,6 @@ use Rattle.regalloc2_checker.specs.Holding.{Holding, count_of, holds_in}
 use Rattle.regalloc2_checker.proofs.Dropped.{sound-kept, sound-without, held-without}
 use Rattle.regalloc2_checker_sets.proofs.Results.{on_ok_as}
 use Rattle.regalloc2_checker.proofs.UnusedSets.{sets-sound, members-sound, members-kept}
-use Rattle.std.proofs.lemmas.Result.{err_from_is_err_and}
 use Rattle.regalloc2_checker.proofs.tables.Tables.drop_marked.Goals as goal
 
 pub without-requires : goal.without-requires
@@ -110,6 +109,3 @@ returns-clause-tables g c =
     holds_in (record old { entries = c.drop_unused_sets-2.new.entries; sets = c.drop_unused_sets-2.new.sets }) k i y ≡ holds_in o k i y) c.self.view_is
     (λ k i y l unset less. kept.tables k i y less ∙ held-without old c.in-Some.entries c.args.marks.now c.self.invariant w k i y l unset less))
     c.drop_unused_sets-2.ensures.used
-
-pub returns-in_err-entries-clause-tables : goal.returns-in_err-entries-clause-tables
-returns-in_err-entries-clause-tables g c = let p = err_from_is_err_and c.from_residual.result c.from_residual.ensures.1 in rw p.1 tt

@@ -3,7 +3,6 @@ use Rattle.std.proofs.lemmas.List.{take_all}
 use Rattle.std.proofs.Common.{◌∙◌, nat_eq, arith, ℕ, ◌<◌, List, length, get_or, ap, sym, refl, subst}
 use Rattle.regalloc2_checker.specs.Holding.{holds_now, is_in}
 use Rattle.regalloc2_checker.proofs.TableLaws.{kept_then, give-none, give-more, is_in-at}
-use Rattle.std.proofs.lemmas.Result.{err_from_is_err_and}
 use Rattle.regalloc2_checker.proofs.tables.Tables.give.Goals as goal
 
 pub loop-place-init : goal.loop-place-init
@@ -36,15 +35,8 @@ returns-in_err-add_at-clause-kept g c =
 pub returns-in_err-forget-clause-kept : goal.returns-in_err-forget-clause-kept
 returns-in_err-forget-clause-kept g c = c.in_err-forget.ensures.kept
 
-pub returns-in_err-forget-clause-now : goal.returns-in_err-forget-clause-now
-returns-in_err-forget-clause-now g c = let p = err_from_is_err_and c.from_residual.result c.from_residual.ensures.1 in rw p.1 tt
-
 pub forget-requires : goal.forget-requires
 forget-requires g c = c.requires.vreg
-
-pub returns-in_err-add_at-clause-now : goal.returns-in_err-add_at-clause-now
-returns-in_err-add_at-clause-now g c =
-    let p = err_from_is_err_and c.from_residual-in_err-add_at.result c.from_residual-in_err-add_at.ensures.1 in rw p.1 tt
 
 pub returns-clause-kept : goal.returns-clause-kept
 returns-clause-kept g c = c.loop-place.invariant.kept

@@ -1,4 +1,3 @@
-use Rattle.std.proofs.lemmas.Result.{IfOk-from_err}
 use Rattle.std.proofs.Common.{ℕ, ◌≡◌, ◌<◌, length, arith, true, ap, sym, ◌∙◌, subst, nat_eq}
 use Rattle.std.specs.Prelude.{◌&&◌, if◌then◌else◌}
 use Rattle.regalloc2_checker_sets.specs.SavedNumbers.{copy_count}
@@ -161,21 +160,3 @@ returns-clause-less g c =
     } in
     subst (λ (o : Holding). LosesSome (length o.places) (holds_in o c.args.table) (holds_now o)) c.self.view_is
     (subst (λ n. LosesSome n (holds_in old c.args.table) (holds_now old)) c.len.ensures (c.in_ok-is_less.ensures.less c.if-not-is_less.false))
-
-pub returns-in_err-is_less-clause-met : goal.returns-in_err-is_less-clause-met
-returns-in_err-is_less-clause-met g c = IfOk-from_err c.from_residual.result _ c.from_residual.ensures.0
-
-pub returns-in_err-is_less-clause-less : goal.returns-in_err-is_less-clause-less
-returns-in_err-is_less-clause-less g c = IfOk-from_err c.from_residual.result _ c.from_residual.ensures.0
-
-pub returns-in_err-is_less-clause-same : goal.returns-in_err-is_less-clause-same
-returns-in_err-is_less-clause-same g c = IfOk-from_err c.from_residual.result _ c.from_residual.ensures.0
-
-pub returns-in_err-save-clause-met : goal.returns-in_err-save-clause-met
-returns-in_err-save-clause-met g c = IfOk-from_err c.from_residual-in_err-save.result _ c.from_residual-in_err-save.ensures.0
-
-pub returns-in_err-save-clause-less : goal.returns-in_err-save-clause-less
-returns-in_err-save-clause-less g c = IfOk-from_err c.from_residual-in_err-save.result _ c.from_residual-in_err-save.ensures.0
-
-pub returns-in_err-save-clause-same : goal.returns-in_err-save-clause-same
-returns-in_err-save-clause-same g c = IfOk-from_err c.from_residual-in_err-save.result _ c.from_residual-in_err-save.ensures.0

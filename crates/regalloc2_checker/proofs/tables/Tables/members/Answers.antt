@@ -1,4 +1,3 @@
-use Rattle.std.proofs.lemmas.Result.{IfOk-from_err}
 use Rattle.std.proofs.Common.{ℕ, ◌≡◌, ◌<◌, List, length, true, ap, sym, ◌∙◌, subst}
 use Rattle.regalloc2_checker_sets.specs.EntrySets.{is_member}
 use Rattle.regalloc2_checker.specs.Holding.{Holding, holds_now}
@@ -30,9 +29,3 @@ returns-clause-members g c y =
 
 pub returns-clause-rising : goal.returns-clause-rising
 returns-clause-rising g c = subst IsStrictlyIncreasing (sym c.into_numbers.ensures) c.of.ensures.rising
-
-pub returns-in_err-listed : goal.returns-in_err-listed
-returns-in_err-listed g c = record {
-  rising = IfOk-from_err c.from_residual.result _ c.from_residual.ensures.0;
-  members = IfOk-from_err c.from_residual.result _ c.from_residual.ensures.0;
-}

@@ -3,7 +3,6 @@ use Rattle.std.specs.Prelude.{◌/◌}
 use Rattle.std.specs.List.Sorted.{IsStrictlyIncreasing}
 use Rattle.regalloc2_checker_sets.specs.EntrySets.{is_member}
 use Rattle.regalloc2_checker.proofs.TableLaws.{new-all}
-use Rattle.std.proofs.lemmas.Result.{err_from_is_err_and}
 use Rattle.regalloc2_checker.proofs.tables.Tables.new.Goals as goal
 
 pub invariant_of-result : goal.invariant_of-result
@@ -20,66 +19,6 @@ returns-clause-now g c i y = ap (λ n. is_member c.new-3.result n y) (c.in_ok-en
 
 pub returns-clause-tables : goal.returns-clause-tables
 returns-clause-tables g c k i y = ap (λ n. is_member c.new-3.result n y) (c.in_ok-entries.ensures.saved k i) ∙ c.new-3.ensures.members y
-
-pub returns-in_err-places-clause-places : goal.returns-in_err-places-clause-places
-returns-in_err-places-clause-places g c =
-    let p = err_from_is_err_and c.from_residual.result c.from_residual.ensures.1 in rw p.1 tt
-
-pub returns-in_err-places-clause-vregs : goal.returns-in_err-places-clause-vregs
-returns-in_err-places-clause-vregs g c =
-    let p = err_from_is_err_and c.from_residual.result c.from_residual.ensures.1 in rw p.1 tt
-
-pub returns-in_err-places-clause-count : goal.returns-in_err-places-clause-count
-returns-in_err-places-clause-count g c =
-    let p = err_from_is_err_and c.from_residual.result c.from_residual.ensures.1 in rw p.1 tt
-
-pub returns-in_err-places-clause-now : goal.returns-in_err-places-clause-now
-returns-in_err-places-clause-now g c =
-    let p = err_from_is_err_and c.from_residual.result c.from_residual.ensures.1 in rw p.1 tt
-
-pub returns-in_err-places-clause-tables : goal.returns-in_err-places-clause-tables
-returns-in_err-places-clause-tables g c =
-    let p = err_from_is_err_and c.from_residual.result c.from_residual.ensures.1 in rw p.1 tt
-
-pub returns-in_err-homes-clause-places : goal.returns-in_err-homes-clause-places
-returns-in_err-homes-clause-places g c =
-    let p = err_from_is_err_and c.from_residual-in_err-homes.result c.from_residual-in_err-homes.ensures.1 in rw p.1 tt
-
-pub returns-in_err-homes-clause-vregs : goal.returns-in_err-homes-clause-vregs
-returns-in_err-homes-clause-vregs g c =
-    let p = err_from_is_err_and c.from_residual-in_err-homes.result c.from_residual-in_err-homes.ensures.1 in rw p.1 tt
-
-pub returns-in_err-homes-clause-count : goal.returns-in_err-homes-clause-count
-returns-in_err-homes-clause-count g c =
-    let p = err_from_is_err_and c.from_residual-in_err-homes.result c.from_residual-in_err-homes.ensures.1 in rw p.1 tt
-
-pub returns-in_err-homes-clause-now : goal.returns-in_err-homes-clause-now
-returns-in_err-homes-clause-now g c =
-    let p = err_from_is_err_and c.from_residual-in_err-homes.result c.from_residual-in_err-homes.ensures.1 in rw p.1 tt
-
-pub returns-in_err-homes-clause-tables : goal.returns-in_err-homes-clause-tables
-returns-in_err-homes-clause-tables g c =
-    let p = err_from_is_err_and c.from_residual-in_err-homes.result c.from_residual-in_err-homes.ensures.1 in rw p.1 tt
-
-pub returns-in_err-entries-clause-places : goal.returns-in_err-entries-clause-places
-returns-in_err-entries-clause-places g c =
-    let p = err_from_is_err_and c.from_residual-in_err-entries.result c.from_residual-in_err-entries.ensures.1 in rw p.1 tt
-
-pub returns-in_err-entries-clause-vregs : goal.returns-in_err-entries-clause-vregs
-returns-in_err-entries-clause-vregs g c =
-    let p = err_from_is_err_and c.from_residual-in_err-entries.result c.from_residual-in_err-entries.ensures.1 in rw p.1 tt
-
-pub returns-in_err-entries-clause-count : goal.returns-in_err-entries-clause-count
-returns-in_err-entries-clause-count g c =
-    let p = err_from_is_err_and c.from_residual-in_err-entries.result c.from_residual-in_err-entries.ensures.1 in rw p.1 tt
-
-pub returns-in_err-entries-clause-now : goal.returns-in_err-entries-clause-now
-returns-in_err-entries-clause-now g c =
-    let p = err_from_is_err_and c.from_residual-in_err-entries.result c.from_residual-in_err-entries.ensures.1 in rw p.1 tt
-
-pub returns-in_err-entries-clause-tables : goal.returns-in_err-entries-clause-tables
-returns-in_err-entries-clause-tables g c =
-    let p = err_from_is_err_and c.from_residual-in_err-entries.result c.from_residual-in_err-entries.ensures.1 in rw p.1 tt
 
 pub of-requires : goal.of-requires
 of-requires g c = c.requires.places

@@ -1,4 +1,3 @@
-use Rattle.std.proofs.lemmas.Result.{IfOk-from_err}
 use Rattle.std.proofs.Common.{ℕ, ◌≡◌, ◌<◌, length, get_or, arith, true, sym, refl, subst, nat_eq}
 use Rattle.std.specs.Prelude.{◌||◌, if◌then◌else◌}
 use Rattle.regalloc2_checker_sets.specs.EntrySets.{is_member}
@@ -107,6 +106,3 @@ returns-clause-now g c =
     (put-all old c.add.new.self c.args.place c.args.set c.set.new.self c.self.invariant lp small c.in_ok-add.ensures.more
     (put-home old c.add.new.self c.args.place c.args.vreg c.args.set c.self.invariant lp c.in_ok-add.ensures.more here members)
     c.set.ensures).now
-
-pub returns-in_err-add-clause-now : goal.returns-in_err-add-clause-now
-returns-in_err-add-clause-now g c = IfOk-from_err c.from_residual.result _ c.from_residual.ensures.0

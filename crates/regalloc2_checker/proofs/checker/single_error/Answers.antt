@@ -1,6 +1,6 @@
 use Rattle.std.proofs.Common.{◌∙◌, ◌++◌, ◌∷◌, [], ap, arith, List}
 use Rattle.std.proofs.lemmas.List.{nil_from_length}
-use Rattle.regalloc2_checker.proofs.checker.alone.Goals as goal
+use Rattle.regalloc2_checker.proofs.checker.single_error.Goals as goal
 
 pub returns : goal.returns
 returns g c =
