@@ -737,8 +737,8 @@ def loops(f, rng, vs, depth):
 
 
 def nest(n, w=20, depth=8, begins_as_one=False):
-    """Loops nested eight deep, one nest after another, each with 20 parameters. Each turn of a loop changes two.
-    For `zero-locals` three deep, with 50 parameters, which all begin as one value in each nest.
+    """Loops nested eight deep, one nest after another, each with `w` parameters. Each turn of a loop changes two.
+    For `zero-locals` three deep, with 50 or 20 parameters, which all begin as one value in each nest.
     """
     f, rng = F(), random.Random(3)
     f.begin()
@@ -754,7 +754,7 @@ def nest(n, w=20, depth=8, begins_as_one=False):
 
 
 def max_ssa(n, w=20):
-    """Forks whose blocks all have 20 parameters, one for each variable, in a chain."""
+    """Forks whose blocks all have `w` parameters, one for each variable, in a chain."""
     f, rng = F(), random.Random(4)
     f.begin()
     vs = [f.new() for _ in range(w)]
@@ -777,8 +777,8 @@ def max_ssa(n, w=20):
     return f
 
 
-def switch_value(n):
-    """A switch of n/2 cases, each of which defines a value and passes it to one block."""
+def match_value(n):
+    """A `match` of n/2 cases, each of which defines a value and passes it to one block."""
     f = F()
     f.begin()
     x = f.new()
@@ -794,6 +794,37 @@ def switch_value(n):
     for edge in joins:
         edge[0][0] = b
     f.emit([use(p)])
+    f.end([], ret=True)
+    return f
+
+
+def interpreter(n, w=10):
+    """A loop with `w` parameters, the interpreter's state, around a switch of n/5 cases. Each case gives three of them a
+    new value, and passes all to one block, which goes back to the loop's head.
+    """
+    f, rng = F(), random.Random(2)
+    f.begin()
+    state = [f.new() for _ in range(w)]
+    for v in state:
+        f.emit([define(v)])
+    enter = f.end([[0, list(state)]])
+    state = [f.new() for _ in range(w)]
+    head = enter[0][0] = f.begin(state)
+    op = f.new()
+    f.emit([define(op), use(state[0], ANY)])
+    cases = f.end([[0, []] for _ in range(max(2, (n - 2 * w) // 5) + 1)], [use(op)])
+    joins = []
+    for case in cases[:-1]:
+        case[0] = f.begin()
+        joins.append(f.end([[0, changed(f, rng, state, 3)]]))
+    passed = [f.new() for _ in range(w)]
+    back = f.begin(passed)
+    for edge in joins:
+        edge[0][0] = back
+    f.end([[head, passed]])
+    cases[-1][0] = f.begin()
+    for v in state:
+        f.emit([use(v)])
     f.end([], ret=True)
     return f
 
@@ -823,11 +854,16 @@ SHAPES = {
     "traps": lambda n, _: traps(n),
     "rungs": lambda n, _: rungs(n),
     "two-ends": lambda n, _: two_ends(n),
-    "two-switches": lambda n, _: two_switches(n),
+    "snca": lambda n, _: two_switches(n),
     "nest": lambda n, _: nest(n),
+    "nest-10": lambda n, _: nest(n, w=10),
     "zero-locals": lambda n, _: nest(n, w=50, depth=3, begins_as_one=True),
+    "zero-locals-20": lambda n, _: nest(n, w=20, depth=3, begins_as_one=True),
     "max-ssa": lambda n, _: max_ssa(n),
-    "switch-value": lambda n, _: switch_value(n),
+    "max-ssa-10": lambda n, _: max_ssa(n, w=10),
+    "match-value": lambda n, _: match_value(n),
+    "interpreter": lambda n, _: interpreter(n),
+    "interpreter-4": lambda n, _: interpreter(n, w=4),
 }
 
 if __name__ == "__main__":
