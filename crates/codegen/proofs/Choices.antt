@@ -1,4 +1,4 @@
--- Both interpreters, where each step's numbers and successor are chosen when it is made.
+-- The interpreters of vregs and of places, where each step's numbers and successor are chosen when it is made.
 use Rattle.std.specs.Prelude.{ℕ, ◌≡◌, nat_eq, if◌then◌else◌, List, [], ◌∷◌, length, Option, None, Some, option_map}
 use Rattle.regalloc2_names.specs.Register.{VirtualRegister}
 use Rattle.regalloc2_names.specs.Operand.{is_reading}
@@ -72,7 +72,7 @@ module _ (f : FunctionValue) (out : OutputValue) where
     numbers = place_after stir x d;
   }) (way_on f d.at x.takes)
 
-  -- Both read the same; and whatever the step writes and leaves, the place of a late use still has the number of its vreg.
+  -- An instruction reads the same in both interpreters; whatever the step writes and leaves, the place of a late use still has the number of its vreg.
   pub record ReadAlike (stir : Place → ℕ) (c : State VirtualRegister) (d : State Place) : Type 0 where
     pub at : d.at ≡ c.at
     pub reads : found_reads stir d ≡ source_reads c
@@ -92,7 +92,7 @@ module _ (f : FunctionValue) (out : OutputValue) where
     StepsOn xs (Some c) None = ⊥
     StepsOn xs (Some c) (Some d) = Together xs c d
 
-    -- they begin together, are alike in each pair of states that they reach together, and continue together for every choice
+    -- both begin together, are alike in each pair of states that they reach together, and continue together for every choice
     pub record AlikeByChoices : Type 0 where
       pub begin : Together [] (record { at = first_of f f.entry; history = []; numbers = virtual })
           (record { at = first_of f f.entry; history = []; numbers = places })

@@ -49,7 +49,7 @@ module _ (code : CodeValue) (args : ℕ → ℕ) where
   unfolding machine_run
   runs_then n s t c = let p : (j : ℕ) × (0 + n ≤ j) × (machine_run code args j s ≡ machine_run code args 0 t) = c.by 0 in (p.0, omega (arith, p.1), p.2)
 
-  -- and it ends as the run from that state does
+  -- a run that gets to a state ends as the run from there does
   pub ends_then : (n m : ℕ) (s t : MachineState) (o : RunOutcome MachineState) → Comes n s t → machine_run code args m t ≡ o →
       (j : ℕ) × (machine_run code args j s ≡ o)
   ends_then n m s t o c e = let p : (j : ℕ) × (m + n ≤ j) × (machine_run code args j s ≡ machine_run code args m t) = c.by m in (p.0, p.2 ∙ e)

@@ -90,7 +90,7 @@
 //! leaves in caller-saved registers what the callee left there (`proofs/Calling.antt`). A callee that
 //! never returns therefore adds no choice to its caller's. A run within a function is a run of its
 //! activation (`proofs/Activations.antt`), so the proofs of the other operations know nothing of the
-//! stack. The stack overflows only where the activations, which are those of the module's frames,
+//! stack. The stack overflows only where the activations, one for each of the module's frames,
 //! exceed its room; neither side depends on the other beyond that point. With an unlimited room
 //! nothing overflows, so the module is never stuck (`proofs/Behaving.antt`).
 //!

@@ -1,6 +1,6 @@
 //! Modules of functions over 64-bit integers from texts, and their code as assembly for x86-64.
 //!
-//! A line of a text has an operation. Letters, words, numbers, signs, comments and errors are those of `docs/TEXT.md`.
+//! A line of a text has an operation. Letters, words, numbers, signs, comments and errors are as in `docs/TEXT.md`.
 //! For example:
 //!
 //! ```text

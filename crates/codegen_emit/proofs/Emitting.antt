@@ -109,7 +109,7 @@ module _ (operations : Operations) (out : OutputValue) where
   pub no_start : (f : FunctionValue) → AreStarts f [] 0
   no_start f = record { long = refl; starts_at = λ k less. absurd (omega arith) }
 
-  -- and one more block
+  -- the position of one more block's first instruction
   pub one_start : (f : FunctionValue) (b : ℕ) (starts more : List ℕ) (code : List Instruction) (start : ℕ) → AreStarts f starts b →
       code ≡ blocks_code operations out f b → start ≡ length code → more ≡ starts ++ start ∷ [] → AreStarts f more (b + 1)
   one_start f b starts more code start s is at grown = record {

@@ -218,7 +218,7 @@ unfoldable pub outgoing_words : List Operation → ℕ
 outgoing_words [] = 0
 outgoing_words (o ∷ os) = max (stack_arguments o) (outgoing_words os)
 
--- The code of an allocated function: its blocks, with jumps resolved, and a frame of those of its slots that aren't registers and of the words for the arguments
+-- The code of an allocated function: its blocks, with jumps resolved, and a frame of the slots that aren't registers and of the words for the arguments
 -- of its calls.
 abbrev pub emitted : Operations → FunctionValue → OutputValue → CodeValue
 emitted operations f out = record {

@@ -57,7 +57,7 @@ abbrev pub words_of : Option FunctionCode → ℕ
 words_of None = 0
 words_of (Some f) = let n = min f.arity 6 + f.code.slots + f.code.outgoing in 6 + (n + n % 2)
 
--- those of all activations, given their functions' numbers; and whether they exceed the room
+-- the words of all activations, given their functions' numbers; and whether a number of words exceeds the room
 unfoldable pub words_taken : List FunctionCode → List ℕ → ℕ
 words_taken functions [] = 0
 words_taken functions (g ∷ gs) = words_of (slice_get functions g) + words_taken functions gs

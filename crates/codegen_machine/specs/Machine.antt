@@ -59,7 +59,7 @@ frame_stored slots s k n =
 abbrev pub compared_to : MachineState → ℕ → ℕ → RunOutcome MachineState
 compared_to s a b = Running (record { pc = s.pc + 1; registers = s.registers; frame = s.frame; compared = Some (a, b); memory = s.memory })
 
--- Both results of a division of the number in register 0, which register 2 extends. It traps as the processor does.
+-- The state after a division of the number in register 0, which register 2 extends, with both results. A division traps as the processor does.
 abbrev pub parted : MachineState → Width → Bool → ℕ → MachineState
 parted s w signed b = record {
   pc = s.pc + 1;

@@ -26,7 +26,7 @@ pub record ProcedureState : Type 0 where
 abbrev pub onward : ProcedureState → VirtualRegister → ℕ → RunOutcome ProcedureState
 onward s v n = Running (record { at = record { block = s.at.block; inst = s.at.inst + 1 }; numbers = number_set s.numbers v n; memory = s.memory })
 
--- the same, with memory written
+-- continues at the block's next line, with memory written
 abbrev pub stored : ProcedureState → List ℕ → RunOutcome ProcedureState
 stored s memory = Running (record { at = record { block = s.at.block; inst = s.at.inst + 1 }; numbers = s.numbers; memory = memory })
 

@@ -8,7 +8,7 @@
 //! its output needs no checker. [`allocate_without_checker`] tests the machine and the function,
 //! and skips the checker. [`run`] and [`run_checked`] don't test the machine, which their caller
 //! proves to fit; a [`checker::Checker`] checks any output. Each item's guarantees are in its own
-//! documentation, in terms of this crate's `specs`, which passes on those of the crates below.
+//! documentation, in terms of this crate's `specs`, which passes on the `specs` of the crates below.
 #![tactic(auto)]
 
 mod checked;

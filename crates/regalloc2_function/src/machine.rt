@@ -22,7 +22,7 @@ use std::alloc::{Allocator, Global};
 
 /// The registers of a machine, by class: integer, float and vector registers in this order.
 ///
-/// Fields and names are those of upstream's `MachineEnv`.
+/// Fields and names are as in upstream's `MachineEnv`.
 #[derive(Debug, Drop)]
 pub struct MachineEnv<A: Allocator = Global> {
     /// The registers of each class that are allocated first.

@@ -28,7 +28,7 @@ pass_ended [] qs before after h = refl
 pass_ended (p ∷ ps) [] before after h = refl
 pass_ended (p ∷ ps) (a ∷ qs) before after h = absurd (h (omega arith) (omega arith))
 
--- so nothing more is passed at the end of either list
+-- at the end of either list, nothing more is passed
 pub pass_end : (ps qs : List VirtualRegister) (k : ℕ) (before after : VirtualRegister → ℕ) → (k < length ps → k < length qs → ⊥) →
     passed_on (drop k ps) (drop k qs) before after ≡ after
 pass_end ps qs k before after h =

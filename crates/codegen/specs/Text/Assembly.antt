@@ -25,7 +25,7 @@ abbrev pub register_names : List (List ℕ)
 register_names = codes "%rax" ∷ codes "%rcx" ∷ codes "%rdx" ∷ codes "%rbx" ∷ codes "%rsp" ∷ codes "%rbp" ∷ codes "%rsi" ∷ codes "%rdi"
     ∷ codes "%r8" ∷ codes "%r9" ∷ codes "%r10" ∷ codes "%r11" ∷ codes "%r12" ∷ codes "%r13" ∷ codes "%r14" ∷ codes "%r15" ∷ []
 
--- their lowest bytes
+-- the registers' lowest bytes, by number
 abbrev pub byte_names : List (List ℕ)
 byte_names = codes "%al" ∷ codes "%cl" ∷ codes "%dl" ∷ codes "%bl" ∷ codes "%spl" ∷ codes "%bpl" ∷ codes "%sil" ∷ codes "%dil"
     ∷ codes "%r8b" ∷ codes "%r9b" ∷ codes "%r10b" ∷ codes "%r11b" ∷ codes "%r12b" ∷ codes "%r13b" ∷ codes "%r14b" ∷ codes "%r15b" ∷ []
@@ -219,7 +219,7 @@ argument_names = codes "%rdi" ∷ codes "%rsi" ∷ codes "%rdx" ∷ codes "%rcx"
 abbrev pub argument_name : ℕ → List ℕ
 argument_name k = slice_index_or argument_names k (codes "%none")
 
--- a function stores the arguments that registers passed behind its slots; the entry loads those of function 0
+-- a function stores the arguments that registers passed behind its slots; the entry loads the arguments of function 0
 unfoldable pub argument_store_text : FrameWords → ℕ → List ℕ
 argument_store_text f k =
     if nat_lt k f.arity then codes "  movq " ++ argument_name k ++ codes ", " ++ kept_text f k ++ codes "\n" else []
@@ -283,7 +283,7 @@ stub_text = codes "  .globl compiled\ncompiled:\n  pushq %r15\n  movq %rsi, %r15
     ++ codes "  movq %rsp, %rax\n  shrq $3, %rax\n  xorl %ecx, %ecx\n  subq %rdx, %rax\n  cmovbq %rcx, %rax\n  shlq $3, %rax\n"
     ++ codes "  movq %rax, -8(%r15)\n  movq %rdi, %rax\n"
 
--- its end, which calls function 0
+-- the end of the entry, which calls function 0
 unfoldable pub call_text : List ℕ
 call_text = codes "  call .Lf0\n  popq %r15\n  ret\n"
 

@@ -112,7 +112,7 @@ fn is_numbered(word: &str, name: &str) -> bool {
     }
 }
 
-/// Returns whether a line is that of an instruction. A dump's line for a move begins with `inst3-`,
+/// Returns whether `line` shows an instruction. A dump's line for a move begins with `inst3-`,
 /// and is none.
 fn is_inst(line: &str) -> bool {
     let word = first_word(line);
