@@ -53,7 +53,7 @@ module _ (f : FunctionValue) (out : OutputValue) where
     numbers = passed_over f c.at w (source_after x c);
   }) (way_on f c.at x.takes)
 
-  -- the numbers that an instruction finds in places, and those that it reads
+  -- the numbers that an instruction finds in places, and the numbers that it reads
   abbrev pub found_by : (Place → ℕ) → State Place → Place → ℕ
   found_by stir d = disturbed stir (allocs_of out d.at.inst) 0 (inst_at f d.at.inst).operands (numbers_moved (moves_at f out d.at) d.numbers)
 

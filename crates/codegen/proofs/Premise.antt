@@ -29,7 +29,7 @@ IsGeneral NoPlace = ⊥
 IsGeneral (InRegister r) = (r.class ≡ Int) × (is_allocated r.number ≡ true)
 IsGeneral (InSlot n) = ⊥
 
--- a place of a machine whose frame has that many slots
+-- a place of a machine whose frame has `slots` slots
 abbrev pub IsWithin : ℕ → MachinePlace → Type 0
 IsWithin slots (AtRegister r) = is_general r ≡ true
 IsWithin slots (AtSlot k) = k < slots

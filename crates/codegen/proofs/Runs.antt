@@ -44,7 +44,7 @@ module _ (code : CodeValue) (args : ℕ → ℕ) where
         (p.0, omega (arith, p.1, q.1), p.2 ∙ q.2);
   }
 
-  -- if it gets to a state, it still runs after that many steps
+  -- a run that gets to a state in n steps still runs after them
   pub runs_then : (n : ℕ) (s t : MachineState) → Comes n s t → (m : ℕ) × (n ≤ m) × (machine_run code args m s ≡ Running t)
   unfolding machine_run
   runs_then n s t c = let p : (j : ℕ) × (0 + n ≤ j) × (machine_run code args j s ≡ machine_run code args 0 t) = c.by 0 in (p.0, omega (arith, p.1), p.2)

@@ -55,7 +55,7 @@ abbrev pub count_read : Count → ℕ → ℕ
 count_read (CountIn v) n = n
 count_read (CountOf n) m = n
 
--- the number that an operation writes, from those that it reads, and from memory
+-- the number that an operation writes, from the numbers that it reads, and from memory
 abbrev pub value_of : (ℕ → ℕ) → List ℕ → Operation → List ℕ → ℕ
 value_of args memory (TakeArgument to k) xs = args k
 value_of args memory (TakeConstant to n) xs = n

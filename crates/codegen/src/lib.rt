@@ -100,7 +100,7 @@
 //!
 //! Unused: that values are in their slots between blocks, that slots have owners, the bound 2^24 on
 //! their number, debug locations, and when nothing is spilled. A code generator that keeps other
-//! data in the frame, or describes it to a debugger, needs those.
+//! data in the frame, or describes it to a debugger, needs these guarantees.
 //!
 //! Not proved: that x86-64 runs the printed text as the machine runs the code.
 //! [`text`] has a spec of the text, and tests run it.

@@ -136,7 +136,7 @@ word_passed s k n = record {
   activations = s.activations;
 }
 
--- a register is put into an outgoing word, of that many
+-- a register is put into outgoing word k of `words`
 abbrev pub passed : ℕ → StackState → ℕ → ℕ → RunOutcome StackState
 passed words s k from = if nat_lt k words && is_general from then Running (word_passed s k (s.state.registers from)) else Stuck
 
@@ -171,7 +171,7 @@ module _ (functions : List FunctionCode) (stack : Stack) where
   abbrev pub stack_step : StackState → RunOutcome StackState
   stack_step s = stack_step_in s (slice_get functions s.function)
 
-  -- that many steps
+  -- a number of steps
   unfoldable pub stack_run : ℕ → StackState → RunOutcome StackState
   stack_run zero s = Running s
   stack_run (suc n) s = further (stack_step s) (stack_run n)

@@ -88,11 +88,11 @@ module _ (procedures : List Procedure) (fresh : VirtualRegister → ℕ) where
   abbrev pub module_step : ModuleState → RunOutcome ModuleState
   module_step s = step_in s (slice_get procedures s.procedure)
 
-  -- that many steps
+  -- a number of steps
   unfoldable pub module_run : ℕ → ModuleState → RunOutcome ModuleState
   module_run zero s = Running s
   module_run (suc n) s = further (module_run n s) module_step
 
-  -- that many steps from the beginning of procedure 0
+  -- the beginning of procedure 0
   abbrev pub module_begun : (ℕ → ℕ) → List ℕ → RunOutcome ModuleState
   module_begun args memory = frame_entered fresh 0 args memory [] (slice_get procedures 0)

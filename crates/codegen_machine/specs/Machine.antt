@@ -23,11 +23,11 @@ pub record MachineState : Type 0 where
   pub compared : Option (ℕ × ℕ)
   pub memory : List ℕ
 
--- the registers that hold numbers: all sixteen but those that address the frame and memory
+-- the registers that hold numbers: all sixteen but the two that address the frame and memory
 abbrev pub is_general : ℕ → Bool
 is_general r = nat_lt r 15 && not (nat_eq r 4)
 
--- continues with the number in a register, in a slot of a frame with that many slots, or of any source; or with the numbers last compared
+-- continues with the number in a register, in a slot of a frame with `slots` slots, or of any source; or with the numbers last compared
 abbrev pub with_register : MachineState → ℕ → (ℕ → RunOutcome MachineState) → RunOutcome MachineState
 with_register s r go = if is_general r then go (s.registers r) else Stuck
 
@@ -141,7 +141,7 @@ code_of c = record { instructions = c.instructions.items; slots = c.slots; outgo
 abbrev pub machine_step : CodeValue → (ℕ → ℕ) → MachineState → RunOutcome MachineState
 machine_step code args s = executed args code.slots (slice_get code.instructions s.pc) s
 
--- that many steps
+-- a number of steps
 unfoldable pub machine_run : CodeValue → (ℕ → ℕ) → ℕ → MachineState → RunOutcome MachineState
 machine_run code args zero s = Running s
 machine_run code args (suc n) s = further (machine_step code args s) (machine_run code args n)

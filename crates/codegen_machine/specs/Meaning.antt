@@ -81,7 +81,7 @@ done f args (Some (Return v)) s = Returned (s.numbers v) s.memory
 abbrev pub procedure_step : FunctionValue → Operations → (ℕ → ℕ) → ProcedureState → RunOutcome ProcedureState
 procedure_step f operations args s = done f args (slice_get operations.items s.at.inst) s
 
--- that many steps
+-- a number of steps
 unfoldable pub procedure_run : FunctionValue → Operations → (ℕ → ℕ) → ℕ → ProcedureState → RunOutcome ProcedureState
 procedure_run f operations args zero s = Running s
 procedure_run f operations args (suc n) s = further (procedure_run f operations args n s) (procedure_step f operations args)

@@ -160,7 +160,7 @@ fn all_call_functions(procedures: &[NamedProcedure]) -> bool
 }
 
 impl Module {
-    /// Returns the module of these functions, which share a memory of that many bytes.
+    /// Returns the module of `procedures`, which share a memory of `memory_size` bytes.
     ///
     /// # Errors
     ///

@@ -184,7 +184,7 @@ impl Procedure {
         })
     }
 
-    /// Returns the function with a memory of that many bytes.
+    /// Returns the function with a memory of `memory_size` bytes.
     ///
     /// # Errors
     ///

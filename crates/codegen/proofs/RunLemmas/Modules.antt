@@ -64,7 +64,7 @@ further_thrice overflows f g = refl
 further_thrice sticks f g = refl
 
 module _ (procedures : List Procedure) (fresh : VirtualRegister → ℕ) (first : RunOutcome ModuleState) where
-  -- the outcome after that many steps
+  -- the outcome after a number of steps
   abbrev after : ℕ → RunOutcome ModuleState
   after n = further first (module_run procedures fresh n)
 

@@ -187,7 +187,7 @@ instruction_text g f (variant.Call callee) = transfer_text g (variant.Call calle
 instruction_text g f (variant.Pass k from) = move_text f (variant.Pass k from)
 instruction_text g f variant.Return = transfer_text g variant.Return
 
--- whether an instruction with that number, of that many, is only a jump to the next line
+-- whether instruction k of `count` is only a jump to the next line
 abbrev pub is_next : ℕ → ℕ → Instruction → Bool
 is_next count k (variant.Jump target) = nat_eq target (k + 1)
 is_next count k variant.Return = nat_eq (k + 1) count
@@ -202,7 +202,7 @@ module _ (g : ℕ) (f : FrameWords) (count : ℕ) where
   abbrev pub line_text : ℕ → Instruction → List ℕ
   line_text k i = codes ".L" ++ (decimal g ++ (codes "_" ++ (decimal k ++ (codes ":" ++ (line_rest k i ++ 10 ∷ [])))))
 
-  -- the instructions from number k on, of that many, one on each line, with labels by number
+  -- the instructions from number k on, of `count`, one on each line, with labels by number
   unfoldable pub lines_text : ℕ → List Instruction → List ℕ
   lines_text k [] = []
   lines_text k (i ∷ rest) = line_text k i ++ lines_text (k + 1) rest
@@ -291,6 +291,6 @@ call_text = codes "  call .Lf0\n  popq %r15\n  ret\n"
 unfoldable pub traps_text : List ℕ
 traps_text = codes ".Ltrap:\n  ud2\n.Loverflow:\n  int3\n  .section .note.GNU-stack,\"\",@progbits\n"
 
--- a module: the entry, the functions, and the ends of those runs that don't return
+-- a module: the entry, the functions, and the ends of the runs that don't return
 abbrev pub assembly_text : ModuleCode → List ℕ
 assembly_text c = stub_text ++ argument_loads_text (first_arity c.functions.items) ++ call_text ++ functions_text 0 c.functions.items ++ traps_text

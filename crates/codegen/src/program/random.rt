@@ -259,7 +259,7 @@ impl Draft {
         }
     }
 
-    /// Writes at least one and at most that many operations.
+    /// Writes at least one and at most `most` operations.
     fn write_operations(&mut self, most: usize) -> Result<(), AllocError>
         requires { 0 < most }
     {
