@@ -36,7 +36,7 @@ both_true true false e h = absurd cc
 both_true false b e h = absurd cc
 
 module _ (functions : List FunctionCode) (stack : Stack) where
-  -- The stack gets from the first state to the second in at least that many steps: the run from the second state is the rest of the run from the first.
+  -- The stack gets from the first state to the second in at least n steps: the run from the second state is the rest of the run from the first.
   pub record StackComes (n : ℕ) (s t : StackState) : Type 0 where
     pub by : (k : ℕ) → (j : ℕ) × (k + n ≤ j) × (stack_run functions stack j s ≡ stack_run functions stack k t)
 

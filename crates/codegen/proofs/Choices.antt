@@ -80,7 +80,7 @@ module _ (f : FunctionValue) (out : OutputValue) where
         ≡ read_by is_late_use (λ k o. c.numbers o.vreg) 0 (inst_at f c.at.inst).operands
 
   module _ (virtual : VirtualRegister → ℕ) (places : Place → ℕ) where
-    -- both have made that many steps by these choices
+    -- both have made a step by each of the choices `xs`
     pub record Together (xs : List Choice) (c : State VirtualRegister) (d : State Place) : Type 0 where
       pub source : source_run f (meaning_by xs) virtual (length xs) ≡ Some c
       pub place : place_run f out (meaning_by xs) (noise_by xs) places (length xs) ≡ Some d

@@ -190,7 +190,7 @@ module _ (functions : List FunctionCode) (stack : Stack) (f : FunctionCode) (sta
           (cases_lt i n);
     }
 
-    -- that many are passed
+    -- the first n stack arguments are passed
     pass_all : (n : ℕ) → n ≤ count → (t : StackState) → slice_get functions t.function ≡ Some f → (first : ℕ) →
         AgreeBut t.state.registers t.state.frame m first → (rest : List Instruction) →
         StandAt starts f.code.instructions t.state.pc (passes_code n ps ++ rest) → PassedAll t rest n

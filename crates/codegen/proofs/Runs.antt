@@ -14,7 +14,7 @@ IsOver Overflowed = Unit {0}
 IsOver Stuck = Unit {0}
 
 module _ (code : CodeValue) (args : ℕ → ℕ) where
-  -- The machine gets from the first state to the second in at least that many steps: the run from the second state is the rest of the run from the first.
+  -- The machine gets from the first state to the second in at least n steps: the run from the second state is the rest of the run from the first.
   pub record Comes (n : ℕ) (s t : MachineState) : Type 0 where
     pub by : (k : ℕ) → (j : ℕ) × (k + n ≤ j) × (machine_run code args j s ≡ machine_run code args k t)
 

@@ -104,7 +104,7 @@ module _ (f : FunctionValue) (ops : Operations) (out : OutputValue) (start : ℕ
   abbrev pub choice_of : State Place → Choice
   choice_of d = chosen args memory (op_of d) (found_reads f out stir d)
 
-  -- the code after the instruction, if that many others are left
+  -- the code after the instruction, if n others of its block are left
   abbrev pub behind : State Place → ℕ → List Instruction
   behind d n = items_code ops out (succs_of d) (d.at.block + 1) (listing_from out (block_at f d.at.block).range.first (d.at.inst + 1) n)
 

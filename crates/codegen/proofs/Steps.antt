@@ -124,7 +124,7 @@ pub left_long : (memory : List ℕ) (o : Operation) (xs : List ℕ) → length (
 left_long memory (Storing bytes address value) xs = bytes_long bytes memory (slice_index xs 0) (slice_index xs 1)
 left_long memory o xs = refl
 
--- the addresses of an access are those at which it lies in memory
+-- an access of `count` bytes at a lies in memory of `size` bytes exactly if a is below `size` + 1 - `count`
 below_count : (size count a : ℕ) → 0 < count → nat_lt a (size + 1 - count) ≡ nat_le (a + count) size
 below_count size count a some = ⊎_elim
     (λ t. lt-ltb a (size + 1 - count) (omega (arith, some, t.1)) ∙ sym t.0)

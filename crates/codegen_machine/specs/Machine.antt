@@ -100,7 +100,7 @@ memory_written s bytes a n =
 abbrev pub jumped : MachineState → ℕ → RunOutcome MachineState
 jumped s target = Running (record { pc = target; registers = s.registers; frame = s.frame; compared = s.compared; memory = s.memory })
 
--- the effect of an instruction within its function: a call leaves it, and so does an argument for one; the arguments are given by their numbers, and the frame has that many slots
+-- the effect of an instruction within its function: a call leaves it, and so does an argument for one; the arguments are given by their numbers, and the frame has `slots` slots
 abbrev pub executed : (ℕ → ℕ) → ℕ → Option Instruction → MachineState → RunOutcome MachineState
 executed args slots None s = Stuck
 executed args slots (Some (Constant to n)) s = written s to n s.compared
