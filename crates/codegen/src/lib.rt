@@ -9,8 +9,8 @@
 //!
 //! A line's operation determines its operands and clobbers (`codegen_operation`). Where the
 //! processor has two-address instructions, the result reuses the register of the first number, and
-//! the second number is read from a register, a slot or an immediate. A 32-bit form is emitted as
-//! the same instructions with another width. A division reads its dividend from register 0, extends
+//! the second number is read from a register, a slot or an immediate. A 32-bit form is emitted as the
+//! same instructions with another width. A division reads its dividend from register 0, extends
 //! it into register 2, and writes quotient and remainder to these two: one is the result, the
 //! other's register is clobbered, and the divisor is read late. An access to memory is a guard, which
 //! compares the address with the number of addresses that the access has in a memory of the
@@ -72,8 +72,8 @@
 //! # The proof
 //!
 //! The interpreter over vregs makes the function's steps (`proofs/Source.antt`). The machine
-//! follows the interpreter over places: registers and slots hold the same numbers as the places,
-//! and the code of the rest of the block is at the machine's address (`proofs/Simulation.antt`).
+//! follows the interpreter over places: registers and slots hold the same numbers as the places, and
+//! the code of the rest of the block is at the machine's address (`proofs/Simulation.antt`).
 //! The lemma connects both. Memory is no place: function and machine have the same memory after
 //! each step (`proofs/Joined.antt`), so a load writes the same number on both sides.
 //!

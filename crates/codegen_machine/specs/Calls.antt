@@ -140,7 +140,7 @@ word_passed s k n = record {
 abbrev pub passed : ℕ → StackState → ℕ → ℕ → RunOutcome StackState
 passed words s k from = if nat_lt k words && is_general from then Running (word_passed s k (s.state.registers from)) else Stuck
 
--- one step: that of the current instruction of the running activation
+-- one step: the current instruction of the running activation
 module _ (functions : List FunctionCode) (stack : Stack) where
   -- a new activation of a function, if the stack has room for it
   abbrev pub activation_of : ℕ → (ℕ → ℕ) → List ℕ → List SuspendedActivation → ℕ → StackState

@@ -71,7 +71,7 @@ frame_stepped s (Trapped memory) = Trapped memory
 frame_stepped s Overflowed = Overflowed
 frame_stepped s Stuck = Stuck
 
--- one step: that of the current line of the running frame; new frames hold the given numbers
+-- one step: the current line of the running frame; new frames hold the given numbers
 module _ (procedures : List Procedure) (fresh : VirtualRegister → ℕ) where
   abbrev pub frame_called : ModuleState → CallValue → RunOutcome ModuleState
   frame_called s c = frame_entered fresh c.function (λ k. slice_index (map (λ v. s.state.numbers v) c.arguments) k) s.state.memory

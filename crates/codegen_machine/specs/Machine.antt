@@ -137,7 +137,7 @@ pub record CodeValue : Type 0 where
 abbrev pub code_of : Code → CodeValue
 code_of c = record { instructions = c.instructions.items; slots = c.slots; outgoing = c.outgoing }
 
--- one step: that of the current instruction
+-- one step: the current instruction
 abbrev pub machine_step : CodeValue → (ℕ → ℕ) → MachineState → RunOutcome MachineState
 machine_step code args s = executed args code.slots (slice_get code.instructions s.pc) s
 

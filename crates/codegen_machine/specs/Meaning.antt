@@ -77,7 +77,7 @@ done f args (Some (BranchIfHolds w c left right)) s =
     along f s (if condition_holds c (widened w (s.numbers left)) (widened w (right_number s.numbers right)) then 0 else 1)
 done f args (Some (Return v)) s = Returned (s.numbers v) s.memory
 
--- one step: that of the current line
+-- one step: the current line
 abbrev pub procedure_step : FunctionValue → Operations → (ℕ → ℕ) → ProcedureState → RunOutcome ProcedureState
 procedure_step f operations args s = done f args (slice_get operations.items s.at.inst) s
 

@@ -271,8 +271,8 @@ fn copied(alloc: Global, numbers: &[u64]) -> Result<Vec<u64>, AllocError>
     numbers.to_vec(alloc)
 }
 
-/// Returns the outcome of running a module's code for `steps` steps on a stack of `room` words,
-/// and the memory that it leaves, with 0 in all registers and slots of new activations. Arguments
+/// Returns the outcome of running a module's code for `steps` steps on a stack of `room` words, and
+/// the memory that it leaves, with 0 in all registers and slots of new activations. Arguments
 /// past the given ones are 0.
 pub fn run_module_code(
     alloc: Global,
