@@ -72,8 +72,8 @@
 //! modulo 32, and writes a result below 2^32.
 //!
 //! `load` reads the eight bytes of memory from an address on, the lowest first; `store` writes the
-//! number that comes second to the address that comes first. `32`, `16` and `8` stand for four, two and
-//! one bytes: a load clears the other bits, and a store writes the lower ones. An access traps, and
+//! number that comes second to the address that comes first. `32`, `16` and `8` stand for four, two
+//! and one bytes: a load clears the other bits, and a store writes the lower ones. An access traps, and
 //! changes nothing, unless all its bytes lie in memory. Memory has the size that the text's
 //! first line gives, as in `memory 4096`, or else 0. The functions share it.
 //!
