@@ -36,7 +36,7 @@ both_true true false e h = absurd cc
 both_true false b e h = absurd cc
 
 module _ (functions : List FunctionCode) (stack : Stack) where
-  -- The stack gets from the first state to the second in at least that many steps: the run from the second state is the rest of the run from the first.
+  -- The stack gets from the first state to the second in at least n steps: the run from the second state is the rest of the run from the first.
   pub record StackComes (n : ℕ) (s t : StackState) : Type 0 where
     pub by : (k : ℕ) → (j : ℕ) × (k + n ≤ j) × (stack_run functions stack j s ≡ stack_run functions stack k t)
 
@@ -81,7 +81,7 @@ module _ (functions : List FunctionCode) (stack : Stack) where
       further_over (stack_step functions stack s) (stack_run functions stack m) (stack_run functions stack n) o
       (λ t h. stack_longer m n t o (omega arith) over h) e
 
-  -- and so does one from the beginning
+  -- a run that is over stays over, from the outcome of its first step
   pub begun_longer : (x : RunOutcome StackState) (m n : ℕ) (o : RunOutcome StackState) → m ≤ n → IsOver o → further x (stack_run functions stack m) ≡ o →
       further x (stack_run functions stack n) ≡ o
   begun_longer x m n o le over e =
@@ -140,7 +140,7 @@ module _ (functions : List FunctionCode) (stack : Stack) where
         let p : (m : ℕ) × (n ≤ m) × (machine_run f.code u.args m s ≡ Running t) = runs_then f.code u.args n s t c in
         stack_on 0 p.0 n (here s) (here s) (here t) (omega (arith, p.1)) (stack_here (here s)) (run_lifted p.0 s t p.2)
 
-    -- one that traps
+    -- a run that traps
     one_trap : (m : ℕ) (s : MachineState) (left : List ℕ) (o : RunOutcome MachineState) → step_of s ≡ o →
         ((r : MachineState) → machine_run f.code u.args m r ≡ Trapped left → (j : ℕ) × (stack_run functions stack j (here r) ≡ Trapped left)) →
         further o (machine_run f.code u.args m) ≡ Trapped left → (j : ℕ) × (stack_run functions stack j (here s) ≡ Trapped left)
@@ -160,7 +160,7 @@ module _ (functions : List FunctionCode) (stack : Stack) where
     trap_lifted zero s left e = absurd cc
     trap_lifted (suc m) s left e = one_trap m s left (step_of s) refl (λ r h. trap_lifted m r left h) e
 
-    -- one that returns: its last step returns into the newest caller
+    -- a run that returns: its last step returns into the newest caller
     pub record Returns (s : MachineState) (n : ℕ) (left : List ℕ) : Type 0 where
       pub at : MachineState
       pub comes : StackComes 0 (here s) (here at)

@@ -32,7 +32,7 @@ module _ (m : Module) (code : List FunctionCode) (b : Beginning m.memory_size) (
       × (((t : StackState) × (stack_begun code b.stack b.args b.memory ≡ Running t) × IsAt q t)
       ⊎ ((stack_begun code b.stack b.args b.memory ≡ Overflowed) × IsLarge q))
 
-  -- the code gets to a state in at least that many steps
+  -- the code gets to the state t in at least n steps
   record GetsTo (n : ℕ) (t : StackState) : Type 0 where
     by : (k : ℕ) → (j : ℕ) × (k + n ≤ j) × (code_after code b j ≡ stack_run code b.stack k t)
 
@@ -101,7 +101,7 @@ module _ (m : Module) (code : List FunctionCode) (b : Beginning m.memory_size) (
           | inr h ↦ inr (0, 0, begin.0, ap (λ (o : RunOutcome StackState). further o (stack_run code b.stack 0)) h.0, is, h.1)
         ]
 
-    -- after that many steps
+    -- after n steps of the module, its outcome has a match in the code's run, or the stack has overflowed
     meets : (n : ℕ) → Meets n (module_after m b n) ⊎ HasOverflowed
     meets zero = begins
     meets (suc n) =

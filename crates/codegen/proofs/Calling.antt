@@ -1,5 +1,5 @@
 -- A call within a procedure. Up to it, the machine runs the call's moves: then the first arguments are in their registers, and the others in places that keep
--- their numbers whatever the call writes to register 0. Once the callee has returned, the numbers of registers and slots are those of the caller's places again,
+-- their numbers whatever the call writes to register 0. Once the callee has returned, the numbers of registers and slots are as in the caller's places again,
 -- by the choice that leaves what the callee left in caller-saved registers.
 use Rattle.std.proofs.Common.{ℕ, zero, suc, ◌≡◌, ◌+◌, ◌<◌, ◌≤◌, ◌⊎◌, inl, inr, Bool, true, false, cond, not, List, [], ◌∷◌, ◌++◌, map, length, Option, Some, None}
 use Rattle.std.proofs.Common.{refl, sym, ap, ◌∙◌, subst, arith, nat_eq, lt-ltb, ltb-true}
@@ -41,7 +41,7 @@ use Rattle.codegen.proofs.Source.{seen}
 use Rattle.codegen.proofs.Steps.{reads_at}
 use Rattle.codegen.proofs.Joined.{AreJoined}
 
--- the numbers that a callee leaves in registers, as those of places
+-- the numbers that a callee leaves in registers, as numbers of places
 abbrev left_in : (ℕ → ℕ) → Place → ℕ
 left_in registers NoPlace = 0
 left_in registers (InRegister r) = registers r.number
@@ -91,7 +91,7 @@ given_back true true lost v l s f allocated e = ap (λ (b : Bool). cond b v v) (
 given_back true false lost v l s f allocated e = ap (λ (b : Bool). cond b l f) (sym e)
 given_back false is_result lost v l s f allocated e = absurd cc
 
--- after a return, the numbers are those of the caller's places, if slots kept theirs up to the call
+-- after a return, registers and slots agree with the caller's places, if slots kept their numbers up to the call
 back_agrees : (set : PRegSet) → ((r : Register) → has_register set r ≡ is_lost_in_call r) → (saved left frame : ℕ → ℕ) (v : ℕ) (numbers : Place → ℕ) →
     ((k : ℕ) → number_in saved frame (slot_place k) ≡ numbers (InSlot k)) →
     Agree (registers_returned saved (put left 0 v)) frame (numbers_clobbered set (left_in (put left 0 v)) (place_set numbers (register_place 0) v))
@@ -178,7 +178,7 @@ others_here slots ps k (r ∷ rs) (v ∷ vs) placed (suc i) large less =
     let e : k + 1 + i ≡ k + suc i = omega arith in
     subst (λ (j : ℕ). IsHere slots (place_at ps j)) e (others_here slots ps (k + 1) rs vs placed.1 i (omega arith) (omega arith))
 
--- they are late uses: if both interpreters read these alike, each place has its argument's number
+-- a call's arguments past the sixth are late uses: if both interpreters read late uses alike, each place has its argument's number
 never_late : (b : Bool) → (b && false) ≡ false
 never_late true = refl
 never_late false = refl
@@ -315,7 +315,7 @@ module _ (f : FunctionValue) (ops : Operations) (out : OutputValue) (start : ℕ
           ∙ result_defined n to p.arguments.items c.numbers
           ∙ ap (λ (m : VirtualRegister → ℕ). number_set m to n) (sym p.is_numbers)
 
-      -- and written
+      -- the result is written to its place
       placed : IsPlaced code.slots (Calling p.callee to p.arguments) (allocs_of out d.at.inst)
       placed = subst (λ (o : Operation). IsPlaced code.slots o (allocs_of out d.at.inst)) p.is_call (ok.placed d.at.inst within)
 
@@ -435,7 +435,7 @@ module _ (f : FunctionValue) (ops : Operations) (out : OutputValue) (start : ℕ
           ∙ ap (λ (os : List OperandValue). read_by is_reading (λ k u. v.numbers u.vreg) 0 os) call_operands_are
           ∙ call_reads (λ k u. v.numbers u.vreg) to vs read
 
-      -- also once the call has written register 0, for its late uses
+      -- what late uses of the call find once the call has written register 0
       module _ (first : ℕ) where
         abbrev with_first : Place → ℕ
         with_first = place_set found_there (register_place 0) first

@@ -1,4 +1,4 @@
--- Both interpreters, where each step's numbers and successor are chosen when it is made.
+-- The interpreters of vregs and of places, where each step's numbers and successor are chosen when it is made.
 use Rattle.std.specs.Prelude.{ℕ, ◌≡◌, nat_eq, if◌then◌else◌, List, [], ◌∷◌, length, Option, None, Some, option_map}
 use Rattle.regalloc2_names.specs.Register.{VirtualRegister}
 use Rattle.regalloc2_names.specs.Operand.{is_reading}
@@ -53,7 +53,7 @@ module _ (f : FunctionValue) (out : OutputValue) where
     numbers = passed_over f c.at w (source_after x c);
   }) (way_on f c.at x.takes)
 
-  -- the numbers that an instruction finds in places, and those that it reads
+  -- the numbers that an instruction finds in places, and the numbers that it reads
   abbrev pub found_by : (Place → ℕ) → State Place → Place → ℕ
   found_by stir d = disturbed stir (allocs_of out d.at.inst) 0 (inst_at f d.at.inst).operands (numbers_moved (moves_at f out d.at) d.numbers)
 
@@ -72,7 +72,7 @@ module _ (f : FunctionValue) (out : OutputValue) where
     numbers = place_after stir x d;
   }) (way_on f d.at x.takes)
 
-  -- Both read the same; and whatever the step writes and leaves, the place of a late use still has the number of its vreg.
+  -- An instruction reads the same in both interpreters; whatever the step writes and leaves, the place of a late use still has the number of its vreg.
   pub record ReadAlike (stir : Place → ℕ) (c : State VirtualRegister) (d : State Place) : Type 0 where
     pub at : d.at ≡ c.at
     pub reads : found_reads stir d ≡ source_reads c
@@ -80,7 +80,7 @@ module _ (f : FunctionValue) (out : OutputValue) where
         ≡ read_by is_late_use (λ k o. c.numbers o.vreg) 0 (inst_at f c.at.inst).operands
 
   module _ (virtual : VirtualRegister → ℕ) (places : Place → ℕ) where
-    -- both have made that many steps by these choices
+    -- both have made a step by each of the choices `xs`
     pub record Together (xs : List Choice) (c : State VirtualRegister) (d : State Place) : Type 0 where
       pub source : source_run f (meaning_by xs) virtual (length xs) ≡ Some c
       pub place : place_run f out (meaning_by xs) (noise_by xs) places (length xs) ≡ Some d
@@ -92,7 +92,7 @@ module _ (f : FunctionValue) (out : OutputValue) where
     StepsOn xs (Some c) None = ⊥
     StepsOn xs (Some c) (Some d) = Together xs c d
 
-    -- they begin together, are alike in each pair of states that they reach together, and continue together for every choice
+    -- both begin together, are alike in each pair of states that they reach together, and continue together for every choice
     pub record AlikeByChoices : Type 0 where
       pub begin : Together [] (record { at = first_of f f.entry; history = []; numbers = virtual })
           (record { at = first_of f f.entry; history = []; numbers = places })

@@ -77,7 +77,7 @@ module _ (f : FunctionValue) (out : OutputValue) (virtual : VirtualRegister → 
       source_step_same x xs n (omega arith) (source_run f (meaning_by (x ∷ xs)) virtual n) (source_run f (meaning_by xs) virtual n)
       (source_same x xs n (omega arith)) (source_long (meaning_by xs) n)
 
-  -- and so for places
+  -- a step of the interpreter of places adds one entry to its history
   place_longer : (m : InstMeaning) (noise : History → Place → ℕ) (n : ℕ) (b c : State Place) (o : Option Way) → length b.history ≡ n →
       option_map (λ w. record { at = next_of f b.at w; history = place_told f out m noise b; numbers = place_written f out m noise b }) o ≡ Some c →
       length c.history ≡ suc n

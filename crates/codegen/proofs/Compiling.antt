@@ -52,7 +52,7 @@ has_frame p f c = record {
 pub none_compiled : (ps : List NamedProcedure) → AreCompiled ps [] 0
 none_compiled ps = record { long = refl; each = λ g p f e h. absurd (cc (sym (slice_get_past [] g (omega arith)) ∙ h)) }
 
--- and one more
+-- one more function is compiled
 more_compiled : (ps : List NamedProcedure) (code : List FunctionCode) (p : NamedProcedure) (f : FunctionCode) (n : ℕ) → AreCompiled ps code n →
     slice_get ps n ≡ Some p → IsCompiled p.procedure f.code × (f.arity ≡ p.arity) × HasFrameOf p f → AreCompiled ps (code ++ f ∷ []) (n + 1)
 more_compiled ps code p f n all at is = record {

@@ -109,7 +109,7 @@ remainder_agrees false b w q r x y never e = ap (λ (n : ℕ). cond b q n) e
 not_both : (n : ℕ) → nat_eq 2 n ≡ true → nat_eq 0 n ≡ true → ⊥
 not_both n two none = let a : 2 ≡ n = eqb-true 2 n two in let b : 0 ≡ n = eqb-true 0 n none in omega (arith, a, b)
 
--- and slots are as before
+-- slots are as before a division
 slot_left : (registers frame : ℕ → ℕ) (w q r k : ℕ) →
     number_in (put (put (put registers 2 w) 0 q) 2 r) frame (slot_place k) ≡ number_in registers frame (slot_place k)
 slot_left registers frame w q r k =
@@ -262,7 +262,7 @@ module _ (args : ℕ → ℕ) (starts : ℕ → ℕ) (code : CodeValue) (succs :
         same = d.same;
       }
 
-  -- and one that traps
+  -- a plain operation that traps is a trap of the machine
   pub plain_traps : (size next : ℕ) (o : Operation) (set : PRegSet) (s : MachineState) (ps : List Place) (m : Place → ℕ) → IsPlain o →
       IsPlaced code.slots o ps →
       ((r : Register) → has_register set r ≡ is_lost_in o r) → IsKept o set ps m → length s.memory ≡ size →

@@ -137,7 +137,7 @@ module _ (ps : List NamedProcedure) (code : List FunctionCode) (size : ℕ) (fre
   AreWaiting (c ∷ cs) [] = ⊥
   AreWaiting (c ∷ cs) (a ∷ acts) = Waits c a × AreWaiting cs acts
 
-  -- they are those of the same functions
+  -- suspended frames and suspended activations are of the same functions
   same_functions : (cs : List SuspendedFrame) (acts : List SuspendedActivation) → AreWaiting cs acts → calling acts ≡ map (λ c. c.procedure) cs
   same_functions [] [] h = refl
   same_functions [] (a ∷ acts) h = absurd h

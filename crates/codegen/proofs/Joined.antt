@@ -110,7 +110,7 @@ module _ (f : FunctionValue) (ops : Operations) (out : OutputValue) (start : ℕ
         traps = ap (λ (ns : List ℕ). traps_of s.memory (operation_at ops d.at.inst) ns) r.reads
             ∙ ap (λ (l : Location). traps_of s.memory (operation_at ops l.inst) (source_reads f out c)) r.at
 
-        -- and neither is a call
+        -- the second operation is no call either
         inner_also : IsCall (operation_at ops c.at.inst) → ⊥
         inner_also = subst (λ (l : Location). IsCall (operation_at ops l.inst) → ⊥) r.at inner
 

@@ -1,8 +1,8 @@
 -- The code of a module behaves as the module: `module_behaves` in `Whole`. Its stack stays in the room for the module's frames: `Rooms`.
 -- `RunLemmas` and `TextLemmas` are for the interpreters and for texts.
 -- Read first: `Premise`, then `Choices`, steps of the two interpreters whose numbers are chosen when a step is made, and
--- `Simulation` and `Source`, in which machine and procedure follow the interpreters, joined in `Joined`; then `Calling`, a call
--- and a return, `Passing`, a call's arguments on the stack, and `Frames`, which relates a module's frames with the machine's
+-- `Simulation` and `Source`, in which machine and procedure follow the interpreters, joined in `Joined`; then `Calling`, a call and
+-- a return, `Passing`, a call's arguments on the stack, and `Frames`, which relates a module's frames with the machine's
 -- activations. `Behaving` is the theorem over steps.
 -- Depends on the two interpreters of a function, over vregs and over places, which run alike (`FaithfulRunAlike`): so they
 -- do by choices (`Chosen`).

@@ -17,7 +17,7 @@ pub record IsCompiled (p : Procedure) (code : CodeValue) : Type 0 where
   pub alike : RunAlike (function_of_procedure p) out
   pub emitted : IsEmitted (function_of_procedure p) (operations p) out start code
 
--- the code of that many of a module's procedures
+-- the code of the first n of a module's procedures
 pub record AreCompiled (ps : List NamedProcedure) (code : List FunctionCode) (n : ℕ) : Type 0 where
   pub long : length code ≡ n
   pub each : (g : ℕ) (p : NamedProcedure) (f : FunctionCode) → slice_get ps g ≡ Some p → slice_get code g ≡ Some f →

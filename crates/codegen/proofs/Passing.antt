@@ -38,7 +38,7 @@ number_is registers frame m a slots (InSlot n) h = a.in_slots n
 abbrev pub AgreeBut : (registers frame : ℕ → ℕ) → (Place → ℕ) → ℕ → Type 0
 AgreeBut registers frame m first = Agree registers frame (place_set m (register_place 0) first)
 
--- at first it holds its own
+-- at first, register 0 holds its own number
 pub agree_but : (registers frame : ℕ → ℕ) (m : Place → ℕ) → Agree registers frame m → AgreeBut registers frame m (registers 0)
 unfolding place_set
 agree_but registers frame m a = record {
@@ -50,7 +50,7 @@ agree_but registers frame m a = record {
     pick n allocated true e = let none : 0 ≡ n = eqb-true 0 n e in ap registers (sym none)
     pick n allocated false e = a.in_registers n allocated
 
--- and then any that is written
+-- after a write, register 0 holds the number written
 agree_again : (registers frame : ℕ → ℕ) (m : Place → ℕ) (first n : ℕ) → AgreeBut registers frame m first → AgreeBut (put registers 0 n) frame m n
 unfolding place_set
 agree_again registers frame m first n a = record {
@@ -190,7 +190,7 @@ module _ (functions : List FunctionCode) (stack : Stack) (f : FunctionCode) (sta
           (cases_lt i n);
     }
 
-    -- that many are passed
+    -- the first n stack arguments are passed
     pass_all : (n : ℕ) → n ≤ count → (t : StackState) → slice_get functions t.function ≡ Some f → (first : ℕ) →
         AgreeBut t.state.registers t.state.frame m first → (rest : List Instruction) →
         StandAt starts f.code.instructions t.state.pc (passes_code n ps ++ rest) → PassedAll t rest n

@@ -1,4 +1,4 @@
--- The machine's numbers are those of the places: reads, writes and moves have the same effect on both. No two places of the allocator have the same place of the
+-- The machine's numbers agree with the places': reads, writes and moves have the same effect on both. No two places of the allocator have the same place of the
 -- machine, so a write to one leaves the others' numbers.
 use Rattle.std.proofs.Common.{ℕ, zero, suc, ◌≡◌, ◌+◌, Bool, true, false, cond, List, [], ◌∷◌, ◌++◌, map, Option, Some, refl, sym, ap, ◌∙◌, subst}
 use Rattle.std.proofs.Common.{arith, nat_eq, lt-ltb, eqb-true, eq-eqb}
@@ -34,7 +34,7 @@ abbrev pub number_in : (registers frame : ℕ → ℕ) → MachinePlace → ℕ
 number_in registers frame (AtRegister r) = registers r
 number_in registers frame (AtSlot k) = frame k
 
--- the numbers of allocated registers and of slots are those of their places
+-- allocated registers and slots have the numbers of their places
 pub record Agree (registers frame : ℕ → ℕ) (numbers : Place → ℕ) : Type 0 where
   pub in_registers : (n : ℕ) → is_allocated n ≡ true → registers n ≡ numbers (register_place n)
   pub in_slots : (k : ℕ) → number_in registers frame (slot_place k) ≡ numbers (InSlot k)
@@ -142,7 +142,7 @@ pub slot_stays : (registers frame : ℕ → ℕ) (r v k : ℕ) → is_allocated 
     number_in (put registers r v) frame (slot_place k) ≡ number_in registers frame (slot_place k)
 slot_stays registers frame r v k h = place_stays registers frame r v (slot_place k) (slots_apart k) h
 
--- the numbers of places by those of registers and slots
+-- the numbers of places, by the numbers of registers and slots
 abbrev pub numbers_in : (registers frame : ℕ → ℕ) → Place → ℕ
 numbers_in registers frame NoPlace = 0
 numbers_in registers frame (InRegister r) = registers r.number
@@ -158,7 +158,7 @@ int_place r h = λ i. InRegister (record { number = r.number; class = sym h i })
 abbrev pub wrote : MachineState → ℕ → ℕ → Option (ℕ × ℕ) → MachineState
 wrote s r n compared = record { pc = s.pc + 1; registers = put s.registers r n; frame = s.frame; compared = compared; memory = s.memory }
 
--- and after a place is written
+-- the next instruction, after a place is written
 abbrev kept : MachineState → MachinePlace → ℕ → MachineState
 kept s m n = record { pc = s.pc + 1; registers = registers_with s.registers m n; frame = frame_with s.frame m n; compared = s.compared; memory = s.memory }
 
@@ -204,7 +204,7 @@ writes_place s NoPlace n compared h = absurd h
 writes_place s (InRegister r) n compared h = writes s r.number n compared (holds r.number h.1)
 writes_place s (InSlot k) n compared h = absurd h
 
--- then numbers still agree
+-- numbers still agree after a register is written
 pub agree_register : (registers frame : ℕ → ℕ) (numbers : Place → ℕ) → Agree registers frame numbers → (p : Place) → IsGeneral p → (v : ℕ) →
     Agree (put registers (register_of p) v) frame (place_set numbers p v)
 unfolding place_set
@@ -217,7 +217,7 @@ agree_register registers frame numbers a (InRegister r) h v = record {
 }
 agree_register registers frame numbers a (InSlot n) h v = absurd h
 
--- and if a slot is written
+-- numbers still agree after a slot is written
 agree_slot : (registers frame : ℕ → ℕ) (numbers : Place → ℕ) → Agree registers frame numbers → (n v : ℕ) →
     Agree (registers_with registers (slot_place n) v) (frame_with frame (slot_place n) v) (place_set numbers (InSlot n) v)
 unfolding place_set

@@ -29,12 +29,12 @@ IsGeneral NoPlace = ⊥
 IsGeneral (InRegister r) = (r.class ≡ Int) × (is_allocated r.number ≡ true)
 IsGeneral (InSlot n) = ⊥
 
--- a place of a machine whose frame has that many slots
+-- a place of a machine whose frame has `slots` slots
 abbrev pub IsWithin : ℕ → MachinePlace → Type 0
 IsWithin slots (AtRegister r) = is_general r ≡ true
 IsWithin slots (AtSlot k) = k < slots
 
--- such a register, or a slot that the machine has a place for
+-- a register that the allocator allocates, or a slot that the machine has a place for
 abbrev pub IsHere : ℕ → Place → Type 0
 IsHere slots NoPlace = ⊥
 IsHere slots (InRegister r) = (r.class ≡ Int) × (is_allocated r.number ≡ true)
@@ -56,7 +56,7 @@ abbrev pub IsCountHere : Count → Place → Type 0
 IsCountHere (CountIn v) p = IsGeneral p × (register_of p ≡ 1)
 IsCountHere (CountOf n) p = Unit {0}
 
--- an operation's operands in fixed registers are read and written: only those of the greatest virtual register aren't
+-- an operation's operands in fixed registers are read and written: only operands of the greatest virtual register aren't
 abbrev pub IsCountRead : Count → Type 0
 IsCountRead (CountIn v) = nat_eq v.number 1073741823 ≡ false
 IsCountRead (CountOf n) = Unit {0}
@@ -114,7 +114,7 @@ abbrev pub IsCall : Operation → Type 0
 IsCall (Calling g to arguments) = (nat_eq to.number 1073741823 ≡ false) × AreRead arguments.items
 IsCall o = ⊥
 
--- one that ends a block with that many successors
+-- an operation that ends a block with `count` successors
 abbrev pub IsEnd : Operation → ℕ → Type 0
 IsEnd GoTo count = 0 < count
 IsEnd (BranchIf v) count = 1 < count

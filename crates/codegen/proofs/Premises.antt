@@ -67,7 +67,7 @@ module _ (env : MachineValue) (out : OutputValue) (t : IsTarget env) where
   here c (InRegister r) h = elim h [ inl own ↦ t.allocatable c r own | inr fixed ↦ absurd (no_member env.fixed_stack_slots r t.no_fixed_slots fixed.0) ]
   here c (InSlot n) h = slot_within out.num_spillslots n h
 
-  -- and if it is no stack place, a register
+  -- a place for a number that is no stack place is a register that the allocator allocates
   general : (c : RegClass) (p : Place) → IsProperPlace env out c p → IsPlainRegister env p → IsGeneral p
   general c NoPlace h plain = absurd h
   general c (InRegister r) h plain = elim h [ inl own ↦ t.allocatable c r own | inr fixed ↦ absurd (plain fixed.0) ]
@@ -126,7 +126,7 @@ module _ (env : MachineValue) (out : OutputValue) (t : IsTarget env) where
       here v.class (place_at ps k) (subst (λ (o : OperandValue). is_fixed_nonallocatable o ≡ false → IsProperPlace env out o.vreg.class (place_at ps k)) is
       (h.proper k (passed_on_stack v) within) refl)
 
-  -- these are the operands from that index on
+  -- the operands `us` are in `os` from index k on
   abbrev AreFrom : List OperandValue → ℕ → List OperandValue → Type 0
   AreFrom os k us = (i : ℕ) (d : OperandValue) → i < length us → (k + i < length os) × (slice_index_or os (k + i) d ≡ slice_index_or us i d)
 
@@ -289,7 +289,7 @@ is_plain (Dividing w part signed to left right) read j r = inl read
 is_plain (Calling g to arguments) read j r = inr read
 is_plain o read j r = inl tt
 
--- and one that does ends its block
+-- an operation that branches or returns ends its block
 is_end : (o : Operation) (count : ℕ) → (is_jump o ≡ true) ⊎ (is_return o ≡ true) → wanted_by o ≤ count → IsEnd o count
 is_end GoTo count e w = omega arith
 is_end (BranchIf v) count e w = omega arith

@@ -48,17 +48,17 @@ enough [] i count less h = absurd (omega arith)
 enough (o ∷ os) zero count less h = leb-true _ _ h
 enough (o ∷ os) (suc i) count less h = enough os i count (omega arith) h
 
--- the instructions of a procedure are those of its operations
+-- each instruction of a procedure is its operation's
 pub insts_are : (p : Procedure) (i : ℕ) → i < length (function_of_procedure p).insts → IsInstOf (inst_at (function_of_procedure p) i)
     (operation_at (operations p) i)
 insts_are p i less = each_inst p.lines.items i (rw length-map at less)
 
--- whose virtual registers have numbers below the procedure's count
+-- an operation's virtual registers have numbers below the procedure's count
 pub registers_known : (p : Procedure) (i : ℕ) → i < length (function_of_procedure p).insts →
     list_all (λ o. nat_lt o.vreg.number p.num_vregs) (operands_of (operation_at (operations p) i)) ≡ true
 registers_known p i less = each_known p.num_vregs p.lines.items i p.known (rw length-map at less)
 
--- and its blocks have the successors that their last lines require
+-- the blocks of a procedure have the successors that their last lines require
 pub blocks_have : (p : Procedure) (b : ℕ) → b < length (function_of_procedure p).blocks → (block_at (function_of_procedure p) b).range.end - 1 < length
     (operations p).items →
     wanted_by (operation_at (operations p) ((block_at (function_of_procedure p) b).range.end - 1)) ≤ length (block_at (function_of_procedure p) b).succs

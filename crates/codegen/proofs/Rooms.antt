@@ -1,4 +1,4 @@
--- The frames of a module's code are those of its functions, and its stack stays in the room that they need.
+-- Each frame of a module's code is at most as large as its function needs, and the stack stays in the room that the frames need.
 use Rattle.std.proofs.Common.{ℕ, ◌≡◌, ◌≢◌, ◌+◌, ◌%◌, ◌<◌, ◌≤◌, true, false, List, [], ◌∷◌, length, Option, None, Some, inl, inr, refl, sym, ap, ◌∙◌, subst, arith}
 use Rattle.std.specs.Prelude.{slice_get, min}
 use Rattle.std.specs.Option.{option_map}

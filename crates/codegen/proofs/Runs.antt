@@ -14,7 +14,7 @@ IsOver Overflowed = Unit {0}
 IsOver Stuck = Unit {0}
 
 module _ (code : CodeValue) (args : ℕ → ℕ) where
-  -- The machine gets from the first state to the second in at least that many steps: the run from the second state is the rest of the run from the first.
+  -- The machine gets from the first state to the second in at least n steps: the run from the second state is the rest of the run from the first.
   pub record Comes (n : ℕ) (s t : MachineState) : Type 0 where
     pub by : (k : ℕ) → (j : ℕ) × (k + n ≤ j) × (machine_run code args j s ≡ machine_run code args k t)
 
@@ -44,12 +44,12 @@ module _ (code : CodeValue) (args : ℕ → ℕ) where
         (p.0, omega (arith, p.1, q.1), p.2 ∙ q.2);
   }
 
-  -- if it gets to a state, it still runs after that many steps
+  -- a run that gets to a state in n steps still runs after them
   pub runs_then : (n : ℕ) (s t : MachineState) → Comes n s t → (m : ℕ) × (n ≤ m) × (machine_run code args m s ≡ Running t)
   unfolding machine_run
   runs_then n s t c = let p : (j : ℕ) × (0 + n ≤ j) × (machine_run code args j s ≡ machine_run code args 0 t) = c.by 0 in (p.0, omega (arith, p.1), p.2)
 
-  -- and it ends as the run from that state does
+  -- a run that gets to a state ends as the run from there does
   pub ends_then : (n m : ℕ) (s t : MachineState) (o : RunOutcome MachineState) → Comes n s t → machine_run code args m t ≡ o →
       (j : ℕ) × (machine_run code args j s ≡ o)
   ends_then n m s t o c e = let p : (j : ℕ) × (m + n ≤ j) × (machine_run code args j s ≡ machine_run code args m t) = c.by m in (p.0, p.2 ∙ e)

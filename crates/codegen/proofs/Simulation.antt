@@ -104,7 +104,7 @@ module _ (f : FunctionValue) (ops : Operations) (out : OutputValue) (start : ℕ
   abbrev pub choice_of : State Place → Choice
   choice_of d = chosen args memory (op_of d) (found_reads f out stir d)
 
-  -- the code after the instruction, if that many others are left
+  -- the code after the instruction, if n others of its block are left
   abbrev pub behind : State Place → ℕ → List Instruction
   behind d n = items_code ops out (succs_of d) (d.at.block + 1) (listing_from out (block_at f d.at.block).range.first (d.at.inst + 1) n)
 
@@ -157,7 +157,7 @@ module _ (f : FunctionValue) (ops : Operations) (out : OutputValue) (start : ℕ
     end_clobbers (Calling g to arguments) count end r = absurd end
     end_clobbers o count end r = refl
 
-    -- and leaves memory as it is
+    -- a block's last operation leaves memory as it is
     end_leaves : (o : Operation) (count : ℕ) (xs : List ℕ) → IsEnd o count → left_of memory o xs ≡ memory
     end_leaves (Storing bytes address value) count xs end = absurd end
     end_leaves o count xs end = refl
@@ -311,7 +311,7 @@ module _ (f : FunctionValue) (ops : Operations) (out : OutputValue) (start : ℕ
     end_calm (Storing bytes address value) count xs end traps = end
     end_calm o count xs end traps = cc
 
-    -- and one that traps is a trap of the machine
+    -- a step of the interpreter that traps is a trap of the machine
     pub step_traps : (c : State VirtualRegister) (d : State Place) (s : MachineState) → At f ops out start code d s → s.memory ≡ memory →
         ReadAlike f out stir c d → (IsCall (op_of d) → ⊥) → traps_of memory (op_of d) (found_reads f out stir d) ≡ true →
         (j : ℕ) × (machine_run code args j s ≡ Trapped memory)

@@ -67,7 +67,7 @@ module _ (f : FunctionValue) (args : ℕ → ℕ) (memory : List ℕ) where
     numbers = passed_over f c.at w (left_by o os c.numbers);
   }
 
-  -- its step, by its operands
+  -- the interpreter's step, by the operands of its instruction
   abbrev step_by : State VirtualRegister → Operation → List OperandValue → Option (State VirtualRegister)
   step_by c o os = option_map (state_on c o os) (way_on f c.at (way_of o (reads_of os c.numbers)))
 
@@ -110,7 +110,7 @@ module _ (f : FunctionValue) (args : ℕ → ℕ) (memory : List ℕ) where
       (inside (is_within memory bytes (c.numbers address)) calm)
   plain_goes o c plain calm = absurd plain
 
-  -- and one that traps
+  -- a plain operation that traps
   plain_traps : (o : Operation) (c : State VirtualRegister) → IsPlain o → traps_of memory o (reads_of (operands_of o) c.numbers) ≡ true →
       done f args (Some o) (seen memory c) ≡ Trapped memory
   unfolding read_by

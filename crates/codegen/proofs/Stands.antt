@@ -12,7 +12,7 @@ use Rattle.codegen_machine.specs.Seen.{Operations}
 use Rattle.codegen_emit.specs.Emitted.{resolved, block_code, blocks_code, block_start}
 
 module _ (starts : ℕ → ℕ) (code : List Instruction) where
-  -- these instructions are at an address
+  -- the given instructions are at an address
   abbrev pub StandAt : ℕ → List Instruction → Type 0
   StandAt pc [] = Unit {0}
   StandAt pc (i ∷ is) = (slice_get code pc ≡ Some (resolved starts i)) × StandAt (pc + 1) is
@@ -22,7 +22,7 @@ module _ (starts : ℕ → ℕ) (code : List Instruction) where
   front_stands pc [] b h = tt
   front_stands pc (i ∷ a) b h = (h.0, front_stands (pc + 1) a b h.1)
 
-  -- and the rest follows it
+  -- the rest follows the first part
   pub back_stands : (pc : ℕ) (a b : List Instruction) → StandAt pc (a ++ b) → StandAt (pc + length a) b
   back_stands pc [] b h = let e : pc ≡ pc + 0 = omega arith in subst (λ n. StandAt n b) e h
   back_stands pc (i ∷ a) b h =

@@ -50,12 +50,12 @@ abbrev pub right_read : Right → ℕ → ℕ
 right_read (VReg v) n = n
 right_read (Given n) m = n
 
--- and a shift count
+-- a shift count: the number that was read last, or a constant
 abbrev pub count_read : Count → ℕ → ℕ
 count_read (CountIn v) n = n
 count_read (CountOf n) m = n
 
--- the number that an operation writes, from those that it reads, and from memory
+-- the number that an operation writes, from the numbers that it reads, and from memory
 abbrev pub value_of : (ℕ → ℕ) → List ℕ → Operation → List ℕ → ℕ
 value_of args memory (TakeArgument to k) xs = args k
 value_of args memory (TakeConstant to n) xs = n
@@ -124,7 +124,7 @@ pub left_long : (memory : List ℕ) (o : Operation) (xs : List ℕ) → length (
 left_long memory (Storing bytes address value) xs = bytes_long bytes memory (slice_index xs 0) (slice_index xs 1)
 left_long memory o xs = refl
 
--- the addresses of an access are those at which it lies in memory
+-- an access of `count` bytes at a lies in memory of `size` bytes exactly if a is below `size` + 1 - `count`
 below_count : (size count a : ℕ) → 0 < count → nat_lt a (size + 1 - count) ≡ nat_le (a + count) size
 below_count size count a some = ⊎_elim
     (λ t. lt-ltb a (size + 1 - count) (omega (arith, some, t.1)) ∙ sym t.0)
@@ -196,7 +196,7 @@ written_state s memory = record { pc = s.pc + 1; registers = s.registers; frame 
 abbrev pub compared_state : MachineState → ℕ → ℕ → MachineState
 compared_state s a b = record { pc = s.pc + 1; registers = s.registers; frame = s.frame; compared = Some (a, b); memory = s.memory }
 
--- and after a jump
+-- the state after a jump
 abbrev pub jump_state : MachineState → ℕ → MachineState
 jump_state s target = record { pc = target; registers = s.registers; frame = s.frame; compared = s.compared; memory = s.memory }
 
@@ -228,7 +228,7 @@ module _ (args : ℕ → ℕ) (starts : ℕ → ℕ) (code : CodeValue) (succs :
     pub stands : StandAt starts code.instructions to.pc rest
     pub same : to.memory ≡ memory
 
-  -- or has left memory as it was
+  -- the machine has executed an operation, and has left memory as it was
   abbrev pub Done : MachineState → (Place → ℕ) → Type 0
   Done s numbers = Leaves s s.memory numbers
 
@@ -510,7 +510,7 @@ module _ (args : ℕ → ℕ) (starts : ℕ → ℕ) (code : CodeValue) (succs :
       later (compared_state s x y) u 1 numbers refl (comes_by code args (JumpIf c (starts (slice_index succs 0))) (compared_state s x y) u h.0 acts)
       (enters (Jump (starts (slice_index succs 1))) u 1 numbers lt a h.1.0 refl)
 
-  -- or last
+  -- a branch, once numbers have been compared: the first successor's jump comes last
   inverted : (c : Condition) (s : MachineState) (x y : ℕ) (numbers : Place → ℕ) → 1 < length succs → Agree s.registers s.frame numbers →
       StandAt starts code.instructions (s.pc + 1) (JumpIf (opposite c) (slice_index succs 1) ∷ Jump (slice_index succs 0) ∷ rest) →
       (b : Bool) → condition_holds c x y ≡ b → Entered (compared_state s x y) (cond b 0 1) numbers

@@ -1,4 +1,4 @@
--- The registers that the allocator allocates are those of the target.
+-- The registers that the allocator allocates are the target's.
 use Rattle.std.proofs.Common.{ℕ, zero, suc, ◌≡◌, ◌<◌, Bool, true, false, List, [], ◌∷◌, None, refl, sym, ap, ◌∙◌, arith, ltb-true}
 use Rattle.std.specs.Prelude.{◌||◌, ◌&&◌, nat_lt, All}
 use Rattle.std.proofs.lemmas.Bool.{and_parts}

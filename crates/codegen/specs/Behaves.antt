@@ -15,7 +15,7 @@ pub record Beginning (size : ℕ) : Type 0 where
   pub numbers : VirtualRegister → ℕ
   pub stack : Stack
 
--- the module's outcome after that many steps from the start of function 0, and the code's
+-- the outcomes of the module and of its code after a number of steps from the start of function 0
 abbrev pub module_after : (m : Module) → Beginning m.memory_size → ℕ → RunOutcome ModuleState
 module_after m b n = further (module_begun (procedures_of m.procedures.items) b.numbers b.args b.memory)
     (module_run (procedures_of m.procedures.items) b.numbers n)

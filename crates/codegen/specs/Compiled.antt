@@ -23,6 +23,6 @@ pub record IsCodeOf (p : Procedure) (code : CodeValue) : Type 0 where
   pub alike : RunAlike (function_of_procedure p) out
   pub is : code ≡ emitted (operations p) (function_of_procedure p) out
 
--- the same for a function of a module, which keeps its name and the number of its arguments
+-- the code of a function of a module, which keeps its name and the number of its arguments
 abbrev pub IsNamedCodeOf : NamedProcedure → NamedCode → Type 0
 IsNamedCodeOf p c = IsCodeOf p.procedure (code_of c.code) × (c.arity ≡ p.arity) × (string_bytes c.name ≡ string_bytes p.name)

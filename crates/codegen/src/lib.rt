@@ -9,8 +9,8 @@
 //!
 //! A line's operation determines its operands and clobbers (`codegen_operation`). Where the
 //! processor has two-address instructions, the result reuses the register of the first number, and
-//! the second number is read from a register, a slot or an immediate. A 32-bit form is emitted as
-//! the same instructions with another width. A division reads its dividend from register 0, extends
+//! the second number is read from a register, a slot or an immediate. A 32-bit form is emitted as the
+//! same instructions with another width. A division reads its dividend from register 0, extends
 //! it into register 2, and writes quotient and remainder to these two: one is the result, the
 //! other's register is clobbered, and the divisor is read late. An access to memory is a guard, which
 //! compares the address with the number of addresses that the access has in a memory of the
@@ -72,8 +72,8 @@
 //! # The proof
 //!
 //! The interpreter over vregs makes the function's steps (`proofs/Source.antt`). The machine
-//! follows the interpreter over places: registers and slots hold the same numbers as the places,
-//! and the code of the rest of the block is at the machine's address (`proofs/Simulation.antt`).
+//! follows the interpreter over places: registers and slots hold the same numbers as the places, and
+//! the code of the rest of the block is at the machine's address (`proofs/Simulation.antt`).
 //! The lemma connects both. Memory is no place: function and machine have the same memory after
 //! each step (`proofs/Joined.antt`), so a load writes the same number on both sides.
 //!
@@ -90,7 +90,7 @@
 //! leaves in caller-saved registers what the callee left there (`proofs/Calling.antt`). A callee that
 //! never returns therefore adds no choice to its caller's. A run within a function is a run of its
 //! activation (`proofs/Activations.antt`), so the proofs of the other operations know nothing of the
-//! stack. The stack overflows only where the activations, which are those of the module's frames,
+//! stack. The stack overflows only where the activations, one for each of the module's frames,
 //! exceed its room; neither side depends on the other beyond that point. With an unlimited room
 //! nothing overflows, so the module is never stuck (`proofs/Behaving.antt`).
 //!
@@ -100,7 +100,7 @@
 //!
 //! Unused: that values are in their slots between blocks, that slots have owners, the bound 2^24 on
 //! their number, debug locations, and when nothing is spilled. A code generator that keeps other
-//! data in the frame, or describes it to a debugger, needs those.
+//! data in the frame, or describes it to a debugger, needs these guarantees.
 //!
 //! Not proved: that x86-64 runs the printed text as the machine runs the code.
 //! [`text`] has a spec of the text, and tests run it.

@@ -1,6 +1,6 @@
 //! Modules of functions over 64-bit integers from texts, and their code as assembly for x86-64.
 //!
-//! A line of a text has an operation. Letters, words, numbers, signs, comments and errors are those of `docs/TEXT.md`.
+//! A line of a text has an operation. Letters, words, numbers, signs, comments and errors are as in `docs/TEXT.md`.
 //! For example:
 //!
 //! ```text
@@ -73,8 +73,8 @@
 //!
 //! `load` reads the eight bytes of memory from an address on, the lowest first; `store` writes the
 //! number that comes second to the address that comes first. `32`, `16` and `8` stand for four, two
-//! and one bytes: a load clears the other bits, and a store writes the lower ones. An access traps,
-//! and changes nothing, unless all its bytes lie in memory. Memory has the size that the text's
+//! and one bytes: a load clears the other bits, and a store writes the lower ones. An access traps, and
+//! changes nothing, unless all its bytes lie in memory. Memory has the size that the text's
 //! first line gives, as in `memory 4096`, or else 0. The functions share it.
 //!
 //! `call` passes a function of the text, which may stand before or after it, as many numbers as it

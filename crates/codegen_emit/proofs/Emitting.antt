@@ -28,7 +28,7 @@ wider first end n (ListedMove m) le h = tt
 pub all_wider : (first end n : ℕ) (left : List Listed) → end ≤ n → All (IsListedWithin first end) left → All (IsListedWithin 0 n) left
 all_wider first end n left le h = λ k d less. wider first end n _ le (h k d less)
 
--- the next item, and those after it
+-- the next item, and the items after it
 pub next_within : (n : ℕ) (x : Listed) (left rest : List Listed) → All (IsListedWithin 0 n) left → left ≡ x ∷ rest →
     IsListedWithin 0 n x × All (IsListedWithin 0 n) rest
 next_within n x left rest h is =
@@ -46,7 +46,7 @@ unfolding passes_code
 one_pass whole code more n ps h grown =
     rw add-one (grown ∙ ap (λ xs. xs ++ pass_code n (place_at ps (n + 7))) h ∙ append_assoc whole (passes_code n ps) (pass_code n (place_at ps (n + 7))))
 
--- the most words that operations need, and those with one more
+-- the most words that operations need, and that operations with one more need
 pub no_words : 0 ≡ outgoing_words []
 unfolding outgoing_words
 no_words = refl
@@ -109,7 +109,7 @@ module _ (operations : Operations) (out : OutputValue) where
   pub no_start : (f : FunctionValue) → AreStarts f [] 0
   no_start f = record { long = refl; starts_at = λ k less. absurd (omega arith) }
 
-  -- and one more block
+  -- the position of one more block's first instruction
   pub one_start : (f : FunctionValue) (b : ℕ) (starts more : List ℕ) (code : List Instruction) (start : ℕ) → AreStarts f starts b →
       code ≡ blocks_code operations out f b → start ≡ length code → more ≡ starts ++ start ∷ [] → AreStarts f more (b + 1)
   one_start f b starts more code start s is at grown = record {

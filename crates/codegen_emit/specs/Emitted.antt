@@ -140,12 +140,12 @@ passed_from k (AtSlot j) = Load 0 j ∷ Pass k 0 ∷ []
 abbrev pub pass_code : ℕ → Place → List Instruction
 pass_code k p = passed_from k (machine_place p)
 
--- that many of them; the first operands of a call are its result and six arguments in registers
+-- passes a call's first arguments on the stack, as many as the number says; its first operands are its result and six arguments in registers
 unfoldable pub passes_code : ℕ → List Place → List Instruction
 passes_code zero places = []
 passes_code (suc n) places = passes_code n places ++ pass_code n (place_at places (n + 7))
 
--- a call with that many arguments
+-- a call with `count` arguments
 abbrev pub call_code : ℕ → ℕ → List Place → List Instruction
 call_code g count places = passes_code (count - 6) places ++ Call g ∷ []
 
@@ -196,7 +196,7 @@ module _ (operations : Operations) (out : OutputValue) where
   abbrev pub block_code : FunctionValue → ℕ → List Instruction
   block_code f b = items_code (block_at f b).succs (b + 1) (block_listing f out b)
 
-  -- that many blocks, from the first on
+  -- a number of blocks, from the first on
   unfoldable pub blocks_code : FunctionValue → ℕ → List Instruction
   blocks_code f zero = []
   blocks_code f (suc n) = blocks_code f n ++ block_code f n
@@ -218,7 +218,7 @@ unfoldable pub outgoing_words : List Operation → ℕ
 outgoing_words [] = 0
 outgoing_words (o ∷ os) = max (stack_arguments o) (outgoing_words os)
 
--- The code of an allocated function: its blocks, with jumps resolved, and a frame of those of its slots that aren't registers and of the words for the arguments
+-- The code of an allocated function: its blocks, with jumps resolved, and a frame of the slots that aren't registers and of the words for the arguments
 -- of its calls.
 abbrev pub emitted : Operations → FunctionValue → OutputValue → CodeValue
 emitted operations f out = record {

@@ -9,7 +9,7 @@ use Rattle.codegen_machine.specs.Machine.{is_general}
 use Rattle.codegen_emit.specs.declared.placement.MachinePlace.{MachinePlace}
 use Rattle.codegen_emit.specs.declared.placement.MachinePlace.TheVariants.{Register as AtRegister, Slot as AtSlot}
 
--- The registers that the allocator allocates: those that hold numbers and that a call may change, rax, rcx, rdx, and rsi to r11.
+-- The registers that the allocator allocates: the registers that hold numbers and that a call may change, rax, rcx, rdx, and rsi to r11.
 abbrev pub is_allocated : ℕ → Bool
 is_allocated r = is_general r && is_caller_saved r
 
@@ -23,7 +23,7 @@ place_in (r ∷ rs) (suc k) = place_in rs k
 abbrev pub slot_place : ℕ → MachinePlace
 slot_place = place_in (3 ∷ 5 ∷ 12 ∷ 13 ∷ 14 ∷ [])
 
--- how many slots the frame has for that many of the allocator's
+-- how many slots the frame has for n slots of the allocator's
 abbrev pub frame_slots : ℕ → ℕ
 frame_slots n = n - 5
 

@@ -388,7 +388,7 @@ fn emit_pass(code: &mut Vec<Instruction>, index: usize, from: Allocation) -> Res
     emit_pass_from(code, index, machine_place(from))
 }
 
-/// Passes that many arguments on the stack: the operands after the result and those in registers.
+/// Passes `count` arguments on the stack: the operands after the result and the arguments in registers.
 fn emit_passes(
     code: &mut Vec<Instruction>,
     count: usize,

@@ -32,7 +32,7 @@ fn slot_place(slot: usize) -> MachinePlace
     }
 }
 
-/// The number of slots in a frame for that many of the allocator's.
+/// Returns the number of slots in a frame for `slots` slots of the allocator's.
 pub fn frame_slots(slots: usize) -> usize
     ensures { result ≡ frame_slots slots }
 {

@@ -57,7 +57,7 @@ abbrev pub words_of : Option FunctionCode → ℕ
 words_of None = 0
 words_of (Some f) = let n = min f.arity 6 + f.code.slots + f.code.outgoing in 6 + (n + n % 2)
 
--- those of all activations, given their functions' numbers; and whether they exceed the room
+-- the words of all activations, given their functions' numbers; and whether a number of words exceeds the room
 unfoldable pub words_taken : List FunctionCode → List ℕ → ℕ
 words_taken functions [] = 0
 words_taken functions (g ∷ gs) = words_of (slice_get functions g) + words_taken functions gs
@@ -136,11 +136,11 @@ word_passed s k n = record {
   activations = s.activations;
 }
 
--- a register is put into an outgoing word, of that many
+-- a register is put into outgoing word k of `words`
 abbrev pub passed : ℕ → StackState → ℕ → ℕ → RunOutcome StackState
 passed words s k from = if nat_lt k words && is_general from then Running (word_passed s k (s.state.registers from)) else Stuck
 
--- one step: that of the current instruction of the running activation
+-- one step: the current instruction of the running activation
 module _ (functions : List FunctionCode) (stack : Stack) where
   -- a new activation of a function, if the stack has room for it
   abbrev pub activation_of : ℕ → (ℕ → ℕ) → List ℕ → List SuspendedActivation → ℕ → StackState
@@ -171,7 +171,7 @@ module _ (functions : List FunctionCode) (stack : Stack) where
   abbrev pub stack_step : StackState → RunOutcome StackState
   stack_step s = stack_step_in s (slice_get functions s.function)
 
-  -- that many steps
+  -- a number of steps
   unfoldable pub stack_run : ℕ → StackState → RunOutcome StackState
   stack_run zero s = Running s
   stack_run (suc n) s = further (stack_step s) (stack_run n)

@@ -71,7 +71,7 @@ frame_stepped s (Trapped memory) = Trapped memory
 frame_stepped s Overflowed = Overflowed
 frame_stepped s Stuck = Stuck
 
--- one step: that of the current line of the running frame; new frames hold the given numbers
+-- one step: the current line of the running frame; new frames hold the given numbers
 module _ (procedures : List Procedure) (fresh : VirtualRegister → ℕ) where
   abbrev pub frame_called : ModuleState → CallValue → RunOutcome ModuleState
   frame_called s c = frame_entered fresh c.function (λ k. slice_index (map (λ v. s.state.numbers v) c.arguments) k) s.state.memory
@@ -88,11 +88,11 @@ module _ (procedures : List Procedure) (fresh : VirtualRegister → ℕ) where
   abbrev pub module_step : ModuleState → RunOutcome ModuleState
   module_step s = step_in s (slice_get procedures s.procedure)
 
-  -- that many steps
+  -- a number of steps
   unfoldable pub module_run : ℕ → ModuleState → RunOutcome ModuleState
   module_run zero s = Running s
   module_run (suc n) s = further (module_run n s) module_step
 
-  -- that many steps from the beginning of procedure 0
+  -- the beginning of procedure 0
   abbrev pub module_begun : (ℕ → ℕ) → List ℕ → RunOutcome ModuleState
   module_begun args memory = frame_entered fresh 0 args memory [] (slice_get procedures 0)

@@ -23,11 +23,11 @@ pub record MachineState : Type 0 where
   pub compared : Option (ℕ × ℕ)
   pub memory : List ℕ
 
--- the registers that hold numbers: all sixteen but those that address the frame and memory
+-- the registers that hold numbers: all sixteen but the two that address the frame and memory
 abbrev pub is_general : ℕ → Bool
 is_general r = nat_lt r 15 && not (nat_eq r 4)
 
--- continues with the number in a register, in a slot of a frame with that many slots, or of any source; or with the numbers last compared
+-- continues with the number in a register, in a slot of a frame with `slots` slots, or of any source; or with the numbers last compared
 abbrev pub with_register : MachineState → ℕ → (ℕ → RunOutcome MachineState) → RunOutcome MachineState
 with_register s r go = if is_general r then go (s.registers r) else Stuck
 
@@ -59,7 +59,7 @@ frame_stored slots s k n =
 abbrev pub compared_to : MachineState → ℕ → ℕ → RunOutcome MachineState
 compared_to s a b = Running (record { pc = s.pc + 1; registers = s.registers; frame = s.frame; compared = Some (a, b); memory = s.memory })
 
--- Both results of a division of the number in register 0, which register 2 extends. It traps as the processor does.
+-- The state after a division of the number in register 0, which register 2 extends, with both results. A division traps as the processor does.
 abbrev pub parted : MachineState → Width → Bool → ℕ → MachineState
 parted s w signed b = record {
   pc = s.pc + 1;
@@ -100,7 +100,7 @@ memory_written s bytes a n =
 abbrev pub jumped : MachineState → ℕ → RunOutcome MachineState
 jumped s target = Running (record { pc = target; registers = s.registers; frame = s.frame; compared = s.compared; memory = s.memory })
 
--- the effect of an instruction within its function: a call leaves it, and so does an argument for one; the arguments are given by their numbers, and the frame has that many slots
+-- the effect of an instruction within its function: a call leaves it, and so does an argument for one; the arguments are given by their numbers, and the frame has `slots` slots
 abbrev pub executed : (ℕ → ℕ) → ℕ → Option Instruction → MachineState → RunOutcome MachineState
 executed args slots None s = Stuck
 executed args slots (Some (Constant to n)) s = written s to n s.compared
@@ -137,11 +137,11 @@ pub record CodeValue : Type 0 where
 abbrev pub code_of : Code → CodeValue
 code_of c = record { instructions = c.instructions.items; slots = c.slots; outgoing = c.outgoing }
 
--- one step: that of the current instruction
+-- one step: the current instruction
 abbrev pub machine_step : CodeValue → (ℕ → ℕ) → MachineState → RunOutcome MachineState
 machine_step code args s = executed args code.slots (slice_get code.instructions s.pc) s
 
--- that many steps
+-- a number of steps
 unfoldable pub machine_run : CodeValue → (ℕ → ℕ) → ℕ → MachineState → RunOutcome MachineState
 machine_run code args zero s = Running s
 machine_run code args (suc n) s = further (machine_step code args s) (machine_run code args n)

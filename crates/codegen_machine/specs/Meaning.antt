@@ -26,7 +26,7 @@ pub record ProcedureState : Type 0 where
 abbrev pub onward : ProcedureState → VirtualRegister → ℕ → RunOutcome ProcedureState
 onward s v n = Running (record { at = record { block = s.at.block; inst = s.at.inst + 1 }; numbers = number_set s.numbers v n; memory = s.memory })
 
--- the same, with memory written
+-- continues at the block's next line, with memory written
 abbrev pub stored : ProcedureState → List ℕ → RunOutcome ProcedureState
 stored s memory = Running (record { at = record { block = s.at.block; inst = s.at.inst + 1 }; numbers = s.numbers; memory = memory })
 
@@ -77,11 +77,11 @@ done f args (Some (BranchIfHolds w c left right)) s =
     along f s (if condition_holds c (widened w (s.numbers left)) (widened w (right_number s.numbers right)) then 0 else 1)
 done f args (Some (Return v)) s = Returned (s.numbers v) s.memory
 
--- one step: that of the current line
+-- one step: the current line
 abbrev pub procedure_step : FunctionValue → Operations → (ℕ → ℕ) → ProcedureState → RunOutcome ProcedureState
 procedure_step f operations args s = done f args (slice_get operations.items s.at.inst) s
 
--- that many steps
+-- a number of steps
 unfoldable pub procedure_run : FunctionValue → Operations → (ℕ → ℕ) → ℕ → ProcedureState → RunOutcome ProcedureState
 procedure_run f operations args zero s = Running s
 procedure_run f operations args (suc n) s = further (procedure_run f operations args n s) (procedure_step f operations args)

@@ -16,7 +16,7 @@ procedures_of ps = map (λ p. p.procedure) ps
 abbrev pub arities_of : List NamedProcedure → List ℕ
 arities_of ps = map (λ p. p.arity) ps
 
--- a function with that arity, if there is one, takes that many arguments
+-- the function exists, and takes `count` arguments
 abbrev pub takes : Option ℕ → ℕ → Bool
 takes None count = false
 takes (Some arity) count = nat_eq arity count

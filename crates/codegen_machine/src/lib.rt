@@ -2,7 +2,7 @@
 //! machine, its target.
 //!
 //! The intermediate representation has functions over 64-bit integers, in blocks with parameters,
-//! and modules of them. Its lines are those of `codegen_operation`. `specs/Meaning.antt` interprets
+//! and modules of them. Its lines are of `codegen_operation`. `specs/Meaning.antt` interprets
 //! a function, step by step, and `specs/Frames.antt` a module.
 //!
 //! The machine has sixteen registers and a frame of slots, and two-address instructions. Registers
@@ -185,7 +185,7 @@ pub enum Instruction {
     },
     /// Jumps to an instruction.
     Jump {
-        /// Its number.
+        /// The number of the instruction.
         target: usize,
     },
     /// Jumps to an instruction if the numbers last compared meet a condition.

@@ -12,11 +12,11 @@ use std::fmt;
 /// A function of a module.
 #[derive(Drop)]
 pub struct NamedProcedure {
-    /// Its name.
+    /// The name of the function.
     pub name: String,
     /// How many arguments a call passes to it.
     pub arity: usize,
-    /// Its blocks and lines.
+    /// The blocks and lines of the function.
     pub procedure: Procedure,
 }
 
@@ -160,7 +160,7 @@ fn all_call_functions(procedures: &[NamedProcedure]) -> bool
 }
 
 impl Module {
-    /// Returns the module of these functions, which share a memory of that many bytes.
+    /// Returns the module of `procedures`, which share a memory of `memory_size` bytes.
     ///
     /// # Errors
     ///

@@ -14,13 +14,13 @@ use std::fmt;
 /// A block of lines.
 #[derive(Drop)]
 pub struct Part {
-    /// The numbers of its lines.
+    /// The numbers of the block's lines.
     pub range: InstRange,
-    /// Its successors.
+    /// The successors of the block.
     pub succs: Vec<Block>,
-    /// Its predecessors.
+    /// The predecessors of the block.
     pub preds: Vec<Block>,
-    /// Its parameters.
+    /// The parameters of the block.
     pub params: Vec<VReg>,
     /// The arguments for each successor.
     pub arguments: Vec<Vec<VReg>>,
@@ -29,9 +29,9 @@ pub struct Part {
 /// A function over 64-bit integers. It starts at block 0.
 #[derive(Drop)]
 pub struct Procedure {
-    /// Its blocks.
+    /// The blocks of the function.
     pub parts: Vec<Part>,
-    /// Its lines.
+    /// The lines of all blocks.
     pub lines: Vec<Line>,
     /// A bound above the number of each virtual register.
     pub num_vregs: usize,
@@ -184,7 +184,7 @@ impl Procedure {
         })
     }
 
-    /// Returns the function with a memory of that many bytes.
+    /// Returns the function with a memory of `memory_size` bytes.
     ///
     /// # Errors
     ///

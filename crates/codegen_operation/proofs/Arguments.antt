@@ -10,7 +10,7 @@ arguments_none : (rs : List ℕ) → arguments_in rs [] ≡ []
 unfolding arguments_in
 arguments_none rs = refl
 
--- that many arguments, and one more
+-- k arguments, and one more
 arguments_next : (rs : List ℕ) (vs : List VirtualRegister) (k : ℕ) (d : VirtualRegister) → k < length vs →
     arguments_in rs (take k vs) ++ argument_in (slice_get rs k) (get_or vs k d) ∷ [] ≡ arguments_in rs (take (k + 1) vs)
 unfolding arguments_in

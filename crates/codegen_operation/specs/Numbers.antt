@@ -35,7 +35,7 @@ abbrev pub at_width : Width → ℕ → ℕ
 at_width Full n = n
 at_width Half n = n % 2 ^ 32
 
--- the same bits, sign-extended to 64, which keeps the unsigned order and the signed order
+-- the bits of a number at a width, sign-extended to 64, which keeps the unsigned order and the signed order
 abbrev pub widened : Width → ℕ → ℕ
 widened Full n = n
 widened Half n = if nat_lt (n % 2 ^ 32) (2 ^ 31) then n % 2 ^ 32 else n % 2 ^ 32 + (2 ^ 64 - 2 ^ 32)

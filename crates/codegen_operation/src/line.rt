@@ -31,11 +31,11 @@ const REMAINDER_REGISTER: usize = 2;
 /// A line, with its operands and clobbers for the allocator.
 #[derive(Drop)]
 pub struct Line {
-    /// Its operation.
+    /// The operation of the line.
     pub operation: Operation,
-    /// Its operands: the vregs it reads and writes, with their constraints.
+    /// The operands: the vregs that the line reads and writes, with their constraints.
     pub operands: Vec<Operand>,
-    /// Its clobbers.
+    /// The registers that the line overwrites besides.
     pub clobbers: PRegSet,
     pub ghost agree: { operands.items ≡ operands_of operation } by { operands-once operands.items operation },
     pub ghost overwrites: { (r : Register) → has_register clobbers r ≡ is_lost_in operation r } by { Prim.hlevel props },

@@ -5,11 +5,11 @@ use regalloc2_names::VReg;
 /// An operator on two numbers, modulo 2^64 or 2^32.
 #[derive(Clone, Copy)]
 pub enum Operator {
-    /// Their sum.
+    /// The sum of the numbers.
     Add,
-    /// Their difference.
+    /// The difference of the numbers.
     Sub,
-    /// Their product.
+    /// The product of the numbers.
     Mul,
     /// The bits set in both.
     And,

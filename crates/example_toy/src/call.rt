@@ -2,7 +2,7 @@
 //! and without any.
 //!
 //! Integers go to `rdi`, `rsi`, `rdx`, `rcx`, `r8` and `r9`, floats to `xmm0` up to `xmm7`, and what is left to the stack, from `[rsp]`
-//! on. The slots of the frame are those at `[rsp]`, `[rsp + 8]` and so on, of which the first ones are kept for such arguments.
+//! on. The slots of the frame are at `[rsp]`, `[rsp + 8]` and so on, of which the first ones are kept for such arguments.
 
 ghost use Rattle.std.specs.Prelude.{◌≤◌, IfOk};
 
@@ -34,7 +34,7 @@ fn arguments() -> [(RegClass, Allocation); 11] {
 /// The first slot of two that the moves may use.
 const SPARE_SLOT: usize = 7;
 
-/// What may be used for the moves of a class, if those registers of all classes are free.
+/// Returns what may be used for the moves of `class`, if the registers `free` are free.
 fn frame_of(alloc: Global, class: RegClass, free: &[PReg]) -> Result<CallFrame, AllocError>
     ensures range { IfOk result (λ f. f.slots.start ≤ f.slots.«end») }
     ensures small { IfOk result (λ f. f.slots.«end» ≤ 16777216) }
@@ -89,7 +89,7 @@ fn write_moves<W: Write>(
     }
 }
 
-/// Writes the call, if those registers are free.
+/// Writes the call, if the registers `free` are free.
 ///
 /// A move of one class neither reads nor writes what a move of the other class writes: arguments go to the first slots, and come from
 /// others. Therefore the classes follow one another.

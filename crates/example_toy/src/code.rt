@@ -37,7 +37,7 @@ pub struct Line {
 /// A block of lines.
 #[derive(Drop)]
 pub struct Part {
-    /// Its lines, by their numbers.
+    /// The numbers of the block's lines.
     pub range: InstRange,
     /// The blocks that may follow.
     pub succs: Vec<Block>,
@@ -52,9 +52,9 @@ pub struct Part {
 /// A program. It starts at block 0.
 #[derive(Drop)]
 pub struct Code {
-    /// Its blocks.
+    /// The blocks of the program.
     pub parts: Vec<Part>,
-    /// Its lines.
+    /// The lines of all blocks.
     pub lines: Vec<Line>,
     /// A number above that of each vreg.
     pub num_vregs: usize,

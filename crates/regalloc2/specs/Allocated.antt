@@ -34,7 +34,7 @@ IsAllocateReason f env (Refused r) = MachineFits f env × IsReason f env true r
 IsAllocateReason f env (Faults es) = MachineFits f env × IsCheckedReason f env true (RunFaults es)
 IsAllocateReason f env Unjudged = MachineFits f env × PassesAllChecks f env true
 
--- the same without the checker
+-- the reason that an error gives where the checker isn't run
 abbrev pub IsTestedReason : {A : Type 0} → FunctionValue → MachineValue → AllocateError A → Type 0
 IsTestedReason f env (Misfit m) = IsMisfit f env m × (MachineFits f env → ⊥)
 IsTestedReason f env (Refused r) = MachineFits f env × IsReason f env true r

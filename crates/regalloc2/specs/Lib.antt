@@ -1,4 +1,4 @@
--- Definitions for the entry points, and those of the crates below that contracts name: a client lists no other crate.
+-- Definitions for the entry points, and definitions of the crates below that contracts name: a client lists no other crate.
 -- Read first: `Accepted`: the checker accepts what the allocator guarantees; `Allocated` and `Judged`: errors; `ErrorTexts`: their texts.
 -- Depends on regalloc2_fastalloc (`Promise`, `ErrorReason`) and regalloc2_checker (`Report`).
 pub mod Accepted
@@ -96,7 +96,7 @@ pub use Rattle.regalloc2_serialize.specs.Flat.Columns.Kept
 pub use Rattle.regalloc2_serialize.specs.Flat.Columns.Layout
 pub use Rattle.regalloc2_serialize.specs.Flat.Columns.Sound
 pub use Rattle.regalloc2_serialize.specs.Flat.Columns.Value
--- and the types that they match on
+-- the types that the definitions match on
 pub use Rattle.regalloc2_names.specs.declared.RegClass
 pub use Rattle.regalloc2_names.specs.declared.OperandConstraint
 pub use Rattle.regalloc2_names.specs.declared.OperandKind

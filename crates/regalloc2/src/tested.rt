@@ -179,7 +179,7 @@ pub fn allocate_without_checker<A: Allocator + Copy, F: Function, B: Allocator>(
 /// Allocates registers to any function for any machine, and tests all that the guarantees of
 /// [`run`] rest on.
 ///
-/// It tests that the machine fits the function, as [`test_machine`] does, makes a `run` with all
+/// Tests that the machine fits the function, as [`test_machine`] does, makes a `run` with all
 /// tests of the function, and tests by [`reads_written`] whether some path from the entry reads or
 /// passes a vreg before writing it. So nothing is left to assume: the output runs as the function
 /// does, along every path and whatever the instructions compute. Where a path enters a block, the

@@ -40,8 +40,8 @@ pub struct LiveRange {
     /// the point before the instruction that follows its definition.
     pub last: ProgPoint,
     /// The operand whose place shows the value up to the last point: the first of the last use's instruction that reads it
-    /// late, or where none does the first that reads it early. None where that instruction passes it as an argument
-    /// and doesn't read it. Where nothing uses it, the operand that defines it.
+    /// late, or where none does the first that reads it early. None where that instruction passes it as an argument and
+    /// doesn't read it. Where nothing uses it, the operand that defines it.
     pub by: Option<InstOperand>,
 }
 

@@ -2,7 +2,7 @@
 //! one time costs.
 //!
 //! Arguments: the task, and how many times. `allocate` allocates without testing that the function
-//! is well-formed, `test` with those tests, `check` checks the output, `reads` tests whether reads
+//! is well-formed, `test` with the tests, `check` checks the output, `reads` tests whether reads
 //! come after writes, `tree` tests the same by the dominator tree and one search alone, which fails
 //! where they leave it open, and `tested` is `run_tested`. The function is read from the standard
 //! input. Or `callmoves-cycle` or `callmoves-swaps`, how many times, and of how many moves: a call's

@@ -51,7 +51,7 @@ const TESTED: RegallocOptions = RegallocOptions {
     algorithm: Algorithm::Fastalloc,
 };
 
-/// To allocate without those tests.
+/// To allocate without the tests of a well-formed function.
 const UNTESTED: RegallocOptions = RegallocOptions {
     validate_ssa: false,
     algorithm: Algorithm::Fastalloc,

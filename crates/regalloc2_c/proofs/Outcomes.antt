@@ -67,7 +67,7 @@ refused_as f env (RunRefused r) h = (h.0, h.1)
 refused_as f env (RunFaults es) h = tt
 refused_as f env Unjudged h = tt
 
--- or what was allocated isn't faithful
+-- where something was allocated, why it isn't faithful
 faulty : (f : FunctionValue) (env : MachineValue) (out : OutputValue) (e : Failure) → IsAllocation f env out → (v : Vec ℕ) → e ≡ Faults v →
     ((IsInOrder f out → ⊥) × (v.items ≡ malformed_words))
     ⊎ (IsInOrder f out × (IsFaithful f env out → ⊥) × (es : List (CheckerError Global)) × IsReport f env out es × (v.items ≡ faults_words f out es)) →

@@ -7,8 +7,8 @@
 -- `EvictPReg` adds fixed stack slots, whose reload goes through a scratch register (`evicts_preg_step`, `evicts_other_vregs_step`);
 -- `EvictKeepsRecord` puts either into the record; `EvictFixed` does so for all fixed registers, which their operands
 -- then claim (`evicts_fixed_done`). Clobbers are evicted in `Inst/BoundaryToFirstOperand`, by `ready_evicts_preg`.
--- `FixedAvoidClobbers` gives its premise for well-formed instructions. `EvictClobbers`, `FixedUsed`, `NewestLeaves`
--- and `PushedAndRemoved` serve other crates: no file here imports them.
+-- `FixedAvoidClobbers` gives its premise for well-formed instructions. `EvictClobbers`, `FixedUsed`, `NewestLeaves` and
+-- `PushedAndRemoved` serve other crates: no file here imports them.
 pub mod EvictClobbers
 pub mod EvictFixed
 pub mod EvictKeepsRecord

@@ -9,8 +9,8 @@
 -- `BlockObligations` adds the block's start and its last instruction (`block_owes`). `FunctionLaws` is what all of them
 -- require of the function. `BlockCarries` puts these together (`block_carries`), with `DefsBeforeUses` for what other
 -- blocks read; `AllBlocksCarry` takes all blocks. `BranchesPlaceDefs` says where branches leave what they define.
--- `InstBoundaries` says what holds between any two instructions and at block ends; `InstsCarry` has the fresh state
--- and the list of places. `UsesReadOwnDefs` and `ListParts` serve contracts of the code: no file of this folder
+-- `InstBoundaries` says what holds between any two instructions and at block ends; `InstsCarry` has the fresh state and
+-- the list of places. `UsesReadOwnDefs` and `ListParts` serve contracts of the code: no file of this folder
 -- imports them. `WholeWalk` is what the last lemmas are about.
 pub mod AllBlocksCarry
 pub mod BlockCarries

@@ -1,7 +1,7 @@
 //! The walk over all blocks, from the last to the first, and over the instructions of each.
 //!
-//! The walk goes backward: when it reaches an instruction, all later uses of each vreg are known,
-//! and one place for each vreg is all that it has to remember. The first use that the walk meets
+//! The walk goes backward: when it reaches an instruction, all later uses of each vreg are known, and
+//! one place for each vreg is all that it has to remember. The first use that the walk meets
 //! gives the vreg its location; a move from there fills the place of each other use, before its
 //! instruction; and the definition, which the walk meets last, brings the value there. Therefore
 //! liveness needs no analysis of its own, and no instruction is visited twice.

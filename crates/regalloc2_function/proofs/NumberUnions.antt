@@ -130,7 +130,7 @@ pub none_left : (base bits : ℕ) (words : List (ℕ × ℕ)) → bits ≡ 0 →
 unfolding numbers_of_set
 none_left base bits words z e = rw (bits_of-zero bits z, e) refl
 
--- where no bits of the last word are left, the numbers left are those of the next word and then of the words after it
+-- where no bits of the last word are left, the numbers of the next word are left, then the numbers of the words after it
 pub next_word : (base bits key word : ℕ) (words rest : List (ℕ × ℕ)) (whole : List ℕ) → bits ≡ 0 → words ≡ (key, word) ∷ rest
     → map (λ b. base + b) (bits_of bits) ++ numbers_of_set words ≡ whole → map (λ b. key * 64 + b) (bits_of word) ++ numbers_of_set rest ≡ whole
 unfolding numbers_of_set

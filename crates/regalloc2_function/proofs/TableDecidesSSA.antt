@@ -27,7 +27,7 @@ same_vreg a b n c = ap (λ (x : ℕ). record { number = x; class = a.class }) n 
 wider : (n num : ℕ) (ds : List DefinitionSite) → n ≤ num → AreSingle n ds → AreSingle num ds
 wider n num ds le h m = let s = h m in (s.0, λ some. let low = s.1 some in omega (arith, le, low))
 
--- one of these definitions has a number that they define
+-- a number that definitions define has a definition among them
 among_some : (ds : List DefinitionSite) (m : ℕ) → 0 < definitions_among ds m → (d : DefinitionSite) × Contains ds d × (d.vreg.number ≡ m)
 among_some [] m h = absurd (omega (arith, h))
 among_some (d ∷ ds) m h =

@@ -1,6 +1,6 @@
 -- The run of the allocated program: who wrote each place last.
--- Moves run where upstream's `OutputIter` lists them; operands are read and written as its `OperandPos` says. That a move copies absence,
--- and that early definitions empty their places before early uses are read, is this project's own choice.
+-- Moves run where upstream's `OutputIter` lists them; operands are read and written as its `OperandPos` says. That a move copies absence, and
+-- that early definitions empty their places before early uses are read, is this project's own choice.
 use Rattle.std.specs.Prelude.{ℕ, ◌+◌, ◌&&◌, not, if◌then◌else◌, List, [], ◌∷◌, length, Option, None, Some}
 use Rattle.regalloc2_names.specs.declared.sets.PRegSet.{PRegSet}
 use Rattle.regalloc2_names.specs.Operand.{OperandValue, is_def, is_late}

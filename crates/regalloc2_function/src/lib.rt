@@ -41,7 +41,7 @@ pub use serialize::{StoredFault, StoredOutput};
 /// Nothing else is required: a call that needs blocks to follow one another, or uses to be defined,
 /// tests it.
 ///
-/// Names and arguments are those of upstream's trait `Function`.
+/// Names and arguments are as in upstream's trait `Function`.
 pub trait Function {
     /// The function that all calls agree on.
     ghost function: { Self → FunctionValue };
@@ -108,7 +108,7 @@ pub trait Function {
         requires { inst < length (function self.now).insts }
         ensures { result.now ≡ (inst_at (function self.now) inst).operands };
 
-    /// The registers that an instruction overwrites, besides those of its operands.
+    /// Returns the registers that an instruction overwrites, besides the registers of its operands.
     fn inst_clobbers(&self, inst: Inst) -> PRegSet
         requires { inst < length (function self.now).insts }
         ensures { result ≡ (inst_at (function self.now) inst).clobbers };

@@ -40,7 +40,7 @@ impl Edit {
 
 /// The output of an allocation.
 ///
-/// Fields and names are those of upstream's `Output`, without its statistics.
+/// Fields and names are as in upstream's `Output`, without its statistics.
 #[derive(Debug, Drop)]
 pub struct Output<A: Allocator = Global> {
     /// How many units the spill slots take.

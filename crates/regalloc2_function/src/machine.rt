@@ -22,7 +22,7 @@ use std::alloc::{Allocator, Global};
 
 /// The registers of a machine, by class: integer, float and vector registers in this order.
 ///
-/// Fields and names are those of upstream's `MachineEnv`.
+/// Fields and names are as in upstream's `MachineEnv`.
 #[derive(Debug, Drop)]
 pub struct MachineEnv<A: Allocator = Global> {
     /// The registers of each class that are allocated first.
@@ -284,8 +284,8 @@ fn test_class<F: Function, A: Allocator>(
 /// Tests that a machine fits a function, as an allocation requires, and returns the first condition
 /// that fails.
 ///
-/// Each class's registers, its scratch register too, are of the class; preferred, non-preferred
-/// and scratch registers and fixed stack slots are apart, and none is `PReg::invalid()`; and each
+/// Each class's registers, its scratch register too, are of the class; preferred, non-preferred and
+/// scratch registers and fixed stack slots are apart, and none is `PReg::invalid()`; and each
 /// class of which an operand, a parameter or an argument names a vreg has a register to allocate.
 /// The same slot may be listed twice among the fixed stack slots. Arguments of a block that is
 /// empty or not within the instructions don't count, nor do operands that name a register which is

@@ -72,7 +72,7 @@ module _ {T X : Type 0} (s : Place) (fresh : s ≢ NoPlace) where
       q n real)
       (cases_place m.1 NoPlace)
 
--- then each move is from a place to a place
+-- each filled move is from a place to a place
 pub fills_real : {T : Type 0} (s : Place) → s ≢ NoPlace → (ms : List (Place × Place × T)) → AreBetweenPlaces (map (filled s) ms)
 fills_real {T} s fresh ms k d r =
     let many : length (map (filled s) ms) ≡ length ms = length-map ms (filled s) in

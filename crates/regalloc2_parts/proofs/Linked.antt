@@ -56,7 +56,7 @@ unfolding Leads
 prev_kept ns ps a [] b i v h l e = (h.0, apart ps i b v e ∙ h.1)
 prev_kept ns ps a (x ∷ xs) b i v h l e = (h.0, apart ps i x v l.0 ∙ h.1, prev_kept ns ps x xs b i v h.2 l.1 e)
 
--- one more before the end
+-- one more number `x` before the end
 ended : (ns ps : List ℕ) (a : ℕ) (xs : List ℕ) (x b : ℕ) → Leads ns ps a xs x → slice_index ns x ≡ b → slice_index ps b ≡ x → Leads ns ps a (xs ++ x ∷ []) b
 unfolding Leads
 ended ns ps a [] x b h e f = (h.0, h.1, (e, f))
@@ -139,7 +139,7 @@ retargeted ns ps a (x ∷ xs) b p l h d lp el fl fp =
       retargeted ns ps x xs b p l h.2 (IsDistinct-tail nat_eq a (x ∷ xs) d) lp.1 el fl fp,
     )
 
--- one more, between the last of a ring and its head
+-- one more number p, between the last of a ring and its head
 pub appended : (ns ps : List ℕ) (h : ℕ) (xs : List ℕ) (p l : ℕ) → Leads ns ps h xs h → IsDistinct nat_eq (h ∷ xs) → LacksNumber p (h ∷ xs) →
     slice_index ps h ≡ l → l < length ns → p < length ns → p < length ps → h < length ps →
     Leads (slice_set (slice_set ns l p) p h) (slice_set (slice_set ps p l) h p) h (xs ++ p ∷ []) h
@@ -166,7 +166,7 @@ pub record HaveLinks (ns ps : List ℕ) (a v r : ℕ) : Type 0 where
   pub prev : v < length ps
   pub to_prev : r < length ps
 
--- one more, between the beginning and the first
+-- one more number v, between the beginning and the first
 pub inserted : (ns ps : List ℕ) (a : ℕ) (xs : List ℕ) (b v r : ℕ) → Leads ns ps a xs b → LacksNumber a xs → LacksNumber b xs → IsDistinct nat_eq xs →
     IsApart a xs b v → slice_index ns a ≡ r → HaveLinks ns ps a v r →
     Leads (slice_set (slice_set ns v r) a v) (slice_set (slice_set ps r v) v a) a (v ∷ xs) b

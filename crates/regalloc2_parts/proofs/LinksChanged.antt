@@ -13,7 +13,7 @@ at_most_one : (b : Bool) → cond b 0 1 ≤ 1
 at_most_one true = omega arith
 at_most_one false = omega arith
 
--- one write changes one at most
+-- one write changes one number at most
 pub changed-set : (xs : List ℕ) (i v : ℕ) → changed xs (slice_set xs i v) ≤ 1
 unfolding changed
 changed-set [] i v = omega arith

@@ -101,7 +101,7 @@ found_last test ring (Some r) e =
     let h = found test (reverse ring) (Some r) e in
     (h.0, Contains-permutation (reverse ring) ring r (IsPermutation-sym ring (reverse ring) (IsPermutation-reverse ring)) h.1)
 
--- one that is found is in the ring
+-- a register that is found is in the ring
 pub if_found : (test : Register → Bool) (ring : List Register) (res : Option Register) → res ≡ find test (reverse ring) → IfSome res (λ r. Contains ring r)
 if_found test ring None e = tt
 if_found test ring (Some r) e = (found_last test ring (Some r) e).1

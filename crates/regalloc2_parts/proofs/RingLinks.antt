@@ -107,7 +107,7 @@ neighbours_fit nodes h p d ring mem other =
 pub head_kept : (h : ℕ) (xs : List ℕ) (p : ℕ) → p ≢ h → without p (h ∷ xs) ≡ h ∷ without p xs
 head_kept h xs p d = let e : nat_eq p h ≡ false = differs p h (λ s. d (sym s)) in rw e refl
 
--- one less
+-- one number less
 pub node_removed : (old new : List LruNode) (h p : ℕ) (d : LruNode) → IsNodeRing old h → Contains (ring_numbers old h) p → p ≢ h →
     lru_nexts new ≡ slice_set (lru_nexts old) (slice_index_or old p d).prev (slice_index_or old p d).next →
     lru_prevs new ≡ slice_set (lru_prevs old) (slice_index_or old p d).next (slice_index_or old p d).prev →

@@ -164,7 +164,7 @@ pub record AreLinkedTo (old new : List VRegNode) (from to : ℕ) : Type 0 where
   pub prevs : prevs new ≡ slice_set (prevs old) to from
   pub vregs : vregs new ≡ vregs old
 
--- one more, behind the head
+-- one more vreg in the list, behind the head
 pub node_inserted : (old written mid new : List VRegNode) (h k : ℕ) (vreg : VirtualRegister) (d : VRegNode) → IsVRegList old h → k ≡ vreg.number → k < h →
     All (λ n. n ≢ k) (vreg_ring_numbers old h) → IsWritten old written k vreg → AreLinkedTo written mid k (slice_index_or old h d).next →
     AreLinkedTo mid new h k →
@@ -199,7 +199,7 @@ changes_written old written new k vreg m w h =
     subst (λ l. changed l (nexts new) + changed (prevs old) (prevs new) ≤ m) w.nexts_same
     (subst (λ l. changed (nexts written) (nexts new) + changed l (prevs new) ≤ m) w.prevs_same h)
 
--- one less
+-- the order of two numbers doesn't matter to a test whether they are equal
 symmetric : (m n : ℕ) → nat_eq m n ≡ nat_eq n m
 symmetric m n = by_answer (nat_eq m n) refl
   where

@@ -71,7 +71,7 @@ abbrev pub IsHanding : {F G : Type 0} → (F → Option Place → F → Type 0) 
 IsHanding registers slots f f' g g' (Register p) = registers f (Some p) f' × (g' ≡ g)
 IsHanding registers slots f f' g g' (Slot p) = registers f None f' × slots g (Some p) g'
 
--- neither was returned
+-- neither a register nor a slot was returned
 abbrev pub IsRefusing : {F G : Type 0} → (F → Option Place → F → Type 0) → (G → Option Place → G → Type 0) → F → F → G → G → Type 0
 IsRefusing registers slots f f' g g' = registers f None f' × slots g None g'
 

@@ -66,7 +66,7 @@ pub record IsOrderedWith (l : ScratchPool) (taken : ℕ) (given made : Moves) : 
       ⊎ (IsScratchTaken l.slots taken p ⊎ (p ≡ InRegister l.borrowed))) given)
       made
 
--- one of the two is missing
+-- the first or the second slot of the pair is missing
 abbrev pub HasTooFewSlots : ScratchPair → Type 0
 HasTooFewSlots pair = (pair.first ≡ None) ⊎ (pair.second ≡ None)
 

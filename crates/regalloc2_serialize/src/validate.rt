@@ -226,7 +226,7 @@ fn are_operands(words: &[u64]) -> bool
 }
 
 impl<A: Allocator> StoredInst<A> {
-    /// Whether the numbers of operands encode operands, and those of clobbers are indexes of registers.
+    /// Returns whether the numbers of operands encode operands, and the numbers of clobbers are indexes of registers.
     fn names_operands(&self) -> bool
         ensures { IsTrue result ↔ NamesOperands self.now }
     {

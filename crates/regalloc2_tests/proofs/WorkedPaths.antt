@@ -60,7 +60,7 @@ the_loop = with_blocks
     ((v 3 ∷ v 2 ∷ []) ∷ []) ∷ block 6 7 [] [] [] ∷ [])
     (op (def_reg 0 ∷ []) ∷ op (def_reg 1 ∷ []) ∷ op [] ∷ op (use_reg 2 ∷ []) ∷ op [] ∷ op [] ∷ op (use_reg 2 ∷ use_reg 3 ∷ []) ∷ [])
 
--- its output, but for the moves at the branch back
+-- the output for the loop, but for the moves at the branch back
 abbrev moved_back_by : List (ℕ × MoveValue) → OutputValue
 moved_back_by moves = record {
   num_spillslots = 4;
@@ -76,7 +76,7 @@ abbrev the_output : OutputValue
 the_output = moved_back_by
     (move (before 5) (InSlot 0) (p 7) ∷ move (before 5) (InSlot 1) (p 6) ∷ move (before 5) (p 6) (InSlot 0) ∷ move (before 5) (p 7) (InSlot 1) ∷ [])
 
--- one of the slots is copied before the other one is read
+-- slot 1 is copied to slot 0 before slot 0 is read
 abbrev one_after_another : OutputValue
 one_after_another = moved_back_by
     (move (before 5) (InSlot 1) (p 6) ∷ move (before 5) (p 6) (InSlot 0) ∷ move (before 5) (InSlot 0) (p 7) ∷ move (before 5) (p 7) (InSlot 1) ∷ [])
@@ -104,13 +104,13 @@ source_return : source_read the_loop to_return (use_reg 2) ∷ source_read the_l
 unfolding source_before after_defs passed over_edge
 source_return = refl
 
--- its output reads the same over three turns
+-- the loop's output reads the same over three turns
 found_turns : map (λ ws. allocated_read the_loop the_output ws 0 (use_reg 2)) (first_turn ∷ second_turn ∷ third_turn ∷ []) ≡
     at_step 0 ∷ at_step 1 ∷ at_step 0 ∷ []
 unfolding cells_before stored after_moves after_early_defs after_writes after_clobbers has_register
 found_turns = refl
 
--- and at the return
+-- the loop's output reads the same at the return
 found_return : allocated_read the_loop the_output to_return 0 (use_reg 2) ∷ allocated_read the_loop the_output to_return 1 (use_reg 3) ∷ [] ≡
     at_step 0 ∷ at_step 1 ∷ []
 unfolding cells_before stored after_moves after_early_defs after_writes after_clobbers has_register
@@ -136,12 +136,12 @@ output_of_the_fork = record {
   debug_locations = [];
 }
 
--- the edge that passes the value leads to a read of it, the other one to a read of nothing
+-- the edge that passes the value leads to a read of it, the other edge to a read of nothing
 source_fork : map (λ k. source_read the_fork (ToSuccessor k ∷ Onward ∷ []) (use_reg 1)) (0 ∷ 1 ∷ []) ≡ at_step 0 ∷ None ∷ []
 unfolding source_before after_defs passed over_edge
 source_fork = refl
 
--- its output reads the value on both
+-- the fork's output reads the value on both edges
 found_fork : map (λ k. allocated_read the_fork output_of_the_fork (ToSuccessor k ∷ Onward ∷ []) 0 (use_reg 1)) (0 ∷ 1 ∷ []) ≡ at_step 0 ∷ at_step 0 ∷ []
 unfolding cells_before stored after_moves after_early_defs after_writes after_clobbers has_register
 found_fork = refl

@@ -1,5 +1,5 @@
--- Tests of the definitions of both runs on one step or one edge each: what an operand reads beside early definitions, late definitions, clobbers
--- and moves, and which value a parameter takes.
+-- Tests of the definitions of both runs on one step or one edge each: what an operand reads beside early definitions, late definitions, clobbers and
+-- moves, and which value a parameter takes.
 use Rattle.std.proofs.Common.{ℕ, ◌≡◌, false, List, [], ◌∷◌, refl}
 use Rattle.std.specs.Prelude.{None, map}
 use Rattle.regalloc2_names.specs.declared.OperandConstraint.TheVariants.{Any}
@@ -91,7 +91,7 @@ from_unwritten = refl
 abbrev at_points : OutputValue
 at_points = moved (move (after 0) (p 1) (p 2) ∷ move (before 1) (p 3) (p 4) ∷ move (after 1) (p 5) (p 6) ∷ move (before 2) (p 7) (p 8) ∷ [])
 
--- within a block the moves after an instruction come first, then those before the next one
+-- within a block the moves after an instruction come first, then the moves before the next one
 within_block : moves_before at_points 0 1 ≡ record { from = p 1; to = p 2 } ∷ record { from = p 3; to = p 4 } ∷ []
 within_block = refl
 

@@ -77,7 +77,7 @@ fn show_all<W: Write>(alloc: Global, lines: &str, out: &mut W) -> io::Result<()>
 /// of a function come after that.
 type Large = (&'static str, u32, &'static str, &'static str, bool);
 
-/// Such texts. The last three have a function, two of them behind a member that isn't read.
+/// Deep and large texts. The last three have a function, two of them behind a member that isn't read.
 static LARGE: [Large; 5] = [
     ("[", 100_000, "", "", false),
     ("{\"a\":", 100_000, "", "", false),

@@ -40,7 +40,7 @@ impl Graph {
             .ok()
     }
 
-    /// One block goes on to another.
+    /// Adds an edge from the block `from` to the block `to`.
     fn link(&mut self, from: usize, to: usize) -> Option<()> {
         let succs = &mut self.nodes.get_mut(from)?.succs;
         succs.push(Block::new(to % 100)).ok()

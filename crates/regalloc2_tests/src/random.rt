@@ -15,7 +15,7 @@ pub const FIRST_SLOT: usize = 40;
 /// The register of each class for moves from stack to stack, where there is one.
 const SCRATCH: usize = 50;
 
-/// One of the classes, most often that of integers.
+/// Returns one of the classes, most often the class of integers.
 pub fn any_class(random: &mut Random) -> RegClass {
     match random.below(4) {
         0 => RegClass::Float,

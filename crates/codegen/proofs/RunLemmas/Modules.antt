@@ -64,7 +64,7 @@ further_thrice overflows f g = refl
 further_thrice sticks f g = refl
 
 module _ (procedures : List Procedure) (fresh : VirtualRegister → ℕ) (first : RunOutcome ModuleState) where
-  -- the outcome after that many steps
+  -- the outcome after a number of steps
   abbrev after : ℕ → RunOutcome ModuleState
   after n = further first (module_run procedures fresh n)
 
@@ -79,7 +79,7 @@ module _ (procedures : List Procedure) (fresh : VirtualRegister → ℕ) (first 
   unfolding module_run
   module_none s is = ap (λ (o : RunOutcome ModuleState). further o (module_run procedures fresh 0)) is
 
-  -- one more
+  -- one more step
   pub module_more : (n : ℕ) (r : Standing) (s t : ModuleState) (m : List ℕ) → after n ≡ runs s → module_step procedures fresh s ≡ run_outcome r t m →
       after (n + 1) ≡ run_outcome r t m
   module_more n r s t m is step = after_more n ∙ ap (λ (o : RunOutcome ModuleState). further o (module_step procedures fresh)) is ∙ step
@@ -110,7 +110,7 @@ module _ (functions : List FunctionCode) (stack : Stack) where
       let e : suc n - 1 ≡ n = omega arith in
       rw e (ap (λ x. further x (stack_run functions stack n)) step)
 
-  -- and if it has none
+  -- a run of code without steps
   pub stack_none : (s : StackState) → stack_run functions stack 0 s ≡ runs s
   unfolding stack_run
   stack_none s = refl

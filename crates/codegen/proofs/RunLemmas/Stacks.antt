@@ -124,7 +124,7 @@ module _ (fs : List FunctionCode) where
       at_least : (m n : ℕ) → m ≤ m + n
       at_least m n = omega arith
 
-  -- the words of the running activation are among those taken
+  -- the words of the running activation are among the words taken
   pub taken_enough : (f : FunctionCode) (old : Stack) → IsSound fs old → slice_get fs old.function ≡ Some f → words_of (Some f) ≤ old.words
   taken_enough f old sound at =
       subst (λ (n : ℕ). words_of (Some f) ≤ n) (sym sound.words) (taken_at_all old.function f (calling (suspensions_of old.callers.items)) at)

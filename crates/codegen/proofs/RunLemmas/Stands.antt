@@ -37,7 +37,7 @@ run_more f os args first n r s t is step =
     let e : n + 1 ≡ suc n = omega arith in
     rw e (ap (λ o. further o (procedure_step f os args)) is ∙ step)
 
--- and the last step
+-- a run whose last step ends it, after more steps
 pub run_ends : (f : FunctionValue) (os : Operations) (args : ℕ → ℕ) (first : ProcedureState) (n steps : ℕ) (r : Standing) (s t : ProcedureState) →
     n < steps → procedure_run f os args n first ≡ runs s → procedure_step f os args s ≡ run_outcome r t t.memory → (r ≡ Running → ⊥) →
     procedure_run f os args steps first ≡ run_outcome r t t.memory
@@ -60,7 +60,7 @@ machine_more code args (suc n) r s t some step =
     let e : suc n - 1 ≡ n = omega arith in
     rw e (ap (λ o. further o (machine_run code args n)) step)
 
--- and if it has none
+-- a run of the machine without steps
 pub machine_none : (code : CodeValue) (args : ℕ → ℕ) (s : MachineState) → machine_run code args 0 s ≡ runs s
 unfolding machine_run
 machine_none code args s = refl

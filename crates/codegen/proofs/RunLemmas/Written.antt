@@ -6,7 +6,7 @@ use Rattle.regalloc2_names.specs.Register.{VirtualRegister}
 use Rattle.regalloc2_semantics.specs.Values.Interpreters.{number_set, passed_on}
 use Rattle.codegen.specs.Run.States.{numbers_by_vreg}
 
--- after that many are passed, one more
+-- after k arguments are passed, one more
 pub pass_more : (ps qs : List VirtualRegister) (k : ℕ) (p : VirtualRegister) (n : ℕ) (before after : VirtualRegister → ℕ) → k < length ps → k < length qs →
     p ≡ get_or ps k p → n ≡ get_or (map before qs) k n →
     passed_on (drop k ps) (drop k qs) before after ≡ passed_on (drop (k + 1) ps) (drop (k + 1) qs) before (number_set after p n)
@@ -28,7 +28,7 @@ pass_ended [] qs before after h = refl
 pass_ended (p ∷ ps) [] before after h = refl
 pass_ended (p ∷ ps) (a ∷ qs) before after h = absurd (h (omega arith) (omega arith))
 
--- so nothing more is passed at the end of either list
+-- at the end of either list, nothing more is passed
 pub pass_end : (ps qs : List VirtualRegister) (k : ℕ) (before after : VirtualRegister → ℕ) → (k < length ps → k < length qs → ⊥) →
     passed_on (drop k ps) (drop k qs) before after ≡ after
 pass_end ps qs k before after h =

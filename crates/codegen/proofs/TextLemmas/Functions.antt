@@ -8,7 +8,7 @@ pub functions_none : (k : ℕ) → functions_text k [] ≡ []
 unfolding functions_text
 functions_none k = refl
 
--- that many functions, and one more
+-- k functions, and one more
 functions_more : (all : List NamedCode) (n k : ℕ) (x : NamedCode) → k < length all → x ≡ get_or all k x →
     functions_text n (take k all) ++ function_text (n + k) x ≡ functions_text n (take (k + 1) all)
 unfolding functions_text

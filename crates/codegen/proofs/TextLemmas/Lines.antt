@@ -10,7 +10,7 @@ unfolding lines_text
 lines_none g f count k = refl
 
 module _ (g : ℕ) (f : FrameWords) (count : ℕ) where
-  -- that many instructions, and one more
+  -- k instructions, and one more
   lines_more : (all : List Instruction) (n k : ℕ) (d : Instruction) → k < length all →
       lines_text g f count n (take k all) ++ line_text g f count (n + k) (get_or all k d) ≡ lines_text g f count n (take (k + 1) all)
   unfolding lines_text

@@ -41,7 +41,7 @@ IsMachineRun outcome r = (s : MachineState) × (s.memory ≡ r.memory.items) × 
 abbrev pub IsProcedureRun : RunOutcome ProcedureState → Run → Type 0
 IsProcedureRun outcome r = (s : ProcedureState) × (s.memory ≡ r.memory.items) × (outcome ≡ run_outcome r.standing s r.memory.items)
 
--- the outcomes of a module, and of its code on a stack with that room, after that many steps
+-- the outcomes of a module, and of its code on a stack of `room` words, after n steps
 abbrev pub module_outcome : Module → List ℕ → List ℕ → ℕ → RunOutcome ModuleState
 module_outcome m arguments memory n = further (module_begun (procedures_of m.procedures.items) (λ v. 0) (arguments_of arguments) memory)
     (module_run (procedures_of m.procedures.items) (λ v. 0) n)

@@ -33,7 +33,7 @@ machine_state m = record {
   memory = m.memory.items;
 }
 
--- the number in a register or in a slot of a frame with that many slots, or an immediate
+-- the number in a register or in a slot of a frame with `slots` slots, or an immediate
 abbrev pub source_number : ℕ → MachineState → Source → Option ℕ
 source_number slots s (Register r) = if is_general r then Some (s.registers r) else None
 source_number slots s (Slot k) = if nat_lt k slots then Some (s.frame k) else None

@@ -25,7 +25,7 @@ abbrev pub register_names : List (List ℕ)
 register_names = codes "%rax" ∷ codes "%rcx" ∷ codes "%rdx" ∷ codes "%rbx" ∷ codes "%rsp" ∷ codes "%rbp" ∷ codes "%rsi" ∷ codes "%rdi"
     ∷ codes "%r8" ∷ codes "%r9" ∷ codes "%r10" ∷ codes "%r11" ∷ codes "%r12" ∷ codes "%r13" ∷ codes "%r14" ∷ codes "%r15" ∷ []
 
--- their lowest bytes
+-- the registers' lowest bytes, by number
 abbrev pub byte_names : List (List ℕ)
 byte_names = codes "%al" ∷ codes "%cl" ∷ codes "%dl" ∷ codes "%bl" ∷ codes "%spl" ∷ codes "%bpl" ∷ codes "%sil" ∷ codes "%dil"
     ∷ codes "%r8b" ∷ codes "%r9b" ∷ codes "%r10b" ∷ codes "%r11b" ∷ codes "%r12b" ∷ codes "%r13b" ∷ codes "%r14b" ∷ codes "%r15b" ∷ []
@@ -187,7 +187,7 @@ instruction_text g f (variant.Call callee) = transfer_text g (variant.Call calle
 instruction_text g f (variant.Pass k from) = move_text f (variant.Pass k from)
 instruction_text g f variant.Return = transfer_text g variant.Return
 
--- whether an instruction with that number, of that many, is only a jump to the next line
+-- whether instruction k of `count` is only a jump to the next line
 abbrev pub is_next : ℕ → ℕ → Instruction → Bool
 is_next count k (variant.Jump target) = nat_eq target (k + 1)
 is_next count k variant.Return = nat_eq (k + 1) count
@@ -202,7 +202,7 @@ module _ (g : ℕ) (f : FrameWords) (count : ℕ) where
   abbrev pub line_text : ℕ → Instruction → List ℕ
   line_text k i = codes ".L" ++ (decimal g ++ (codes "_" ++ (decimal k ++ (codes ":" ++ (line_rest k i ++ 10 ∷ [])))))
 
-  -- the instructions from number k on, of that many, one on each line, with labels by number
+  -- the instructions from number k on, of `count`, one on each line, with labels by number
   unfoldable pub lines_text : ℕ → List Instruction → List ℕ
   lines_text k [] = []
   lines_text k (i ∷ rest) = line_text k i ++ lines_text (k + 1) rest
@@ -219,7 +219,7 @@ argument_names = codes "%rdi" ∷ codes "%rsi" ∷ codes "%rdx" ∷ codes "%rcx"
 abbrev pub argument_name : ℕ → List ℕ
 argument_name k = slice_index_or argument_names k (codes "%none")
 
--- a function stores the arguments that registers passed behind its slots; the entry loads those of function 0
+-- a function stores the arguments that registers passed behind its slots; the entry loads the arguments of function 0
 unfoldable pub argument_store_text : FrameWords → ℕ → List ℕ
 argument_store_text f k =
     if nat_lt k f.arity then codes "  movq " ++ argument_name k ++ codes ", " ++ kept_text f k ++ codes "\n" else []
@@ -283,7 +283,7 @@ stub_text = codes "  .globl compiled\ncompiled:\n  pushq %r15\n  movq %rsi, %r15
     ++ codes "  movq %rsp, %rax\n  shrq $3, %rax\n  xorl %ecx, %ecx\n  subq %rdx, %rax\n  cmovbq %rcx, %rax\n  shlq $3, %rax\n"
     ++ codes "  movq %rax, -8(%r15)\n  movq %rdi, %rax\n"
 
--- its end, which calls function 0
+-- the end of the entry, which calls function 0
 unfoldable pub call_text : List ℕ
 call_text = codes "  call .Lf0\n  popq %r15\n  ret\n"
 
@@ -291,6 +291,6 @@ call_text = codes "  call .Lf0\n  popq %r15\n  ret\n"
 unfoldable pub traps_text : List ℕ
 traps_text = codes ".Ltrap:\n  ud2\n.Loverflow:\n  int3\n  .section .note.GNU-stack,\"\",@progbits\n"
 
--- a module: the entry, the functions, and the ends of those runs that don't return
+-- a module: the entry, the functions, and the ends of the runs that don't return
 abbrev pub assembly_text : ModuleCode → List ℕ
 assembly_text c = stub_text ++ argument_loads_text (first_arity c.functions.items) ++ call_text ++ functions_text 0 c.functions.items ++ traps_text

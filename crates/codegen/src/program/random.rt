@@ -139,7 +139,7 @@ impl Draft {
         Ok(())
     }
 
-    /// One of the vregs that are written, later ones more often.
+    /// Returns one of the vregs that are written, later ones more often.
     fn pick(&mut self) -> u32 {
         let count = self.known.len().max(1);
         let at = self.random.below(count).max(self.random.below(count));
@@ -202,7 +202,7 @@ impl Draft {
         Ok(address)
     }
 
-    /// One of several names, or ends of names.
+    /// Returns one of `names`, which are names or ends of names.
     fn choose(&mut self, names: &[&'static str; 4]) -> &'static str {
         let at = self.random.below(names.len());
         names.get(at).copied().unwrap_or("")
@@ -259,7 +259,7 @@ impl Draft {
         }
     }
 
-    /// Writes at least one and at most that many operations.
+    /// Writes at least one and at most `most` operations.
     fn write_operations(&mut self, most: usize) -> Result<(), AllocError>
         requires { 0 < most }
     {

@@ -14,7 +14,7 @@ pub enum Action {
 /// The options of a run.
 #[derive(Drop)]
 pub struct RunOptions {
-    /// The arguments of function 0; those past them are 0.
+    /// The arguments of function 0; further arguments are 0.
     pub arguments: Vec<u64>,
     /// How many words the code's activations may take on the stack.
     pub room: u64,

@@ -35,7 +35,7 @@ fn is_for_numbers(register: usize) -> bool
 }
 
 impl Machine {
-    /// The state before the first step, with a frame of that many slots.
+    /// Returns the state before the first step, with a frame of `slots` slots.
     pub fn new(alloc: Global, slots: usize, memory: Vec<u8>) -> Result<Machine, AllocError>
         ensures state { IfOk result (λ m. machine_state m ≡ first_machine memory.items) }
         ensures frame { IfOk result (λ m. vec_len m.frame ≡ slots) }
@@ -405,7 +405,7 @@ pub fn zeros(alloc: Global, count: usize) -> Result<Vec<u64>, AllocError>
     vec![in alloc; 0; count]
 }
 
-/// Returns the outcome of running the code for that many steps, and the memory that it leaves, with
+/// Returns the outcome of running the code for `steps` steps, and the memory that it leaves, with
 /// 0 in all registers and slots at the start. Arguments past the given ones are 0.
 pub fn run_code(
     alloc: Global,

@@ -167,7 +167,7 @@ impl Frames {
     }
 }
 
-/// Returns the outcome of running function 0 of a module for that many steps, and the memory that it
+/// Returns the outcome of running function 0 of a module for `steps` steps, and the memory that it
 /// leaves, with 0 in all vregs of new frames. Arguments past the given ones are 0.
 pub fn run_module(
     alloc: Global,

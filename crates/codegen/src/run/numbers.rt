@@ -24,7 +24,7 @@ fn at_width(width: Width, number: u64) -> u64
     }
 }
 
-/// The same bits, sign-extended to 64.
+/// Returns the bits of `number` at a width, sign-extended to 64.
 pub fn widened(width: Width, number: u64) -> u64
     ensures { result ≡ widened width number }
 {

@@ -373,7 +373,7 @@ impl State {
     }
 }
 
-/// Returns the outcome of running a function for that many steps, and the memory that it leaves,
+/// Returns the outcome of running a function for `steps` steps, and the memory that it leaves,
 /// with 0 in all vregs at the start. Arguments past the given ones are 0.
 pub fn run_procedure(
     alloc: Global,

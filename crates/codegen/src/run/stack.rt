@@ -78,7 +78,7 @@ fn words_of(function: &NamedCode) -> u128
     6 + (numbers + numbers % 2)
 }
 
-/// The words of an activation and of those below it, unless they exceed the room.
+/// Returns `words` and the words of an activation of `function`, unless the sum exceeds `room`.
 fn words_with(function: &NamedCode, words: u64, room: u64) -> Option<u64>
     ensures { let all = words_of (Some (function_of function.now)) + words in result ≡ (if nat_lt room all then None else Some all) }
 {
@@ -100,7 +100,7 @@ fn passed(alloc: Global, registers: &[u64; 16], outgoing: &[u64]) -> Result<Vec<
     Ok(arguments)
 }
 
-/// The registers at a return: those that a callee preserves are as at the call.
+/// Returns the registers at a return: registers that a callee preserves are as at the call.
 fn registers_returned(saved: &[u64; 16], left: &[u64; 16], number: u64) -> [u64; 16]
     ensures { (λ r. slice_index result r) ≡ registers_returned (λ r. slice_index saved.now r) (put (λ r. slice_index left.now r) 0 number) }
 {
@@ -271,8 +271,8 @@ fn copied(alloc: Global, numbers: &[u64]) -> Result<Vec<u64>, AllocError>
     numbers.to_vec(alloc)
 }
 
-/// Returns the outcome of running a module's code for that many steps on a stack of `room` words,
-/// and the memory that it leaves, with 0 in all registers and slots of new activations. Arguments
+/// Returns the outcome of running a module's code for `steps` steps on a stack of `room` words, and
+/// the memory that it leaves, with 0 in all registers and slots of new activations. Arguments
 /// past the given ones are 0.
 pub fn run_module_code(
     alloc: Global,

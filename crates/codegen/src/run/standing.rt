@@ -23,7 +23,7 @@ pub enum Standing {
 /// A run after some number of steps.
 #[derive(Drop)]
 pub struct Run {
-    /// Its outcome.
+    /// The outcome of the run.
     pub standing: Standing,
     /// The memory that it has left so far.
     pub memory: Vec<u8>,

@@ -229,7 +229,7 @@ fn condition_letters(condition: Condition) -> &'static str
     }
 }
 
-/// A register or a slot of a frame with that many outgoing words, at a width, or a number.
+/// A frame's number of outgoing words, a width, and a number or a register or slot at that width.
 #[derive(Clone, Copy)]
 struct SourceText(usize, Width, Source);
 

@@ -112,7 +112,7 @@ fn predecessors(
     preds
 }
 
-/// Adds a block to the predecessors of its successors, where those blocks exist.
+/// Adds `block` to the predecessors of each of `succs` that exists.
 fn add_pred(
     cursor: &mut Cursor<'_, '_>,
     preds: &mut Vec<Vec<Block>>,
@@ -138,7 +138,7 @@ fn arity_of(lines: &[Line]) -> usize {
 }
 
 impl Draft {
-    /// A draft without lines of a function with that name and that many arguments. One without a
+    /// Returns a draft without lines of a function `name` with `arity` arguments. A function without a
     /// name has as many as its lines read, and at most as many.
     pub fn new(alloc: Global, name: String, arity: usize) -> Self {
         Draft {
@@ -218,7 +218,7 @@ impl Draft {
         }
     }
 
-    /// The function of all lines, with a memory of that many bytes.
+    /// Returns the function of all lines, with a memory of `memory_size` bytes.
     pub fn finish<'t>(self, alloc: Global, memory_size: usize) -> Result<NamedProcedure, Flaw<'t>> {
         let Draft {
             lines,

@@ -24,7 +24,7 @@ pub fn push_text() -> &'static str
 "
 }
 
-/// Pops those registers, and returns.
+/// Returns the text that pops the registers of `push_text`, and returns.
 #[tactic(auto, unfolding(crate::specs::Text::Assembly::pop_text))]
 pub fn pop_text() -> &'static str
     ensures { result.now ≡ pop_text }
@@ -96,7 +96,7 @@ impl fmt::Display for FrameText {
     }
 }
 
-/// A slot of a frame with that many outgoing words.
+/// A frame's number of outgoing words, and a slot of the frame.
 #[derive(Clone, Copy)]
 pub struct SlotText(pub usize, pub usize);
 

@@ -54,7 +54,7 @@ fn read_name<'t>(cursor: &mut Cursor<'_, 't>) -> &'t str {
     name
 }
 
-/// The number of a function's arguments, at most that many, from the bracket on.
+/// Reads the number of a function's arguments, at most `most`, from the bracket on.
 fn read_arity(cursor: &mut Cursor<'_, '_>, most: usize) -> usize {
     cursor.want("(");
     let arity = cursor.number(most as u64) as usize;
@@ -122,7 +122,7 @@ impl<'t> Functions<'t> {
         self.add(name, arity)
     }
 
-    /// Adds a function with that name and that many arguments.
+    /// Adds a function `name` with `arity` arguments.
     fn add(&mut self, name: &'t str, arity: usize) -> Result<(), Flaw<'t>> {
         let function = self.by_name.len();
         self.by_name.insert(name, Callee { function, arity })?;

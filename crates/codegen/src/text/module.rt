@@ -25,7 +25,7 @@ fn unnamed(alloc: Global) -> Draft {
 }
 
 impl<'t> ModuleDraft<'t> {
-    /// A draft without lines of a module whose text names those functions.
+    /// Returns a draft without lines of a module whose text names `functions`.
     pub fn new(alloc: Global, functions: Functions<'t>) -> Self {
         ModuleDraft {
             functions,
@@ -101,7 +101,7 @@ fn refuse_line<'t>(tokens: &[Token<'t>]) -> Result<(), Flaw<'t>> {
     cursor.finish()
 }
 
-/// The functions of drafts, with a memory of that many bytes.
+/// Returns the functions of `drafts`, with a memory of `memory_size` bytes.
 fn finished<'t>(
     alloc: Global,
     drafts: Vec<Draft>,

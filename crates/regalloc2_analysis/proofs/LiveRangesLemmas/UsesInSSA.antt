@@ -187,7 +187,7 @@ module _ (f : FunctionValue) (ssa : IsSSA f) where
   later_point v p q le (inl h) = inl (h.0, h.1, omega (arith, le, h.2), h.3)
   later_point v p q le (inr h) = inr (h.0, h.1, h.2, omega (arith, le, h.3), h.4, h.5, h.6)
 
-  -- or not before the block of which it is a parameter
+  -- a vreg that is used is defined by the point after the use
   used_defined : (v : VirtualRegister) (j : ℕ) → UsesAt f v j → IsDefinedBy f v (after j)
   used_defined v j (inl r) = read_defined OperandPos.Early r
     where

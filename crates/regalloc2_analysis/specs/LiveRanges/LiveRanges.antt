@@ -1,5 +1,5 @@
 -- The live ranges of vregs as a debugger can be shown them, and the labels that are kept.
--- The points are those of regalloc2_function/specs/DebugPoints.antt; here is which operand's place shows the value.
+-- The points are as in regalloc2_function/specs/DebugPoints.antt; here is which operand's place shows the value.
 use Rattle.std.specs.Prelude.{ℕ, ◌≡◌, ◌<◌, ◌↔◌, List, [], ◌∷◌, length, slice_index_or, Bool, true, false, Option, None, Some}
 use Rattle.std.specs.List.{Any}
 use Rattle.regalloc2_names.specs.declared.OperandPos.{OperandPos}

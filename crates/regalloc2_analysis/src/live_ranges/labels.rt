@@ -68,8 +68,8 @@ fn keep_labels<A: Allocator + Copy, F: Function>(
 ///
 /// For callers that pass over all operands anyway. `wanted` is the table that [`marked_labels`] returns. `listed`
 /// has each instruction that defines a labelled vreg, and each whose operands read one that no
-/// later instruction reads or passes as an argument. It may have more. Only the listed instructions
-/// and the last one of each block are read.
+/// later instruction reads or passes as an argument. It may have more. Only the listed instructions and
+/// the last one of each block are read.
 ///
 /// [`marked_labels`]: super::marked_labels
 pub fn kept_labels_by<A: Allocator + Copy, F: Function>(

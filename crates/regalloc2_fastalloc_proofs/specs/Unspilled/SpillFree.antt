@@ -26,8 +26,8 @@ abbrev pub FitInRegs : List VirtualRegister → PRegSet → Type 0
 FitInRegs names allocatable = (class : RegClass) (vs : List VirtualRegister) → IsDistinct is_same_number vs → All (λ v. (v.class ≡ class) × Contains names v) vs
     → length vs ≤ count_below (λ n. has_register allocatable (register_number class n)) 64
 
--- Of one class: the used registers, which are no more than the vregs seen so far, and then the unused registers, which are free
--- and hold no vreg. A vreg seen so far has a location, unless its definition was seen.
+-- Of one class: the used registers, which are no more than the vregs seen so far, and then the unused registers, which are free and
+-- hold no vreg. A vreg seen so far has a location, unless its definition was seen.
 pub record IsSpillFreeIn (names : List VirtualRegister) (gone : ℕ → Bool) (class : RegClass) (order : List Register) (t : StateValue)
     (inst_regs : InstRegs) : Type 0 where
   pub used : List Register

@@ -133,7 +133,7 @@ pub record IsLowest (ms : CallMoves) (n start end_ lowest : ℕ) : Type 0 where
   pub named : lowest < end_ → (start ≤ lowest) × IsNamedBelow ms n (InSlot lowest)
   pub none : (k : ℕ) → start ≤ k → k < lowest → IsNamedBelow ms n (InSlot k) → ⊥
 
--- with the slots of move n's two ends compared, it is the lowest slot that one move more names
+-- the lowest slot that one move more names, from the slots of the two ends of move n
 pub lowest_more : (ms : CallMoves) (n start end_ a b c : ℕ) → IsLowest ms n start end_ a → IsLower (source ms n) start a b →
     IsLower (target ms n) start b c → IsLowest ms (n + 1) start end_ c
 lowest_more ms n start end_ a b c h first second = record {

@@ -174,7 +174,7 @@ module _ (f g : FunctionValue) (h : HasSplitBlocks f g) where
     path : IsPath f ws
     same : vs ≡ through f ws
 
-  -- or one that ends at a new block
+  -- a path of the other function that ends at a new block
   record AtJump (vs : List Way) : Type 0 where
     ws : List Way
     k : ℕ

@@ -82,7 +82,7 @@ impl<T: Drop> From<AllocFailed<T>> for BuildError {
 pub struct BlockDraft<A: Allocator = Global> {
     /// What takes the arguments.
     pub params: Vec<VReg, A>,
-    /// Its instructions.
+    /// The instructions of the block.
     pub insts: Vec<TableInst<A>, A>,
     /// The blocks that may follow.
     pub succs: Vec<Block, A>,

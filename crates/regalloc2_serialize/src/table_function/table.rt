@@ -23,7 +23,7 @@ pub struct TableInst<A: Allocator = Global> {
 /// A block.
 #[derive(Debug, Drop)]
 pub struct TableBlock<A: Allocator = Global> {
-    /// Its instructions.
+    /// The range of the block's instructions.
     pub range: InstRange,
     /// The blocks that may follow.
     pub succs: Vec<Block, A>,

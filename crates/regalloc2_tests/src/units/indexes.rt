@@ -38,7 +38,7 @@ fn lower<C: ContainerComparator>(order: &C, a: C::Ix, b: C::Ix) -> C::Ix {
     }
 }
 
-/// Writes numbers with those beside them, the invalid ones, and the lower of two by an order of one's own.
+/// Writes numbers with the numbers beside them, the invalid ones, and the lower of two by an order of one's own.
 fn write_numbers(out: &mut Report) {
     let (i, b) = (Inst::new(7), Block::new(7));
     let is = (i.is_valid(), Inst::invalid().is_invalid());

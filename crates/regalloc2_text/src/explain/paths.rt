@@ -49,7 +49,7 @@ struct Need {
 struct Search {
     needs: Vec<Need>,
     known: BTreeSet<(u32, u32), Global>,
-    /// The vregs that blocks write, parameters included, but for those of the entry.
+    /// The vregs that blocks write, parameters included, but for the parameters of the entry.
     written: BTreeSet<(u32, u32), Global>,
 }
 

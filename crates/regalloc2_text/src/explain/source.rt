@@ -112,8 +112,8 @@ fn is_numbered(word: &str, name: &str) -> bool {
     }
 }
 
-/// Returns whether a line is that of an instruction. A dump's line for a move begins with `inst3-`,
-/// and is none.
+/// Returns whether `line` shows an instruction. A dump's line for a move begins with `inst3-`, and
+/// is none.
 fn is_inst(line: &str) -> bool {
     let word = first_word(line);
     if is_numbered(word, "inst") {

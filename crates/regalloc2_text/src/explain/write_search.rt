@@ -37,8 +37,8 @@ pub struct LastWrites {
 }
 
 impl LastWrites {
-    /// Writes a line for each last write, as `p0i is written last by inst3 along block0, block2`,
-    /// and one for the path without a write; or the line `p0i is never written before inst5`.
+    /// Writes a line for each last write, as `p0i is written last by inst3 along block0, block2`, and
+    /// one for the path without a write; or the line `p0i is never written before inst5`.
     pub fn write<W: Write>(&self, to: &mut W) -> io::Result<()> {
         let place = self.place;
         if self.writes.is_empty() {

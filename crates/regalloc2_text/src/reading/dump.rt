@@ -1,4 +1,4 @@
-//! The lines in which upstream prints a function with its allocation, where they differ from those of a text.
+//! The lines in which upstream prints a function with its allocation, where they differ from the lines of a text.
 
 ghost use Rattle.std.specs.Prelude.{◌≤◌};
 
@@ -154,8 +154,8 @@ fn register_class(place: u32) -> Option<RegClass> {
     Some(register.class())
 }
 
-/// How many units the frame of a dumped `function` has at least: as many as the slots that `places`, from each of `offsets` on
-/// those of one instruction, and `moves` name.
+/// Returns how many units the frame of a dumped `function` has at least: up to the end of the last slot that `moves` or `places`
+/// name. The places of an instruction begin at its number in `offsets`.
 pub(super) fn frame_units<A: Allocator>(
     function: &StoredFunction<A>,
     places: &[u32],

@@ -14,7 +14,7 @@ pub(super) struct Flags {
 }
 
 impl Flags {
-    /// Neither holds.
+    /// No flag is set.
     pub(super) const NONE: Flags = Flags {
         named_by_last: false,
         several_definitions: false,

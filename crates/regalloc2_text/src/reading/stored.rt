@@ -194,7 +194,7 @@ impl<A: Allocator + Copy> StoredLists<A> {
         true
     }
 
-    /// Puts the lists in the place of those of a function, and returns the places and the offsets
+    /// Puts the lists in the place of the lists of `function`, and returns the places and the offsets
     /// of an output.
     pub(super) fn replace(
         self,

@@ -182,7 +182,7 @@ impl Verdict {
     }
 }
 
-/// How many findings are explained. Each further finding is one line, so many findings take no more
+/// How many findings are explained. Each further finding is one line: many findings take no more
 /// time than the text.
 const EXPLAINED: usize = 10;
 
@@ -216,7 +216,7 @@ fn write_refusal<E: Write>(
     Ok(())
 }
 
-/// Writes the line of the text that contains a part of the function, if there is such a line.
+/// Writes the line of the text that contains the part of the function at `site`, if there is one.
 fn write_site<W: Write>(site: Site, source: &Source<'_>, to: &mut W) -> Result<(), CallError> {
     if let Some(line) = source.find(site) {
         writeln!(to, "  {line}")?;
@@ -224,7 +224,7 @@ fn write_site<W: Write>(site: Site, source: &Source<'_>, to: &mut W) -> Result<(
     Ok(())
 }
 
-/// Writes the line of the text with numbers that name nothing, if there are a text and such a line.
+/// Writes the line of the text whose numbers, at `site`, name nothing, if there are a text and a line.
 fn write_fault_site<W: Write>(
     site: Site,
     given: &Given<'_, '_, '_>,
@@ -729,8 +729,8 @@ fn perform<F: Function, W: Write, E: Write>(
 /// or `read before written`, which counts as an error; with a text, the lines after an error show
 /// where it is and what causes it. If the function or the output is rejected, `err` gets `bad
 /// function 2: ..`, `bad machine`, `bad output 3: ..`, `not framed` or `refused 5: ..`, and with a
-/// text the cause and the lines that contain it. The numbers are those of [`regalloc2_names::RegAllocErrorKind`]
-/// and of `number_of` in [`regalloc2_text::stored_fault`]; a finding has its own. [`Call::Text`] tests
+/// text the cause and the lines that contain it. The numbers are as in [`regalloc2_names::RegAllocErrorKind`]
+/// and in `number_of` of [`regalloc2_text::stored_fault`]; a finding has its own. [`Call::Text`] tests
 /// nothing.
 ///
 /// `Accepted` says that the numbers of `given` name a function and a machine for which what the

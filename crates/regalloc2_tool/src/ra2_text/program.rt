@@ -306,8 +306,8 @@ fn perform_with_other(
 
 /// Does a task with the bytes of its files, and returns the status.
 ///
-/// The input's error, or why there is no whole result, is a line on `err`, and the status then 2. Else the result is on `out`,
-/// and the status 0; or 1 if the function is rejected, of which `err` has the cause, or something is found; or 2 if its numbers
+/// The input's error, or why there is no whole result, is a line on `err`, and the status then 2. Else the result is on `out`, and
+/// the status 0; or 1 if the function is rejected, of which `err` has the cause, or something is found; or 2 if its numbers
 /// name no function.
 pub fn perform_task(
     alloc: Global,
