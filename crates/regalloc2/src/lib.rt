@@ -2,11 +2,10 @@
 //! of the crate `regalloc2`.
 //!
 //! A client describes its function by an implementation of [`Function`] and its machine by a
-//! [`MachineEnv`], calls [`allocate`], and reads the [`Output`]. [`allocate`] has no preconditions:
-//! it tests the machine and the function, and returns only an output that the checker accepts.
-//! [`run_tested`] has no preconditions: it also tests that no path reads or passes a vreg before writing it, and then
-//! its output needs no checker. [`allocate_without_checker`] tests the machine and the function, and
-//! skips the checker. [`run`] and [`run_checked`] don't test the machine, which their caller
+//! [`MachineEnv`], calls [`run_tested`], and reads the [`Output`]. [`run_tested`] has no preconditions: it tests the
+//! machine, the function, and that no path reads or passes a vreg before writing it. [`allocate`] has none either: it
+//! tests the machine and the function, and returns only an output that the checker accepts.
+//! [`allocate_without_checker`] makes the same tests and skips the checker. [`run`] and [`run_checked`] don't test the machine, which their caller
 //! proves to fit; a [`checker::Checker`] checks any output. Each item's guarantees are in its own
 //! documentation, in terms of this crate's `specs`, which passes on the `specs` of the crates below.
 #![tactic(auto)]

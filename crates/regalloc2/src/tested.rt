@@ -113,9 +113,9 @@ fn error_from<A: Allocator>(error: CheckedRunError<A>) -> AllocateError<A>
 /// Allocates registers to any function for any machine, and returns an output that the checker
 /// accepts.
 ///
-/// This is the call to start with: it has no preconditions. It tests that the machine fits the
-/// function, as [`test_machine`] does, and then makes a [`run_checked`] with all tests of the
-/// function. The output is faithful: along every path each use reads the function's own value,
+/// It has no preconditions: it tests that the machine fits the function, as [`test_machine`] does,
+/// and then makes a [`run_checked`] with all tests of the function. [`run_tested`] needs no checker,
+/// and rejects a function that may read before it writes. The output is faithful: along every path each use reads the function's own value,
 /// every constraint is met, and no move goes from a stack place to another; and it has all that
 /// [`run`] guarantees.
 ///

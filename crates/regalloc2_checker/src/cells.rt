@@ -494,8 +494,7 @@ fn test_apart(by_last: bool, named: &[(usize, usize)]) -> Result<(), CellFault>
     Ok(())
 }
 
-/// Reverses `named` unless `by_last`: slots are compared by rising numbers if they are named by their last units, else by
-/// falling numbers.
+/// Sorts `named` by number: rising if `by_last`, when slots are named by their last units, else falling.
 fn turn(by_last: bool, named: &mut [(usize, usize)])
     ensures turned { AreTurned by_last named.new }
     ensures members { (s : ℕ × ℕ) → Contains named.old s ↔ Contains named.new s }

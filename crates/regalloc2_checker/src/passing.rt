@@ -332,7 +332,8 @@ impl<A: Allocator + Copy> PassingTables<A> {
         Ok(())
     }
 
-    /// Returns `true` if every eighth of `vregs` may, on average, be in a sixteenth of the places or more.
+    /// Returns `true` if `vregs` may, on average, be in a sixteenth of the places or more. It looks at every eighth of them, and returns
+    /// `true` if there are fewer than eight.
     pub fn have_many_homes(&self, vregs: &[VReg]) -> bool {
         self.tables.have_many_homes(vregs)
     }

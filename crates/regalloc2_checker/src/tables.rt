@@ -698,7 +698,8 @@ impl<A: Allocator + Copy> Tables<A> {
         Ok(())
     }
 
-    /// Returns `true` if every eighth of `vregs` may, on average, be in a sixteenth of the places or more.
+    /// Returns `true` if `vregs` may, on average, be in a sixteenth of the places or more. It looks at every eighth of them, and returns
+    /// `true` if there are fewer than eight.
     pub fn have_many_homes(&self, vregs: &[VReg]) -> bool {
         let sampled = vregs.len() / 8;
         let mut count: usize = 0;

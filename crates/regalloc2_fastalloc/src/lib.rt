@@ -1,4 +1,4 @@
-//! The fast allocator: one walk from the last instruction to the first, which gives a register to
+//! The fast allocator: one walk from the last instruction to the first, which gives a place to
 //! each operand as it meets it, and moves vregs to spill slots where registers run out.
 //!
 //! [`run`] allocates a function: it tests the function, calls the walk in

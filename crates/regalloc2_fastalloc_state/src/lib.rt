@@ -1,5 +1,5 @@
 //! The parts of the fast allocator's state: locations of vregs, their spill slots, the registers that may be allocated,
-//! the moves that are added, and the registers of one instruction. They know nothing of instructions.
+//! the moves that are added, and the registers of one instruction.
 //!
 //! [`validate`] has the tests of a function that come before the walk.
 #![tactic(auto)]

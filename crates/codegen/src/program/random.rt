@@ -55,37 +55,6 @@ const ARGUMENTS: usize = 3;
 /// passed on less by one.
 const LAST_DEPTH: u32 = 3;
 
-/// The head of a loop, and its body's start.
-const LOOP_HEAD: &str = "\
-block#(v#, v#, v#):
-  branch_if v# block#(), block#()
-block#():
-";
-
-/// The end of a loop's body, and the start of the block after it.
-const LOOP_END: &str = "  \
-  v# = constant 1
-  v# = sub v#, v#
-  jump block#(v#, v#, v#)
-block#():
-";
-
-/// The start of a call.
-const CALL: &str = "  \
-  branch_if v# block#(), block#()
-block#():
-  v# = sub v#, 1
-  v# = call \
-";
-
-/// The end of a call, the way without it, and the block where both join.
-const CALL_END: &str = ")
-  jump block#(v#)
-block#():
-  jump block#(v#)
-block#(v#):
-";
-
 /// A module that is being written, and its current function.
 #[derive(Drop)]
 struct Draft {
@@ -126,17 +95,6 @@ impl Draft {
     /// The numbers of three new blocks.
     fn new_blocks(&mut self) -> [u32; 3] {
         [self.new_block(), self.new_block(), self.new_block()]
-    }
-
-    /// Writes a form, with the next of as many numbers in place of each `#`.
-    fn fill(&mut self, form: &str, numbers: &[u32]) -> Result<(), AllocError> {
-        let mut pieces = form.split('#');
-        self.text.push_str(pieces.next().unwrap_or(""))?;
-        for number in numbers {
-            let piece = pieces.next().unwrap_or("");
-            write!(self.text, "{number}{piece}")?;
-        }
-        Ok(())
     }
 
     /// Returns one of the vregs that are written, later ones more often.
@@ -183,10 +141,13 @@ impl Draft {
     fn write_division(&mut self, to: u32) -> Result<(), AllocError> {
         let (left, right) = (self.pick(), self.pick());
         let (dividend, divisor) = (self.new_vreg(), self.new_vreg());
-        let numbers = [dividend, left, divisor, right, to];
-        self.fill("  v# = or v#, 1\n  v# = or v#, 1\n  v# = ", &numbers)?;
+        writeln!(self.text, "  v{dividend} = or v{left}, 1")?;
+        writeln!(self.text, "  v{divisor} = or v{right}, 1")?;
         let (name, ending) = (self.choose(&DIVISIONS), self.ending());
-        write!(self.text, "{name}{ending} v{dividend}, v{divisor}")
+        write!(
+            self.text,
+            "  v{to} = {name}{ending} v{dividend}, v{divisor}"
+        )
     }
 
     /// Writes an address from the lower bits of a number, and returns it. It is seldom outside
@@ -198,7 +159,7 @@ impl Draft {
         } else {
             LAST_ADDRESS
         };
-        self.fill("  v# = and v#, #\n", &[address, from, last])?;
+        writeln!(self.text, "  v{address} = and v{from}, {last}")?;
         Ok(address)
     }
 
@@ -241,16 +202,16 @@ impl Draft {
 
     /// Writes an operation that neither divides nor reads memory.
     fn write_plain(&mut self, to: u32) -> Result<(), AllocError> {
-        self.fill("  v# = ", &[to])?;
+        write!(self.text, "  v{to} = ")?;
         let at = self.random.below(24);
         if let Some(name) = OPERATIONS.get(at) {
             self.write_pair(name)
         } else if at == 18 {
             let from = self.pick();
-            self.fill("copy v#", &[from])
+            write!(self.text, "copy v{from}")
         } else if at == 19 {
-            let operands = [self.pick(), self.pick(), self.pick()];
-            self.fill("select v#, v#, v#", &operands)
+            let (test, left, right) = (self.pick(), self.pick(), self.pick());
+            write!(self.text, "select v{test}, v{left}, v{right}")
         } else if let Some(name) = SHIFTS.get(at.saturating_sub(20)) {
             self.write_shift(name)
         } else {
@@ -274,12 +235,12 @@ impl Draft {
     fn write_side(&mut self, block: u32, join: u32) -> Result<(), AllocError> {
         let before = self.known.len();
         let param = self.new_vreg();
-        self.fill("block#(v#):\n", &[block, param])?;
+        writeln!(self.text, "block{block}(v{param}):")?;
         self.known.push(param)?;
         self.write_operations(6)?;
         let (left, right) = (self.pick(), self.pick());
         self.known.truncate(before);
-        self.fill("  jump block#(v#, v#)\n", &[join, left, right])
+        writeln!(self.text, "  jump block{join}(v{left}, v{right})")
     }
 
     /// Writes the deciding part of a branch: a number, or a condition of two.
@@ -289,7 +250,7 @@ impl Draft {
             return self.write_pair(name);
         }
         let test = self.pick();
-        self.fill("v#", &[test])
+        write!(self.text, "v{test}")
     }
 
     /// Writes a branch to two blocks, and the block where they join.
@@ -298,13 +259,12 @@ impl Draft {
         self.text.push_str("  branch_if ")?;
         self.write_test()?;
         let (left, right) = (self.pick(), self.pick());
-        let numbers = [first, left, second, right];
-        self.fill(" block#(v#), block#(v#)\n", &numbers)?;
+        writeln!(self.text, " block{first}(v{left}), block{second}(v{right})")?;
         self.write_side(first, join)?;
         self.write_side(second, join)?;
         let params = [self.new_vreg(), self.new_vreg()];
         let [left, right] = params;
-        self.fill("block#(v#, v#):\n", &[join, left, right])?;
+        writeln!(self.text, "block{join}(v{left}, v{right}):")?;
         self.known.extend_from_slice(&params)
     }
 
@@ -313,12 +273,16 @@ impl Draft {
     fn write_head(&mut self, head: u32, body: u32, end: u32) -> Result<[u32; 3], AllocError> {
         let turns = self.random.below(7) as u32;
         let (left, right, first) = (self.pick(), self.pick(), self.new_vreg());
-        let jump = [first, turns, head, first, left, right];
-        self.fill("  v# = constant #\n  jump block#(v#, v#, v#)\n", &jump)?;
+        writeln!(self.text, "  v{first} = constant {turns}")?;
+        writeln!(self.text, "  jump block{head}(v{first}, v{left}, v{right})")?;
         let params = self.new_vregs();
         let [count, left, right] = params;
-        let block = [head, count, left, right, count, body, end, body];
-        self.fill(LOOP_HEAD, &block)?;
+        writeln!(self.text, "block{head}(v{count}, v{left}, v{right}):")?;
+        writeln!(
+            self.text,
+            "  branch_if v{count} block{body}(), block{end}()"
+        )?;
+        writeln!(self.text, "block{body}():")?;
         self.known.extend_from_slice(&params)?;
         Ok(params)
     }
@@ -335,12 +299,20 @@ impl Draft {
         let ([taken, other, join], count) = (blocks, self.arities.len().max(1));
         let callee = self.random.below(count);
         let (less, result, instead) = (self.new_vreg(), self.new_vreg(), self.pick());
-        let numbers = [depth, taken, other, taken, less, depth, result];
-        self.fill(CALL, &numbers)?;
+        writeln!(
+            self.text,
+            "  branch_if v{depth} block{taken}(), block{other}()"
+        )?;
+        writeln!(self.text, "block{taken}():")?;
+        writeln!(self.text, "  v{less} = sub v{depth}, 1")?;
+        write!(self.text, "  v{result} = call ")?;
         self.write_callee(callee, less)?;
         let param = self.new_vreg();
-        let numbers = [join, result, other, join, instead, join, param];
-        self.fill(CALL_END, &numbers)?;
+        writeln!(self.text, ")")?;
+        writeln!(self.text, "  jump block{join}(v{result})")?;
+        writeln!(self.text, "block{other}():")?;
+        writeln!(self.text, "  jump block{join}(v{instead})")?;
+        writeln!(self.text, "block{join}(v{param}):")?;
         self.known.push(param)?;
         Ok(())
     }
@@ -350,11 +322,11 @@ impl Draft {
         write!(self.text, "f{callee}(")?;
         let arity = self.arities.get(callee).copied().unwrap_or(0);
         if arity > 0 {
-            self.fill("v#", &[first])?;
+            write!(self.text, "v{first}")?;
         }
         for _ in 1..arity {
             let number = self.pick();
-            self.fill(", v#", &[number])?;
+            write!(self.text, ", v{number}")?;
         }
         Ok(())
     }
@@ -377,22 +349,25 @@ impl Draft {
         }
         let (one, next, last) = (self.new_vreg(), self.new_vreg(), self.pick());
         self.known.truncate(before);
-        let numbers = [one, next, count, one, head, next, right, last, end];
-        self.fill(LOOP_END, &numbers)
+        writeln!(self.text, "  v{one} = constant 1")?;
+        writeln!(self.text, "  v{next} = sub v{count}, v{one}")?;
+        writeln!(self.text, "  jump block{head}(v{next}, v{right}, v{last})")?;
+        writeln!(self.text, "block{end}():")
     }
 
     /// Writes the return of a number to which each of the written vregs contributes.
     fn write_return(&mut self) -> Result<(), AllocError> {
         let (mut sum, factor) = (self.new_vreg(), self.new_vreg());
-        self.fill("  v# = constant 1\n  v# = constant 31\n", &[sum, factor])?;
+        writeln!(self.text, "  v{sum} = constant 1")?;
+        writeln!(self.text, "  v{factor} = constant 31")?;
         for at in 0..self.known.len() {
             let number = self.known.get(at).copied().unwrap_or(0);
             let (product, next) = (self.new_vreg(), self.new_vreg());
-            let numbers = [product, sum, factor, next, product, number];
-            self.fill("  v# = mul v#, v#\n  v# = add v#, v#\n", &numbers)?;
+            writeln!(self.text, "  v{product} = mul v{sum}, v{factor}")?;
+            writeln!(self.text, "  v{next} = add v{product}, v{number}")?;
             sum = next;
         }
-        self.fill("  return v#\n", &[sum])
+        writeln!(self.text, "  return v{sum}")
     }
 
     /// Writes the first block's start: the arguments, which are the vregs of the same numbers, and
@@ -401,16 +376,16 @@ impl Draft {
         self.text.push_str("block0:\n")?;
         for _ in 0..arity {
             let to = self.new_vreg();
-            self.fill("  v# = argument #\n", &[to, to])?;
+            writeln!(self.text, "  v{to} = argument {to}")?;
             self.known.push(to)?;
         }
         if arity == 0 {
             let to = self.new_vreg();
-            self.fill("  v# = constant 7\n", &[to])?;
+            writeln!(self.text, "  v{to} = constant 7")?;
             self.known.push(to)?;
         } else if self.arities.len() > 1 {
             let depth = self.new_vreg();
-            self.fill("  v# = and v0, #\n", &[depth, LAST_DEPTH])?;
+            writeln!(self.text, "  v{depth} = and v0, {LAST_DEPTH}")?;
             self.depth = Some(depth);
         }
         Ok(())
@@ -456,7 +431,7 @@ impl Draft {
 
     /// Writes the module.
     fn write_module(&mut self) -> Result<(), AllocError> {
-        self.fill("memory #\n", &[MEMORY])?;
+        writeln!(self.text, "memory {MEMORY}")?;
         self.choose_arities()?;
         let count = self.arities.len();
         let sections = if count == 1 { 6 } else { 3 };

@@ -11,10 +11,10 @@ use regalloc2_names::{Allocation, Operand, PReg, ProgPoint, SpillSlot, VReg};
 use regalloc2_serialize::{StoredFunction, StoredInst, StoredMachine};
 use std::fmt;
 
-/// The numbers of instructions are below this.
+/// The number of instructions is below this limit.
 const INST_LIMIT: u64 = 1 << 30;
 
-/// The numbers of blocks are below one less.
+/// The number of blocks is below this limit.
 const BLOCK_LIMIT: u64 = 0xffff_ffff;
 
 /// The numbers of vregs are below this.
