@@ -21,7 +21,7 @@ impl Model for Block {
 }
 
 impl Block {
-    /// The block of the number `i`, which is below 2^32.
+    /// Returns the block of number `i`, which is below 2^32.
     pub fn new(i: usize) -> Self
         requires { i < number_limit }
         ensures { result ≡ i }
@@ -29,35 +29,35 @@ impl Block {
         Block(i as u32)
     }
 
-    /// The number.
+    /// Returns the number.
     pub fn index(self) -> usize
         ensures { result ≡ self }
     {
         self.0 as usize
     }
 
-    /// The block that stands for none: the greatest number.
+    /// Returns the block that stands for none: the greatest number.
     pub fn invalid() -> Self
         ensures { result ≡ invalid_number }
     {
         Block(u32::MAX)
     }
 
-    /// Whether the number is that of `Block::invalid()`.
+    /// Returns `true` if the number is the number of `Block::invalid()`.
     pub fn is_invalid(self) -> bool
         ensures { IsTrue result ↔ (self ≡ invalid_number) }
     {
         self == Self::invalid()
     }
 
-    /// Whether the number is not that of `Block::invalid()`.
+    /// Returns `true` if the number isn't the number of `Block::invalid()`.
     pub fn is_valid(self) -> bool
         ensures { IsTrue result ↔ (self ≢ invalid_number) }
     {
         self != Self::invalid()
     }
 
-    /// The block after a valid one.
+    /// Returns the block of the next number. This block is valid.
     pub fn next(self) -> Self
         requires { self ≢ invalid_number }
         ensures { result ≡ self + 1 }
@@ -65,7 +65,7 @@ impl Block {
         Block(self.0 + 1)
     }
 
-    /// The block before a block that isn't the first.
+    /// Returns the block of the previous number. This block isn't the first.
     pub fn prev(self) -> Self
         requires { 0 < self }
         ensures { result ≡ self - 1 }
@@ -73,7 +73,7 @@ impl Block {
         Block(self.0 - 1)
     }
 
-    /// The number, as it is stored.
+    /// Returns the number, as it is stored.
     pub fn raw_u32(self) -> u32
         ensures { result ≡ self }
     {

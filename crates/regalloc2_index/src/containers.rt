@@ -10,6 +10,6 @@ pub trait ContainerIndex: Clone + Copy + Debug + PartialEq + Eq {}
 pub trait ContainerComparator {
     type Ix: ContainerIndex;
 
-    /// How the element of `a` compares to the element of `b`. No clause says what it returns.
+    /// Compares the element of index `a` to the element of index `b`. No clause says what it returns.
     fn compare(&self, a: Self::Ix, b: Self::Ix) -> Ordering;
 }

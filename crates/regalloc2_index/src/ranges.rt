@@ -27,7 +27,7 @@ impl Model for InstRange {
 }
 
 impl InstRange {
-    /// The range that starts at `from` and ends before `to`.
+    /// Returns the range that starts at `from` and ends before `to`.
     pub fn new(from: Inst, to: Inst) -> Self
         requires { from ≤ to }
         ensures { result ≡ record { first = from; end = to } }
@@ -35,7 +35,7 @@ impl InstRange {
         InstRange { from, to }
     }
 
-    /// The first instruction of a range that isn't empty.
+    /// Returns the first instruction. The range isn't empty.
     pub fn first(self) -> Inst
         requires { self.first < self.end }
         ensures { result ≡ self.first }
@@ -44,7 +44,7 @@ impl InstRange {
         first
     }
 
-    /// The last instruction of a range that isn't empty.
+    /// Returns the last instruction. The range isn't empty.
     pub fn last(self) -> Inst
         requires { self.first < self.end }
         ensures { result ≡ self.end - 1 }
@@ -52,7 +52,7 @@ impl InstRange {
         self.to.prev()
     }
 
-    /// The range without its first instruction. The range isn't empty.
+    /// Returns the range without its first instruction. The range isn't empty.
     pub fn rest(self) -> Self
         requires { self.first < self.end }
         ensures { result ≡ record { first = self.first + 1; end = self.end } }
@@ -63,7 +63,7 @@ impl InstRange {
         }
     }
 
-    /// How many instructions there are.
+    /// Returns the number of instructions.
     pub fn len(self) -> usize
         ensures len { result ≡ self.end - self.first }
         ensures ordered { self.first ≤ self.end }
@@ -71,7 +71,9 @@ impl InstRange {
         self.to.index() - self.from.index()
     }
 
-    /// The instruction before which the range ends. An item of this crate's own.
+    /// Returns the instruction before which the range ends.
+    ///
+    /// Upstream: none.
     pub fn end(self) -> Inst
         ensures { result ≡ self.end }
     {
@@ -79,7 +81,7 @@ impl InstRange {
         end
     }
 
-    /// The instructions in order, from either end.
+    /// Iterates over the instructions in order, from either end.
     pub fn iter(self) -> InstRangeIter
         ensures { result ≡ numbers_of self }
     {

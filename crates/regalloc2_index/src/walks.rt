@@ -7,7 +7,7 @@ ghost use Rattle.regalloc2_index.specs.Range.{numbers_of};
 use super::Inst;
 use std::marker::Model;
 
-/// The instructions of a range that are left. A contract sees the list of their numbers.
+/// The remaining instructions of a range. A contract sees the list of their numbers.
 #[derive(Debug, Drop)]
 pub struct InstRangeIter {
     from: Inst,
@@ -26,7 +26,7 @@ impl Model for InstRangeIter {
 }
 
 impl InstRangeIter {
-    /// The instructions from `from` on, up to but without `to`.
+    /// Returns the walk over the instructions from `from` on, up to but without `to`.
     pub(crate) fn new(from: Inst, to: Inst) -> InstRangeIter
         requires { from ≤ to }
         ensures { result ≡ numbers_of (record { first = from; end = to }) }

@@ -17,7 +17,7 @@ use Rattle.regalloc2_names.specs.Operand.{OperandValue}
 pub use Rattle.regalloc2_names.specs.RegisterBits.{IsRegisterIndex, IsVRegBits, register_of_bits, bits_of_register, vreg_of_bits, bits_of_vreg}
 pub use Rattle.regalloc2_names.specs.RegisterBits.{class_code-class_of_code, bits_of_vreg-vreg_of_bits, bits_of_register-register_of_bits}
 pub use Rattle.regalloc2_names.specs.PlaceBits.{IsPlaceBits, place_of_bits, bits_of_place, index_of_place, bits_of_place-place_of_bits}
-use Rattle.regalloc2_names.specs.Register.{class_code, class_of_code, Register}
+use Rattle.regalloc2_names.specs.Register.{class_code, class_of_code, hw_limit, vreg_limit, Register}
 
 -- operands
 abbrev pub position_of_code : ℕ → OperandPos
@@ -61,9 +61,13 @@ constraint_code (Limit n) = 16 + limit_code n
 constraint_code (Reuse n) = 32 + n
 constraint_code (FixedReg r) = 64 + r.number
 
+-- the codes of constraints are below: they have 7 bits
+abbrev pub constraint_code_limit : ℕ
+constraint_code_limit = 128
+
 -- the codes that stand for a constraint
 abbrev pub IsConstraintCode : ℕ → Type 0
-IsConstraintCode c = (c < 128) × (c < 16 → c < 3) × (c < 32 → c < 23)
+IsConstraintCode c = (c < constraint_code_limit) × (c < 16 → c < 3) × (c < 32 → c < 23)
 
 unfoldable pub operand_of_bits : ℕ → OperandValue
 operand_of_bits b = record {
@@ -78,7 +82,7 @@ bits_of_operand o = o.vreg.number + class_code o.vreg.class * 4294967296 + posit
     + kind_code o.kind * 34359738368 + constraint_code o.constraint * 68719476736
 
 abbrev pub IsOperandBits : ℕ → Type 0
-IsOperandBits b = (b % 4294967296 < 1073741824) × (b / 4294967296 % 4 < 3) × IsConstraintCode (b / 68719476736)
+IsOperandBits b = (b % 4294967296 < vreg_limit) × (b / 4294967296 % 4 < 3) × IsConstraintCode (b / 68719476736)
 
 position_back : (n : ℕ) → n < 2 → position_code (position_of_code n) ≡ n
 position_back zero h = refl
@@ -122,17 +126,21 @@ bits_of_operand-operand_of_bits b h = omega (
 -- packing undoes unpacking
 pub ruleset packing = (bits_of_operand-operand_of_bits, bits_of_place-place_of_bits, bits_of_vreg-vreg_of_bits, bits_of_register-register_of_bits)
 
+-- the indexes of reused operands are below: they have 5 bits
+abbrev pub reuse_limit : ℕ
+reuse_limit = 32
+
 -- the constraints that an operand of a class may have
 abbrev pub IsConstraintOf : RegClass → OperandConstraint → Type 0
 IsConstraintOf class Any = Unit {0}
 IsConstraintOf class Reg = Unit {0}
 IsConstraintOf class Stack = Unit {0}
 IsConstraintOf class (Limit n) = IsTrue (nat_eq n (2 ^ limit_code n))
-IsConstraintOf class (Reuse n) = n < 32
-IsConstraintOf class (FixedReg r) = (r.number < 64) × (r.class ≡ class)
+IsConstraintOf class (Reuse n) = n < reuse_limit
+IsConstraintOf class (FixedReg r) = (r.number < hw_limit) × (r.class ≡ class)
 
 abbrev pub IsOperand : OperandValue → Type 0
-IsOperand o = (o.vreg.number < 1073741824) × IsConstraintOf o.vreg.class o.constraint
+IsOperand o = (o.vreg.number < vreg_limit) × IsConstraintOf o.vreg.class o.constraint
 
 pub limit_code-lt : (n : ℕ) → limit_code n < 7
 limit_code-lt n = grind (arith, nat_tests)

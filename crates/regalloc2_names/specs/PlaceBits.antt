@@ -1,7 +1,8 @@
 -- How places are packed into bits.
 use Rattle.std.specs.Prelude.{ℕ, ◌≡◌, ◌<◌, ◌+◌, ◌*◌, ◌/◌, ◌%◌, zero, suc}
 use Rattle.std.proofs.Common.{arith}
-use Rattle.regalloc2_names.specs.Place.{Place, NoPlace, InRegister, InSlot}
+use Rattle.regalloc2_names.specs.Place.{Place, NoPlace, InRegister, InSlot, slot_limit}
+use Rattle.regalloc2_names.specs.Register.{register_count}
 use Rattle.regalloc2_names.specs.RegisterBits.{register_of_bits, bits_of_register, bits_of_register-register_of_bits}
 
 -- allocations: the kind in the top three bits, the index below
@@ -21,8 +22,8 @@ bits_of_place (InSlot n) = 1073741824 + n
 -- the parts that stand for a place
 abbrev pub ArePlaceParts : ℕ → ℕ → Type 0
 ArePlaceParts zero i = i ≡ 0
-ArePlaceParts (suc zero) i = i < 192
-ArePlaceParts (suc (suc zero)) i = i < 16777216
+ArePlaceParts (suc zero) i = i < register_count
+ArePlaceParts (suc (suc zero)) i = i < slot_limit
 ArePlaceParts (suc (suc (suc n))) i = ⊥
 
 abbrev pub IsPlaceBits : ℕ → Type 0

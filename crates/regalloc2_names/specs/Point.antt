@@ -1,5 +1,6 @@
 -- Points between instructions, in their order.
 use Rattle.std.specs.Prelude.{ℕ, ◌≡◌, ◌<◌, ◌+◌, ◌*◌, ◌/◌, ◌%◌, ◌⊎◌, nat_lt, nat_eq, if◌then◌else◌}
+use Rattle.regalloc2_index.specs.Number.{invalid_number}
 use Rattle.regalloc2_names.specs.declared.InstPosition.{InstPosition}
 use Rattle.regalloc2_names.specs.declared.InstPosition.TheVariants.{Before, After}
 
@@ -22,19 +23,23 @@ inst_limit = 1073741824
 
 -- the number of an invalid instruction, and the points before and after it
 abbrev pub invalid_inst : ℕ
-invalid_inst = 4294967295
+invalid_inst = invalid_number
 
 abbrev pub invalid_point : InstPosition → ℕ
 invalid_point Before = 4294967294
 invalid_point After = 4294967295
 
--- the numbers of points: below 2^31 the points of instructions, and the two points of the invalid instruction
+-- the numbers of the points of instructions are below
+abbrev pub point_limit : ℕ
+point_limit = 2147483648
+
+-- the numbers of points: the points of instructions, and the two points of the invalid instruction
 abbrev pub IsPointNumber : ℕ → Type 0
-IsPointNumber n = (n < 2147483648) ⊎ (n ≡ 4294967294) ⊎ (n ≡ 4294967295)
+IsPointNumber n = (n < point_limit) ⊎ (n ≡ 4294967294) ⊎ (n ≡ 4294967295)
 
 -- the instruction of a point
 abbrev pub inst_of_point : ℕ → ℕ
-inst_of_point p = if nat_lt p 2147483648 then p / 2 else invalid_inst
+inst_of_point p = if nat_lt p point_limit then p / 2 else invalid_inst
 
 -- the position of a point, before or after its instruction
 abbrev pub position_of_point : ℕ → InstPosition

@@ -33,9 +33,17 @@ is_register a b = nat_eq (class_code a.class) (class_code b.class) && nat_eq a.n
 abbrev pub is_vreg : VirtualRegister → VirtualRegister → Bool
 is_vreg a b = nat_eq (class_code a.class) (class_code b.class) && nat_eq a.number b.number
 
--- a register that has an encoding: 64 numbers in each of three classes
+-- hardware numbers are below: they have 6 bits
+abbrev pub hw_limit : ℕ
+hw_limit = 64
+
+-- how many registers there are: 64 in each of three classes
+abbrev pub register_count : ℕ
+register_count = 192
+
+-- a register that has an encoding
 abbrev pub IsRegister : Register → Type 0
-IsRegister r = r.number < 64
+IsRegister r = r.number < hw_limit
 
 -- vregs' numbers are below: they have 30 bits
 abbrev pub vreg_limit : ℕ
@@ -43,7 +51,7 @@ vreg_limit = 1073741824
 
 -- a vreg that has an encoding
 abbrev pub IsVirtualRegister : VirtualRegister → Type 0
-IsVirtualRegister v = v.number < 1073741824
+IsVirtualRegister v = v.number < vreg_limit
 
 -- the register that stands for none
 abbrev pub invalid_register : Register

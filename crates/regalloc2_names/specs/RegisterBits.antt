@@ -1,7 +1,7 @@
 -- How registers and virtual registers (vregs) are packed into bits.
 use Rattle.std.specs.Prelude.{ℕ, ◌≡◌, ◌<◌, ◌+◌, ◌*◌, ◌/◌, ◌%◌, zero, suc, refl}
 use Rattle.std.proofs.Common.{arith}
-use Rattle.regalloc2_names.specs.Register.{class_code, class_of_code, Register, VirtualRegister}
+use Rattle.regalloc2_names.specs.Register.{class_code, class_of_code, register_count, Register, VirtualRegister}
 
 -- the class above, the number below
 abbrev pub register_of_bits : ℕ → Register
@@ -12,7 +12,7 @@ bits_of_register r = class_code r.class * 64 + r.number
 
 -- the bytes of registers
 abbrev pub IsRegisterIndex : ℕ → Type 0
-IsRegisterIndex b = b < 192
+IsRegisterIndex b = b < register_count
 
 abbrev pub vreg_of_bits : ℕ → VirtualRegister
 vreg_of_bits b = record { number = b / 4; class = class_of_code (b % 4) }

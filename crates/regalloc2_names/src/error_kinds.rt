@@ -33,26 +33,12 @@ impl RegAllocError {
 impl RegAllocErrorKind {
     /// Returns the number that programs and the C library print, in `1..=11`.
     ///
-    /// Kinds are numbered in the order of their declaration.
-    ///
     /// Upstream: none.
     pub fn number(self) -> u8
         ensures numbered { result ≡ number_of_kind self }
         ensures found_again { kind_of_number result ≡ Some self }
     {
-        match self {
-            RegAllocErrorKind::CritEdge => 1,
-            RegAllocErrorKind::SSA => 2,
-            RegAllocErrorKind::BB => 3,
-            RegAllocErrorKind::Branch => 4,
-            RegAllocErrorKind::EntryLivein => 5,
-            RegAllocErrorKind::DisallowedBranchArg => 6,
-            RegAllocErrorKind::TooManyLiveRegs => 7,
-            RegAllocErrorKind::TooManyOperands => 8,
-            RegAllocErrorKind::Unsupported => 9,
-            RegAllocErrorKind::TooManySpillSlots => 10,
-            RegAllocErrorKind::Memory => 11,
-        }
+        self as u8
     }
 
     /// Returns the kind whose number is `number`, or `None` if there is none.

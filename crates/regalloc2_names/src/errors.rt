@@ -7,8 +7,8 @@ use std::alloc::{AllocError, AllocFailed};
 use std::error::Error;
 use std::fmt;
 
-/// Where a virtual register (vreg) is defined or read: an instruction, or a block's parameter for
-/// `Inst::invalid()`.
+/// The text of the place where a vreg is defined or read: an instruction, or a block's parameter
+/// for `Inst::invalid()`.
 #[derive(Clone, Copy)]
 struct SiteText(Inst);
 
@@ -27,8 +27,8 @@ impl fmt::Display for SiteText {
     }
 }
 
-/// What an error names, followed by a colon: the edge, the vreg with its site, the block, the
-/// instruction or nothing.
+/// The text of what an error names, followed by a colon: the edge, the vreg with its site, the
+/// block or the instruction. It is empty if the error names nothing.
 #[derive(Clone, Copy)]
 struct HeadingText(RegAllocError);
 

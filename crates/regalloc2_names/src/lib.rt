@@ -88,7 +88,7 @@ pub enum AllocationKind {
     Stack = 2,
 }
 
-/// Before or after an instruction.
+/// The position of a program point: before or after its instruction.
 #[derive(Clone, Copy, Debug, PartialEq, Eq, PartialOrd, Ord, Hash)]
 pub enum InstPosition {
     Before = 0,
@@ -136,41 +136,42 @@ pub enum RegAllocError {
     Memory,
 }
 
-/// The reason that a `RegAllocError` gives, without what it names.
+/// The reason that a `RegAllocError` gives, without what it names. Its discriminants are public
+/// numbers.
 ///
 /// Upstream: none.
 #[derive(Clone, Copy, Debug, PartialEq, Eq)]
 pub enum RegAllocErrorKind {
     /// An edge is critical.
-    CritEdge,
+    CritEdge = 1,
 
     /// A vreg is defined twice, isn't below the count, or is used without an earlier definition.
-    SSA,
+    SSA = 2,
 
     /// A block doesn't exist, has a wrong range, predecessors or terminators, or is a wrong entry.
-    BB,
+    BB = 3,
 
     /// A branch passes arguments that don't fit the parameters.
-    Branch,
+    Branch = 4,
 
     /// The entry has parameters.
-    EntryLivein,
+    EntryLivein = 5,
 
     /// A branch with operands leads to a block with several incoming edges.
-    DisallowedBranchArg,
+    DisallowedBranchArg = 6,
 
     /// An instruction needs more registers than there are.
-    TooManyLiveRegs,
+    TooManyLiveRegs = 7,
 
     /// There are 2^32 operands or more.
-    TooManyOperands,
+    TooManyOperands = 8,
 
     /// An operand isn't supported.
-    Unsupported,
+    Unsupported = 9,
 
     /// Spill slots would take more than 2^24 units.
-    TooManySpillSlots,
+    TooManySpillSlots = 10,
 
     /// A memory allocation failed.
-    Memory,
+    Memory = 11,
 }

@@ -2,7 +2,8 @@
 
 ghost use Rattle.std.specs.Prelude.{None, Some, ◌≡◌, ℕ, ◌<◌, ◌↔◌, IsTrue};
 ghost use Rattle.regalloc2_names.specs.Operand.{is_def, is_late, is_position, is_reading, nonallocatable_register, reads_at};
-ghost use Rattle.regalloc2_names.specs.Packing.{IsConstraintCode, IsConstraintOf, IsOperandBits, bits_of_operand, constraint_code, operand_of_bits};
+ghost use Rattle.regalloc2_names.specs.Packing.{IsConstraintCode, IsConstraintOf, IsOperandBits, bits_of_operand, constraint_code};
+ghost use Rattle.regalloc2_names.specs.Packing.{constraint_code_limit, operand_of_bits, reuse_limit};
 
 use super::registers::CLASSES;
 use super::{OperandConstraint, OperandKind, OperandPos, PReg, RegClass, VReg};
@@ -35,11 +36,13 @@ impl Model for Operand {
     ghost inverse_ok = { λ o h. ap (λ (b : ℕ). record { bits = b }) (bits_of_operand-operand_of_bits o.bits h) };
 }
 
-/// The codes of the constraints without a parameter.
+/// The code of `OperandConstraint::Any`.
 const ANY: u64 = 0;
 
+/// The code of `OperandConstraint::Reg`.
 const REG: u64 = 1;
 
+/// The code of `OperandConstraint::Stack`.
 const STACK: u64 = 2;
 
 /// The first code of a limit. The exponent of the limit, a power of two, is added.
@@ -51,7 +54,7 @@ const REUSE: u64 = 32;
 /// The first code of a fixed register. The register's number is added.
 pub(crate) const FIXED: u64 = 64;
 
-/// How many limits have a code: the powers of two up to 64.
+/// The number of limits that have a code: the powers of two up to 64.
 const LIMITS: u64 = 7;
 
 /// One more than the greatest code.
@@ -61,7 +64,7 @@ const CODES: u64 = 128;
 fn constraint_field(class: RegClass, constraint: OperandConstraint) -> u64
     requires { IsConstraintOf class constraint }
     ensures code { result ≡ constraint_code constraint }
-    ensures small { result < 128 }
+    ensures small { result < constraint_code_limit }
 {
     match constraint {
         OperandConstraint::Any => ANY,
@@ -69,22 +72,11 @@ fn constraint_field(class: RegClass, constraint: OperandConstraint) -> u64
         OperandConstraint::Stack => STACK,
         OperandConstraint::FixedReg(preg) => FIXED | preg.hw_enc() as u64,
         OperandConstraint::Reuse(index) => REUSE | index as u64,
-        OperandConstraint::Limit(max) => {
-            LIMIT
-                + match max {
-                    1 => 0,
-                    2 => 1,
-                    4 => 2,
-                    8 => 3,
-                    16 => 4,
-                    32 => 5,
-                    _ => 6,
-                }
-        }
+        OperandConstraint::Limit(max) => LIMIT + max.trailing_zeros() as u64,
     }
 }
 
-/// Whether `field` is the code of a constraint.
+/// Returns `true` if `field` is the code of a constraint.
 #[inline(always)]
 fn is_constraint_field(field: u64) -> bool
     ensures { IsTrue result ↔ IsConstraintCode field }
@@ -119,8 +111,10 @@ impl Operand {
 
     pub(crate) const CONSTRAINT_SHIFT: usize = Self::KIND_SHIFT + Self::KIND_BITS;
 
-    /// The operand of these parts. A fixed register is of the class of `vreg`, the index of a reuse
-    /// at most 31, a limit a power of two up to 64.
+    /// Returns the operand that reads or writes `vreg`, by `kind`, at `pos` and under `constraint`.
+    ///
+    /// A fixed register is of the class of `vreg`, the index of a reuse at most 31, a limit a power of
+    /// two up to 64.
     pub fn new(
         vreg: VReg,
         constraint: OperandConstraint,
@@ -143,65 +137,69 @@ impl Operand {
         }
     }
 
+    /// Returns the operand of `vreg` in a register.
     fn in_reg(vreg: VReg, kind: OperandKind, pos: OperandPos) -> Self
         ensures { result ≡ record { vreg = vreg; constraint = OperandConstraint.Reg; kind = kind; position = pos } }
     {
         Operand::new(vreg, OperandConstraint::Reg, kind, pos)
     }
 
-    fn in_that_reg(vreg: VReg, preg: PReg, kind: OperandKind, pos: OperandPos) -> Self
+    /// Returns the operand of `vreg` in `preg`.
+    fn in_preg(vreg: VReg, preg: PReg, kind: OperandKind, pos: OperandPos) -> Self
         requires { preg.class ≡ vreg.class }
         ensures { result ≡ record { vreg = vreg; constraint = OperandConstraint.FixedReg preg; kind = kind; position = pos } }
     {
         Operand::new(vreg, OperandConstraint::FixedReg(preg), kind, pos)
     }
 
-    fn anywhere(vreg: VReg, kind: OperandKind, pos: OperandPos) -> Self
+    /// Returns the operand of `vreg` in any place.
+    fn in_any_place(vreg: VReg, kind: OperandKind, pos: OperandPos) -> Self
         ensures { result ≡ record { vreg = vreg; constraint = OperandConstraint.Any; kind = kind; position = pos } }
     {
         Operand::new(vreg, OperandConstraint::Any, kind, pos)
     }
 
-    /// A use in a register, at the beginning of the instruction.
+    /// Returns a use of `vreg` in a register, at the beginning of the instruction.
     pub fn reg_use(vreg: VReg) -> Self
         ensures { result ≡ record { vreg = vreg; constraint = OperandConstraint.Reg; kind = OperandKind.Use; position = OperandPos.Early } }
     {
         Operand::in_reg(vreg, OperandKind::Use, OperandPos::Early)
     }
 
-    /// A use in a register, at the end of the instruction, which clobbers and definitions leave
-    /// alone.
+    /// Returns a use of `vreg` in a register at the end of the instruction. Clobbers and definitions
+    /// leave the register alone.
     pub fn reg_use_at_end(vreg: VReg) -> Self
         ensures { result ≡ record { vreg = vreg; constraint = OperandConstraint.Reg; kind = OperandKind.Use; position = OperandPos.Late } }
     {
         Operand::in_reg(vreg, OperandKind::Use, OperandPos::Late)
     }
 
-    /// A definition in a register, at the end of the instruction.
+    /// Returns a definition of `vreg` in a register, at the end of the instruction.
     pub fn reg_def(vreg: VReg) -> Self
         ensures { result ≡ record { vreg = vreg; constraint = OperandConstraint.Reg; kind = OperandKind.Def; position = OperandPos.Late } }
     {
         Operand::in_reg(vreg, OperandKind::Def, OperandPos::Late)
     }
 
-    /// A definition in a register, at the beginning of the instruction, so apart from its uses.
+    /// Returns a definition of `vreg` at the beginning of the instruction, in a register apart from
+    /// the registers of its uses.
     pub fn reg_def_at_start(vreg: VReg) -> Self
         ensures { result ≡ record { vreg = vreg; constraint = OperandConstraint.Reg; kind = OperandKind.Def; position = OperandPos.Early } }
     {
         Operand::in_reg(vreg, OperandKind::Def, OperandPos::Early)
     }
 
-    /// A register that the instruction may write at any time: a definition at its beginning.
+    /// Returns a definition of `vreg` in a register that the instruction may write at any time.
     pub fn reg_temp(vreg: VReg) -> Self
         ensures { result ≡ record { vreg = vreg; constraint = OperandConstraint.Reg; kind = OperandKind.Def; position = OperandPos.Early } }
     {
         Operand::reg_def_at_start(vreg)
     }
 
-    /// A definition at the end of the instruction in the register of the use with the index `idx`,
-    /// at most 31.
+    /// Returns a definition of `vreg` at the end of the instruction, in the register of the use with
+    /// the index `idx`, at most 31.
     pub fn reg_reuse_def(vreg: VReg, idx: usize) -> Self
-        requires { idx < 32 }
+        requires { idx < reuse_limit }
         ensures { result ≡ record { vreg = vreg; constraint = OperandConstraint.Reuse idx; kind = OperandKind.Def; position = OperandPos.Late } }
     {
         Operand::new(
@@ -212,54 +210,54 @@ impl Operand {
         )
     }
 
-    /// A use in `preg`, which is of the class of `vreg`, at the beginning of the instruction.
+    /// Returns a use of `vreg` in `preg`, which is of its class, at the beginning of the instruction.
     pub fn reg_fixed_use(vreg: VReg, preg: PReg) -> Self
         requires { preg.class ≡ vreg.class }
         ensures { result ≡ record { vreg = vreg; constraint = OperandConstraint.FixedReg preg; kind = OperandKind.Use; position = OperandPos.Early } }
     {
-        Operand::in_that_reg(vreg, preg, OperandKind::Use, OperandPos::Early)
+        Operand::in_preg(vreg, preg, OperandKind::Use, OperandPos::Early)
     }
 
-    /// A use in `preg`, which is of the class of `vreg`, at the end of the instruction.
+    /// Returns a use of `vreg` in `preg`, which is of its class, at the end of the instruction.
     pub fn reg_fixed_use_at_end(vreg: VReg, preg: PReg) -> Self
         requires { preg.class ≡ vreg.class }
         ensures { result ≡ record { vreg = vreg; constraint = OperandConstraint.FixedReg preg; kind = OperandKind.Use; position = OperandPos.Late } }
     {
-        Operand::in_that_reg(vreg, preg, OperandKind::Use, OperandPos::Late)
+        Operand::in_preg(vreg, preg, OperandKind::Use, OperandPos::Late)
     }
 
-    /// A definition in `preg`, which is of the class of `vreg`, at the end of the instruction.
+    /// Returns a definition of `vreg` in `preg`, which is of its class, at the end of the instruction.
     pub fn reg_fixed_def(vreg: VReg, preg: PReg) -> Self
         requires { preg.class ≡ vreg.class }
         ensures { result ≡ record { vreg = vreg; constraint = OperandConstraint.FixedReg preg; kind = OperandKind.Def; position = OperandPos.Late } }
     {
-        Operand::in_that_reg(vreg, preg, OperandKind::Def, OperandPos::Late)
+        Operand::in_preg(vreg, preg, OperandKind::Def, OperandPos::Late)
     }
 
-    /// A definition in `preg`, which is of the class of `vreg`, at the beginning of the
+    /// Returns a definition of `vreg` in `preg`, which is of its class, at the beginning of the
     /// instruction.
     pub fn reg_fixed_def_at_start(vreg: VReg, preg: PReg) -> Self
         requires { preg.class ≡ vreg.class }
         ensures { result ≡ record { vreg = vreg; constraint = OperandConstraint.FixedReg preg; kind = OperandKind.Def; position = OperandPos.Early } }
     {
-        Operand::in_that_reg(vreg, preg, OperandKind::Def, OperandPos::Early)
+        Operand::in_preg(vreg, preg, OperandKind::Def, OperandPos::Early)
     }
 
-    /// A use in any place, at the beginning of the instruction.
+    /// Returns a use of `vreg` in any place, at the beginning of the instruction.
     pub fn any_use(vreg: VReg) -> Self
         ensures { result ≡ record { vreg = vreg; constraint = OperandConstraint.Any; kind = OperandKind.Use; position = OperandPos.Early } }
     {
-        Operand::anywhere(vreg, OperandKind::Use, OperandPos::Early)
+        Operand::in_any_place(vreg, OperandKind::Use, OperandPos::Early)
     }
 
-    /// A definition in any place, at the end of the instruction.
+    /// Returns a definition of `vreg` in any place, at the end of the instruction.
     pub fn any_def(vreg: VReg) -> Self
         ensures { result ≡ record { vreg = vreg; constraint = OperandConstraint.Any; kind = OperandKind.Def; position = OperandPos.Late } }
     {
-        Operand::anywhere(vreg, OperandKind::Def, OperandPos::Late)
+        Operand::in_any_place(vreg, OperandKind::Def, OperandPos::Late)
     }
 
-    /// A use of `preg`, which needn't be allocatable. The operand reads no vreg: its number is
+    /// Returns a use of `preg`, which needn't be allocatable. The operand reads no vreg: its number is
     /// `VReg::MAX`.
     pub fn fixed_nonallocatable(preg: PReg) -> Self
         ensures operand { result ≡ record {
@@ -278,7 +276,7 @@ impl Operand {
         )
     }
 
-    /// The class of the vreg.
+    /// Returns the class of the vreg.
     #[tactic(auto, unfolding(crate::specs::Packing::operand_of_bits))]
     pub fn class(self) -> RegClass
         ensures { result ≡ self.vreg.class }
@@ -286,7 +284,7 @@ impl Operand {
         CLASSES[((self.bits >> Self::CLASS_SHIFT) & Self::CLASS_MASK) as usize]
     }
 
-    /// The vreg.
+    /// Returns the vreg.
     #[tactic(auto, unfolding(crate::specs::Packing::operand_of_bits))]
     pub fn vreg(self) -> VReg
         ensures { result ≡ self.vreg }
@@ -296,7 +294,7 @@ impl Operand {
         VReg::from_bits((number << VReg::CLASS_BITS) as u32 | class_field as u32)
     }
 
-    /// Whether the operand is read or written.
+    /// Returns whether the operand is read or written.
     #[tactic(auto, unfolding(crate::specs::Packing::operand_of_bits))]
     pub fn kind(self) -> OperandKind
         ensures { result ≡ self.kind }
@@ -308,7 +306,7 @@ impl Operand {
         }
     }
 
-    /// When the operand is read or written.
+    /// Returns when the operand is read or written.
     #[tactic(auto, unfolding(crate::specs::Packing::operand_of_bits))]
     pub fn pos(self) -> OperandPos
         ensures { result ≡ self.position }
@@ -320,7 +318,7 @@ impl Operand {
         }
     }
 
-    /// What the operand requires of its place.
+    /// Returns what the operand requires of its place.
     #[tactic(auto, unfolding(crate::specs::Packing::operand_of_bits))]
     pub fn constraint(self) -> OperandConstraint
         ensures constraint { result ≡ self.constraint }
@@ -345,7 +343,7 @@ impl Operand {
         }
     }
 
-    /// Whether the operand may be in any register, the most frequent constraint.
+    /// Returns `true` if the operand may be in any register, the most frequent constraint.
     #[tactic(auto, unfolding(crate::specs::Packing::operand_of_bits))]
     pub fn is_any_reg(self) -> bool
         ensures { IsTrue result ↔ (self.constraint ≡ OperandConstraint.Reg) }
@@ -353,8 +351,8 @@ impl Operand {
         self.bits >> Self::CONSTRAINT_SHIFT == REG
     }
 
-    /// The fixed register of an operand that names no vreg, marked by the number `VReg::MAX`. The
-    /// operand reads nothing, and its register needn't be allocatable.
+    /// Returns the fixed register of an operand that names no vreg, which the number `VReg::MAX`
+    /// marks. The operand reads nothing, and its register needn't be allocatable.
     pub fn as_fixed_nonallocatable(self) -> Option<PReg>
         ensures { result ≡ nonallocatable_register self }
     {
@@ -364,14 +362,14 @@ impl Operand {
         }
     }
 
-    /// Whether the operand writes its vreg.
+    /// Returns `true` if the operand writes its vreg.
     pub fn is_def(self) -> bool
         ensures { result ≡ is_def self.kind }
     {
         self.kind() == OperandKind::Def
     }
 
-    /// Whether the operand reads its vreg. Every use does, except one whose register isn't
+    /// Returns `true` if the operand reads its vreg. Every use does, except a use whose register isn't
     /// allocated (`as_fixed_nonallocatable`).
     pub fn is_reading(self) -> bool
         ensures { result ≡ is_reading self }
@@ -379,19 +377,19 @@ impl Operand {
         if self.kind() != OperandKind::Use {
             return false;
         }
-        // the number is tested first: it is the greatest in hardly any operand
+        // The number is tested first: hardly any operand has the greatest.
         self.vreg().vreg() != VReg::MAX
             || !matches!(self.constraint(), OperandConstraint::FixedReg(_))
     }
 
-    /// Whether the operand is read or written at the end of its instruction.
+    /// Returns `true` if the operand is read or written at the end of its instruction.
     pub fn is_late(self) -> bool
         ensures { result ≡ is_late self.position }
     {
         self.is_at(OperandPos::Late)
     }
 
-    /// Whether the operand is read or written at `pos`.
+    /// Returns `true` if the operand is read or written at `pos`.
     pub fn is_at(self, pos: OperandPos) -> bool
         ensures test { result ≡ is_position pos self.position }
         ensures same { IsTrue result ↔ (self.position ≡ pos) }
@@ -399,14 +397,14 @@ impl Operand {
         self.pos() == pos
     }
 
-    /// Whether the operand reads its vreg at `pos`.
+    /// Returns `true` if the operand reads its vreg at `pos`.
     pub fn reads_at(self, pos: OperandPos) -> bool
         ensures { result ≡ reads_at pos self }
     {
         self.is_reading() && self.is_at(pos)
     }
 
-    /// The operand's encoding, which `from_bits` decodes.
+    /// Returns the operand's encoding, which `from_bits` decodes.
     pub fn bits(self) -> u64
         ensures bits { result ≡ bits_of_operand self }
         ensures word { IsOperandBits result }
@@ -416,7 +414,7 @@ impl Operand {
         bits
     }
 
-    /// Whether `bits` encode an operand.
+    /// Returns `true` if `bits` encode an operand.
     #[inline(always)]
     pub fn is_bits(bits: u64) -> bool
         ensures { IsTrue result ↔ IsOperandBits bits }
@@ -428,7 +426,7 @@ impl Operand {
             && is_constraint_field(bits >> Self::CONSTRAINT_SHIFT)
     }
 
-    /// The operand that `bits` encode; `is_bits` accepts them.
+    /// Returns the operand that `bits`, which `is_bits` accepts, encode.
     pub fn from_bits(bits: u64) -> Self
         requires { IsOperandBits bits }
         ensures operand { result ≡ operand_of_bits bits }

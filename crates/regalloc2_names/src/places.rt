@@ -36,7 +36,7 @@ impl SpillSlot {
 
     const INDEX_MASK: u32 = (1 << Self::MAX_BITS) - 1;
 
-    /// The slot of the number `slot`.
+    /// Returns the slot of number `slot`, at most `SpillSlot::MAX`.
     pub fn new(slot: usize) -> Self
         requires { slot ≤ SpillSlot.MAX }
         ensures { result ≡ slot }
@@ -44,7 +44,8 @@ impl SpillSlot {
         SpillSlot { bits: slot as u32 }
     }
 
-    /// The number of the slot, its lower 24 bits: the greatest number for the invalid slot.
+    /// Returns the number of the slot, the lower `MAX_BITS` of its bits: `SpillSlot::MAX` for the
+    /// invalid slot.
     pub fn index(self) -> usize
         ensures low { result ≡ self % slot_limit }
         ensures number { self ≤ SpillSlot.MAX → result ≡ self }
@@ -53,7 +54,7 @@ impl SpillSlot {
         (self.bits & Self::INDEX_MASK) as usize
     }
 
-    /// The slot `offset` numbers further on.
+    /// Returns the slot whose number is greater by `offset`.
     pub fn plus(self, offset: usize) -> Self
         requires { self + offset ≤ SpillSlot.MAX }
         ensures { result ≡ self + offset }
@@ -61,21 +62,21 @@ impl SpillSlot {
         SpillSlot::new(self.index() + offset)
     }
 
-    /// The slot that stands for none.
+    /// Returns the slot that stands for none.
     pub fn invalid() -> Self
         ensures { result ≡ invalid_slot }
     {
         SpillSlot { bits: u32::MAX }
     }
 
-    /// Whether the slot stands for none.
+    /// Returns `true` if the slot stands for none.
     pub fn is_invalid(self) -> bool
         ensures { IsTrue result ↔ (self ≡ invalid_slot) }
     {
         self == Self::invalid()
     }
 
-    /// Whether the slot doesn't stand for none.
+    /// Returns `true` if the slot has a number.
     pub fn is_valid(self) -> bool
         ensures { IsTrue result ↔ (self ≤ SpillSlot.MAX) }
     {
@@ -125,14 +126,14 @@ impl Allocation {
 
     const STACK: u32 = 2;
 
-    /// No place.
+    /// Returns no place.
     pub fn none() -> Self
         ensures { result ≡ NoPlace }
     {
         Allocation { bits: 0 }
     }
 
-    /// The place `preg`.
+    /// Returns the place `preg`.
     pub fn reg(preg: PReg) -> Self
         ensures { result ≡ InRegister preg }
     {
@@ -141,7 +142,7 @@ impl Allocation {
         }
     }
 
-    /// The place `slot`, which is valid.
+    /// Returns the place `slot`, which is valid.
     pub fn stack(slot: SpillSlot) -> Self
         requires { slot ≤ SpillSlot.MAX }
         ensures { result ≡ InSlot slot }
@@ -151,7 +152,7 @@ impl Allocation {
         }
     }
 
-    /// Which form the place has.
+    /// Returns the form of the place.
     pub fn kind(self) -> AllocationKind
         ensures { result ≡ kind_of_place self }
     {
@@ -162,21 +163,21 @@ impl Allocation {
         }
     }
 
-    /// Whether there is no place.
+    /// Returns `true` if there is no place.
     pub fn is_none(self) -> bool
         ensures { result ≡ is_no_place self }
     {
         self.kind() == AllocationKind::None
     }
 
-    /// Whether there is a place.
+    /// Returns `true` if there is a place.
     pub fn is_some(self) -> bool
         ensures { IsTrue result ↔ (is_no_place self ≡ false) }
     {
         self.kind() != AllocationKind::None
     }
 
-    /// Whether the places are equal.
+    /// Returns `true` if the place is `other`.
     pub fn is_same(self, other: Allocation) -> bool
         ensures test { result ≡ is_place self other }
         ensures same { IsTrue result ↔ (self ≡ other) }
@@ -184,21 +185,21 @@ impl Allocation {
         self == other
     }
 
-    /// Whether the place is a register.
+    /// Returns `true` if the place is a register.
     pub fn is_reg(self) -> bool
         ensures { result ≡ is_in_register self }
     {
         self.kind() == AllocationKind::Reg
     }
 
-    /// Whether the place is a spill slot.
+    /// Returns `true` if the place is a spill slot.
     pub fn is_stack(self) -> bool
         ensures { result ≡ is_in_slot self }
     {
         self.kind() == AllocationKind::Stack
     }
 
-    /// Whether the place is on the stack: a spill slot, or a register of `fixed_stack`, which names a
+    /// Returns `true` if the place is on the stack: a spill slot, or a register of `fixed_stack`, which names a
     /// fixed stack slot.
     pub fn is_memory(self, fixed_stack: PRegSet) -> bool
         ensures { result ≡ is_memory fixed_stack self }
@@ -209,14 +210,14 @@ impl Allocation {
         }
     }
 
-    /// The index of the register or the number of the slot; 0 if there is no place.
+    /// Returns the index of the register or the number of the slot; 0 if there is no place.
     pub fn index(self) -> usize
         ensures { result ≡ index_of_place self }
     {
         (self.bits & Self::INDEX_MASK) as usize
     }
 
-    /// The register, if the place is a register.
+    /// Returns the register, if the place is a register.
     pub fn as_reg(self) -> Option<PReg>
         ensures { result ≡ register_of_place self }
     {
@@ -227,7 +228,7 @@ impl Allocation {
         }
     }
 
-    /// The spill slot, if the place is a slot.
+    /// Returns the spill slot, if the place is a slot.
     pub fn as_stack(self) -> Option<SpillSlot>
         ensures { result ≡ slot_of_place self }
     {
@@ -240,7 +241,7 @@ impl Allocation {
         }
     }
 
-    /// The place's encoding, which `from_bits` decodes.
+    /// Returns the place's encoding, which `from_bits` decodes.
     pub fn bits(self) -> u32
         ensures bits { result ≡ bits_of_place self }
         ensures word { IsPlaceBits result }
@@ -250,7 +251,7 @@ impl Allocation {
         bits
     }
 
-    /// Whether `bits` encode a place.
+    /// Returns `true` if `bits` encode a place.
     pub fn is_bits(bits: u32) -> bool
         ensures { IsTrue result ↔ IsPlaceBits bits }
     {
@@ -263,7 +264,7 @@ impl Allocation {
         }
     }
 
-    /// The place that `bits` encode; `is_bits` accepts them.
+    /// Returns the place that `bits`, which `is_bits` accepts, encode.
     pub fn from_bits(bits: u32) -> Self
         requires { IsPlaceBits bits }
         ensures place { result ≡ place_of_bits bits }

@@ -38,7 +38,10 @@ impl ProgPoint {
     /// The first number past the points of instructions.
     const END: u32 = 1 << 31;
 
-    /// The point at `pos` of `inst`, whose number is below `inst_limit`, 2^30, or is the number of
+    /// The number of the point before `Inst::invalid()`.
+    const INVALID: u32 = u32::MAX - 1;
+
+    /// Returns the point at `pos` of `inst`, whose number is below 2^30, or is the number of
     /// `Inst::invalid()`.
     pub fn new(inst: Inst, pos: InstPosition) -> Self
         requires { inst ≢ invalid_inst → inst < inst_limit }
@@ -51,30 +54,30 @@ impl ProgPoint {
         }
     }
 
-    /// The point before `inst`.
+    /// Returns the point before `inst`, as [`ProgPoint::new`] does.
     pub fn before(inst: Inst) -> Self
         requires { inst ≢ invalid_inst → inst < inst_limit }
         ensures point { inst ≢ invalid_inst → result ≡ before inst }
-        ensures invalid { inst ≡ invalid_inst → result ≡ 4294967294 }
+        ensures invalid { inst ≡ invalid_inst → result ≡ invalid_point InstPosition.Before }
     {
         ProgPoint {
             bits: inst.0 << Self::POS_BITS,
         }
     }
 
-    /// The point after `inst`.
+    /// Returns the point after `inst`, as [`ProgPoint::new`] does.
     #[tactic(auto, using(crate::proofs::Words::odd_word))]
     pub fn after(inst: Inst) -> Self
         requires { inst ≢ invalid_inst → inst < inst_limit }
         ensures point { inst ≢ invalid_inst → result ≡ after inst }
-        ensures invalid { inst ≡ invalid_inst → result ≡ 4294967295 }
+        ensures invalid { inst ≡ invalid_inst → result ≡ invalid_point InstPosition.After }
     {
         ProgPoint {
             bits: (inst.0 << Self::POS_BITS) | 1,
         }
     }
 
-    /// The instruction of the point.
+    /// Returns the instruction of the point.
     pub fn inst(self) -> Inst
         ensures inst { result ≡ inst_of_point self }
         ensures valid { result ≢ invalid_inst → result < inst_limit }
@@ -86,7 +89,7 @@ impl ProgPoint {
         }
     }
 
-    /// Whether the point is before or after its instruction.
+    /// Returns whether the point is before or after its instruction.
     pub fn pos(self) -> InstPosition
         ensures { result ≡ position_of_point self }
     {
@@ -97,7 +100,7 @@ impl ProgPoint {
         }
     }
 
-    /// The number of the point in the order of points.
+    /// Returns the number of the point in the order of points.
     pub fn to_index(self) -> u32
         ensures index { result ≡ self }
         ensures point { IsPointNumber self }
@@ -106,14 +109,14 @@ impl ProgPoint {
         bits
     }
 
-    /// Whether `index` is the number of a point.
+    /// Returns `true` if `index` is the number of a point.
     pub fn is_index(index: u32) -> bool
         ensures { IsTrue result ↔ IsPointNumber index }
     {
-        index < Self::END || index >= u32::MAX - 1
+        index < Self::END || index >= Self::INVALID
     }
 
-    /// The point of the number `index`, which `is_index` accepts.
+    /// Returns the point of number `index`, which `is_index` accepts.
     pub fn from_index(index: u32) -> Self
         requires { IsPointNumber index }
         ensures { result ≡ index }
@@ -121,8 +124,8 @@ impl ProgPoint {
         ProgPoint { bits: index }
     }
 
-    /// The next point, if there is one. The point after an instruction precedes the point before the
-    /// next instruction.
+    /// Returns the next point, which exists. The point after an instruction precedes the point before
+    /// the next instruction.
     pub fn next(self) -> Self
         requires { IsPointNumber (self + 1) }
         ensures { result ≡ self + 1 }
@@ -132,7 +135,7 @@ impl ProgPoint {
         }
     }
 
-    /// The previous point, if there is one.
+    /// Returns the previous point, which exists.
     pub fn prev(self) -> Self
         requires not_first { 0 < self }
         requires point { IsPointNumber (self - 1) }
@@ -143,9 +146,9 @@ impl ProgPoint {
         }
     }
 
-    /// The point before `Inst::invalid()`, which stands for none.
+    /// Returns the point before `Inst::invalid()`, which stands for none.
     pub fn invalid() -> Self
-        ensures { result ≡ 4294967294 }
+        ensures { result ≡ invalid_point InstPosition.Before }
     {
         ProgPoint::before(Inst::invalid())
     }

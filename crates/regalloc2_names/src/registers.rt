@@ -8,10 +8,10 @@ use super::RegClass;
 use std::marker::Model;
 
 /// The classes by their code. Looking up a class by its code takes one step and no test.
-pub static CLASSES: [RegClass; 3] = [RegClass::Int, RegClass::Float, RegClass::Vector];
+pub(crate) static CLASSES: [RegClass; 3] = [RegClass::Int, RegClass::Float, RegClass::Vector];
 
 impl RegClass {
-    /// The number of the class, 0 to 2, by which tables of one item for each class are indexed.
+    /// Returns the number of the class, in `0..=2`: the index in a table with one item for each class.
     pub fn code(self) -> usize
         ensures code { result ≡ class_code self }
         ensures small { result < 3 }
@@ -20,7 +20,7 @@ impl RegClass {
     }
 }
 
-/// A hardware register: a number from 0 to 63 in the register file of a class.
+/// A hardware register: a number in `0..=63` in the register file of a class.
 ///
 /// Packed into one byte, the class in the top two bits and the number below. The byte is also the
 /// register's index among all registers.
@@ -47,7 +47,7 @@ impl Model for PReg {
 }
 
 impl PReg {
-    /// How many bits a hardware number has.
+    /// The number of bits of a hardware number.
     pub const MAX_BITS: usize = 6;
 
     /// The greatest hardware number.
@@ -62,7 +62,7 @@ impl PReg {
     /// The first number past the indexes of registers.
     const INDEX_END: usize = 3 << Self::MAX_BITS;
 
-    /// The register of the number `hw_enc` in the register file of `class`.
+    /// Returns the register of number `hw_enc`, at most `PReg::MAX`, in the register file of `class`.
     pub const fn new(hw_enc: usize, class: RegClass) -> Self
         requires { hw_enc ≤ PReg.MAX }
         ensures { result ≡ record { number = hw_enc; class = class } }
@@ -72,7 +72,7 @@ impl PReg {
         }
     }
 
-    /// The number in the class's register file.
+    /// Returns the number in the register file of the register's class.
     pub const fn hw_enc(self) -> usize
         ensures number { result ≡ self.number }
         ensures small { result ≤ PReg.MAX }
@@ -80,30 +80,30 @@ impl PReg {
         self.bits as usize & Self::MAX
     }
 
-    /// The class of the register file.
+    /// Returns the class of the register file.
     pub const fn class(self) -> RegClass
         ensures { result ≡ self.class }
     {
         CLASSES[(self.bits >> Self::MAX_BITS) as usize]
     }
 
-    /// The index among all registers: the class `Int` first, then `Float`, then `Vector`.
+    /// Returns the index among all registers: the class `Int` first, then `Float`, then `Vector`.
     pub const fn index(self) -> usize
         ensures index { result ≡ bits_of_register self }
-        ensures small { result < 192 }
+        ensures small { IsRegisterIndex result }
         ensures valid { IsRegister self }
     {
         self.bits as usize
     }
 
-    /// Whether `index` is the index of a register.
+    /// Returns `true` if `index` is the index of a register.
     pub fn is_index(index: usize) -> bool
         ensures { IsTrue result ↔ IsRegisterIndex index }
     {
         index < Self::INDEX_END
     }
 
-    /// The register of `index`, which `is_index` accepts.
+    /// Returns the register of `index`, which `is_index` accepts.
     pub const fn from_index(index: usize) -> Self
         requires { IsRegisterIndex index }
         ensures register { result ≡ register_of_bits index }
@@ -112,7 +112,7 @@ impl PReg {
         PReg { bits: index as u8 }
     }
 
-    /// The register that stands for none: number 63 of the class `Int`.
+    /// Returns the register that stands for none: number `PReg::MAX` of the class `Int`.
     pub const fn invalid() -> Self
         ensures { result ≡ invalid_register }
     {
@@ -121,7 +121,7 @@ impl PReg {
         }
     }
 
-    /// The register itself, or `None` for the invalid register.
+    /// Returns the register itself, or `None` for the invalid register.
     pub const fn as_valid(self) -> Option<PReg>
         ensures { MatchOption result (self ≡ invalid_register) (λ r. (r ≡ self) × (self ≢ invalid_register)) }
     {

@@ -1,7 +1,7 @@
 //! Sets of registers.
 
 ghost use Rattle.std.specs.Prelude.{◌≢◌, ◌∷◌, ◌^◌, slice_index, List, Contains, ◌≡◌, ◌≤◌, ℕ, ◌<◌, ◌↔◌, ◌||◌, ◌&&◌, not, false, true, IsTrue, IfSome, IsNone, length, nat_lt};
-ghost use Rattle.regalloc2_names.specs.Register.{IsRegister, Register, class_code, is_register};
+ghost use Rattle.regalloc2_names.specs.Register.{IsRegister, Register, class_code, hw_limit, is_register, register_count};
 ghost use Rattle.regalloc2_names.specs.RegisterBits.{bits_of_register};
 ghost use Rattle.std.specs.Int.{bit_at};
 ghost use Rattle.regalloc2_names.specs.RegisterSet.{has_register, word_members, words_have, registers_of};
@@ -21,21 +21,23 @@ pub struct PRegSet {
 
 #[tactic(auto, unfolding(crate::specs::RegisterSet::has_register))]
 impl PRegSet {
-    /// The set of no register.
+    /// Returns the empty set.
     pub const fn empty() -> Self
         ensures { (r : Register) → has_register result r ≡ false }
     {
         PRegSet { bits: [0; 3] }
     }
 
-    /// The set of the registers whose bits are 1 in `words`, one for each class. Upstream: none.
+    /// Returns the set of the registers whose bits are 1 in `words`, one word for each class.
+    ///
+    /// Upstream: none.
     pub const fn from_words(words: [u64; 3]) -> Self
         ensures { (r : Register) → has_register result r ≡ words_have words r }
     {
         PRegSet { bits: words }
     }
 
-    /// The set's three words, one for each class.
+    /// Returns the set's words, one for each class. Reading them by value gives their range to `eq`.
     const fn words(self) -> [u64; 3]
         ensures words { result ≡ self.bits }
         ensures fits { (i : ℕ) → slice_index result i < 2 ^ 64 }
@@ -43,16 +45,17 @@ impl PRegSet {
         self.bits
     }
 
+    /// Returns the index of the word of `reg`, and the index of its bit in the word.
     const fn split_index(reg: PReg) -> (usize, usize)
         ensures word { result.0 ≡ class_code reg.class }
         ensures bit { result.1 ≡ reg.number }
         ensures word_small { result.0 < 3 }
-        ensures bit_small { result.1 < 64 }
+        ensures bit_small { result.1 < hw_limit }
     {
-        (reg.index() / 64, reg.hw_enc())
+        (reg.index() >> PReg::MAX_BITS, reg.hw_enc())
     }
 
-    /// Whether `reg` is in the set.
+    /// Returns `true` if `reg` is in the set.
     pub fn contains(&self, reg: PReg) -> bool
         ensures member { result ≡ has_register self.now reg }
         ensures in_range { reg.number ≤ PReg.MAX }
@@ -61,7 +64,7 @@ impl PRegSet {
         self.bits[index] & (1 << bit) != 0
     }
 
-    /// Puts `reg` into the set.
+    /// Adds `reg` to the set.
     pub const fn add(&mut self, reg: PReg)
         ensures members { (r : Register) → has_register self.new r ≡ is_register reg r || has_register self.old r }
         ensures in_range { reg.number ≤ PReg.MAX }
@@ -70,7 +73,7 @@ impl PRegSet {
         self.bits[index] |= 1 << bit;
     }
 
-    /// The set with `reg` added.
+    /// Returns the set with `reg` added.
     pub const fn with(self, reg: PReg) -> Self
         ensures members { (r : Register) → has_register result r ≡ is_register reg r || has_register self r }
         ensures in_range { reg.number ≤ PReg.MAX }
@@ -89,7 +92,7 @@ impl PRegSet {
         self.bits[index] &= !(1 << bit);
     }
 
-    /// Puts the registers of `other` into the set.
+    /// Adds the registers of `other` to the set.
     pub fn union_from(&mut self, other: PRegSet)
         ensures { (r : Register) → has_register self.new r ≡ has_register self.old r || has_register other r }
     {
@@ -107,7 +110,7 @@ impl PRegSet {
         self.bits = [a & d, b & e, c & f];
     }
 
-    /// The registers that aren't in the set.
+    /// Returns the registers that aren't in the set.
     pub fn invert(&self) -> PRegSet
         ensures { (r : Register) → IsRegister r → has_register result r ≡ not (has_register self.now r) }
     {
@@ -115,7 +118,9 @@ impl PRegSet {
         PRegSet { bits: [!a, !b, !c] }
     }
 
-    /// The registers of the set that aren't in `other`. Upstream: none.
+    /// Returns the registers of the set that aren't in `other`.
+    ///
+    /// Upstream: none.
     #[inline(always)]
     pub fn difference(self, other: PRegSet) -> PRegSet
         ensures { (r : Register) → has_register result r ≡ not (has_register other r) && has_register self r }
@@ -127,23 +132,23 @@ impl PRegSet {
         }
     }
 
-    /// Whether the set has no register of `regclass`.
+    /// Returns `true` if the set has no register of `regclass`.
     pub fn is_empty(&self, regclass: RegClass) -> bool
         ensures { IsTrue result ↔ ((r : Register) → r.class ≡ regclass → has_register self.now r ≡ false) }
     {
-        self.bits[regclass as usize] == 0
+        self.bits[regclass.code()] == 0
     }
 
-    /// How many registers are in the set.
+    /// Returns the number of registers in the set.
     pub fn len(&self) -> u32
         ensures len { result ≡ length (registers_of self.now) }
-        ensures small { result ≤ 192 }
+        ensures small { result ≤ register_count }
     {
         let [a, b, c] = self.bits;
         a.count_ones() + b.count_ones() + c.count_ones()
     }
 
-    /// The register of the greatest index in the set.
+    /// Returns the register of the greatest index in the set, or `None` if the set is empty.
     pub fn max_preg(&self) -> Option<PReg>
         ensures none { IsNone result ↔ ((r : Register) → has_register self.now r ≡ false) }
         ensures member { IfSome result (λ m. has_register self.now m ≡ true) }
@@ -161,7 +166,7 @@ impl PRegSet {
         }
     }
 
-    /// Puts every register of a lower index than `reg` into the set.
+    /// Adds every register of a lower index than `reg` to the set.
     pub fn add_up_to(&mut self, reg: PReg)
         ensures { (r : Register) → IsRegister r → has_register self.new r ≡ nat_lt (bits_of_register r) (bits_of_register reg) || has_register self.old r }
     {
@@ -175,14 +180,14 @@ impl PRegSet {
     }
 }
 
-/// The index of the highest bit set in a word that isn't 0.
+/// Returns the index of the highest bit set in `word`, which isn't 0.
 fn highest_bit(word: u64) -> usize
     requires { word ≢ 0 }
-    ensures small { result < 64 }
+    ensures small { result < hw_limit }
     ensures set { bit_at word result ≡ 1 }
     ensures highest { (n : ℕ) → result < n → bit_at word n ≡ 0 }
 {
-    (63 - word.leading_zeros()) as usize
+    (u64::BITS - 1 - word.leading_zeros()) as usize
 }
 
 impl PartialEq for PRegSet {
@@ -195,7 +200,7 @@ impl PartialEq for PRegSet {
 
     ghost laws = { is_same_set-per };
 
-    /// Whether each register is in both sets or in neither.
+    /// Returns `true` if each register is in both sets or in neither.
     fn eq(&self, other: &PRegSet) -> bool
         ensures listed { result ≡ is_same_set self.now other.now }
         ensures members { IsTrue result ↔ ((r : Register) → has_register self.now r ≡ has_register other.now r) }
@@ -273,11 +278,12 @@ impl Model for PRegSetIter {
     ghost view = { λ it. registers_of_words it.int it.float it.vector };
 }
 
-/// Clears the lowest bit set in a word, and returns its index.
+/// Clears the lowest bit set in `word`, which isn't 0, and returns the bit's index.
 fn take_lowest(word: &mut u64) -> usize
     requires { word.old ≢ 0 }
-    ensures taken { (class : RegClass) → word_members class 0 64 word.old ≡ record { number = result; class = class } ∷ word_members class 0 64 word.new }
-    ensures small { result < 64 }
+    ensures taken { (class : RegClass) → word_members class 0 hw_limit word.old ≡
+        record { number = result; class = class } ∷ word_members class 0 hw_limit word.new }
+    ensures small { result < hw_limit }
 {
     let bit = word.trailing_zeros();
     *word &= !(1 << bit);

@@ -11,18 +11,33 @@ use super::{
 };
 use std::fmt;
 
-/// The letter of a class, written after a number.
-fn class_letter(class: RegClass) -> &'static str
-    ensures { result.now ≡ class_letter class }
-{
-    match class {
-        RegClass::Int => "i",
-        RegClass::Float => "f",
-        RegClass::Vector => "v",
+impl RegClass {
+    /// Returns the letter of the class, written after a number.
+    fn letter(self) -> &'static str
+        ensures { result.now ≡ class_letter self }
+    {
+        match self {
+            RegClass::Int => "i",
+            RegClass::Float => "f",
+            RegClass::Vector => "v",
+        }
+    }
+
+    /// Returns the name of the class, as `Int`.
+    ///
+    /// Upstream: the text of `Debug`.
+    pub fn name(self) -> &'static str
+        ensures { result.now ≡ class_name self }
+    {
+        match self {
+            RegClass::Int => "Int",
+            RegClass::Float => "Float",
+            RegClass::Vector => "Vector",
+        }
     }
 }
 
-/// A definition or a use, with the position if it isn't the usual one.
+/// Returns the word for a definition or a use by `kind`, with `pos` if it isn't the usual position.
 fn kind_name(kind: OperandKind, pos: OperandPos) -> &'static str
     ensures { result.now ≡ kind_text kind pos }
 {
@@ -34,18 +49,18 @@ fn kind_name(kind: OperandKind, pos: OperandPos) -> &'static str
     }
 }
 
-/// As `p3i`.
+/// Writes the number and the letter of the class, as `p3i`.
 impl fmt::Display for PReg {
     ghost output = { λ r. Some (register_text r) };
 
     fn fmt<W: fmt::Write>(&self, f: &mut fmt::Formatter<W>) -> fmt::Result {
         let number = self.hw_enc();
-        let class = class_letter(self.class());
+        let class = self.class().letter();
         write!(f, "p{number}{class}")
     }
 }
 
-/// As `v7`.
+/// Writes the number, as `v7`.
 impl fmt::Display for VReg {
     ghost output = { λ v. Some (vreg_text v) };
 
@@ -55,7 +70,7 @@ impl fmt::Display for VReg {
     }
 }
 
-/// A virtual register with the letter of its class, as `v7i`.
+/// The text of a vreg with the letter of its class, as `v7i`.
 #[derive(Clone, Copy)]
 pub struct VRegText(pub VReg);
 
@@ -64,12 +79,12 @@ impl fmt::Display for VRegText {
 
     fn fmt<W: fmt::Write>(&self, f: &mut fmt::Formatter<W>) -> fmt::Result {
         let vreg = self.0;
-        let class = class_letter(vreg.class());
+        let class = vreg.class().letter();
         write!(f, "{vreg}{class}")
     }
 }
 
-/// As `stack5`.
+/// Writes the number, as `stack5`.
 impl fmt::Display for SpillSlot {
     ghost output = { λ s. Some (slot_text s) };
 
@@ -79,7 +94,7 @@ impl fmt::Display for SpillSlot {
     }
 }
 
-/// `none`, or the text of the register or the slot.
+/// Writes `none`, or the register or the slot.
 impl fmt::Display for Allocation {
     ghost output = { λ a. Some (place_text a) };
 
@@ -94,7 +109,7 @@ impl fmt::Display for Allocation {
     }
 }
 
-/// As `any`, `fixed(p3i)`, `reuse(2)` or `limit(0..=7)`.
+/// Writes the constraint, as `any`, `fixed(p3i)`, `reuse(2)` or `limit(0..=7)`.
 impl fmt::Display for OperandConstraint {
     ghost output = { λ c. Some (constraint_text c) };
 
@@ -114,7 +129,7 @@ impl fmt::Display for OperandConstraint {
     }
 }
 
-/// As `Use: v0i reg`, or `Fixed: p63i` if it names no vreg.
+/// Writes the operand, as `Use: v0i reg`, or as `Fixed: p63i` if it names no vreg.
 impl fmt::Display for Operand {
     ghost output = { λ o. Some (operand_text o) };
 
@@ -124,13 +139,13 @@ impl fmt::Display for Operand {
         }
         let kind = kind_name(self.kind(), self.pos());
         let vreg = self.vreg();
-        let class = class_letter(self.class());
+        let class = self.class().letter();
         let constraint = self.constraint();
         write!(f, "{kind}: {vreg}{class} {constraint}")
     }
 }
 
-/// As `{p0i, p3i, }`.
+/// Writes the registers by rising index, as `{p0i, p3i, }`.
 impl fmt::Display for PRegSet {
     ghost output = { λ s. Some (set_text (registers_of s)) };
 
@@ -143,50 +158,39 @@ impl fmt::Display for PRegSet {
     }
 }
 
-/// The name of a class.
-fn class_name(class: RegClass) -> &'static str
-    ensures { result.now ≡ class_name class }
-{
-    match class {
-        RegClass::Int => "Int",
-        RegClass::Float => "Float",
-        RegClass::Vector => "Vector",
-    }
-}
-
-/// As `PReg(hw = 3, class = Int, index = 3)`.
+/// Writes the parts and the index, as `PReg(hw = 3, class = Int, index = 3)`.
 impl fmt::Debug for PReg {
     ghost debug_output = { λ r. Some (register_debug_text r) };
 
     fn fmt<W: fmt::Write>(&self, f: &mut fmt::Formatter<W>) -> fmt::Result {
         let number = self.hw_enc();
-        let class = class_name(self.class());
+        let class = self.class().name();
         let index = self.index();
         write!(f, "PReg(hw = {number}, class = {class}, index = {index})")
     }
 }
 
-/// As `VReg(vreg = 7, class = Int)`.
+/// Writes the parts, as `VReg(vreg = 7, class = Int)`.
 impl fmt::Debug for VReg {
     ghost debug_output = { λ v. Some (vreg_debug_text v) };
 
     fn fmt<W: fmt::Write>(&self, f: &mut fmt::Formatter<W>) -> fmt::Result {
         let number = self.vreg();
-        let class = class_name(self.class());
+        let class = self.class().name();
         write!(f, "VReg(vreg = {number}, class = {class})")
     }
 }
 
-/// As `Display` writes it.
+/// Writes the text of `Display`.
 impl fmt::Debug for Allocation {
     ghost debug_output = { λ a. Some (place_text a) };
 
     fn fmt<W: fmt::Write>(&self, f: &mut fmt::Formatter<W>) -> fmt::Result {
-        write!(f, "{self}")
+        fmt::Display::fmt(self, f)
     }
 }
 
-/// As `Display` writes it.
+/// Writes the text of `Display`.
 impl fmt::Debug for Operand {
     ghost debug_output = { λ o. Some (operand_text o) };
 
@@ -195,7 +199,7 @@ impl fmt::Debug for Operand {
     }
 }
 
-/// As `progpoint3-pre` or `progpoint3-post`.
+/// Writes the instruction and the position, as `progpoint3-pre` or `progpoint3-post`.
 impl fmt::Debug for ProgPoint {
     ghost debug_output = { λ p. Some (point_debug_text p) };
 

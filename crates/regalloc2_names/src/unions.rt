@@ -1,4 +1,4 @@
-//! What holds of any of several operands.
+//! The union of the encodings of several operands.
 
 ghost use Rattle.std.specs.Prelude.{◌≡◌, ◌∷◌, [], List, false};
 ghost use Rattle.std.specs.List.{list_any};
@@ -16,7 +16,7 @@ pub struct OperandUnion {
 }
 
 impl OperandUnion {
-    /// The union of no encoding.
+    /// Returns the union of no encoding.
     #[inline(always)]
     pub fn empty() -> Self
         ensures { IsUnionOf [] result }
@@ -24,7 +24,7 @@ impl OperandUnion {
         OperandUnion { bits: 0 }
     }
 
-    /// The union with the encoding of `operand`.
+    /// Returns the union with the encoding of `operand`.
     #[inline(always)]
     pub fn with(self, operand: Operand) -> Self
         ensures { (operands : List OperandValue) → IsUnionOf operands self → IsUnionOf (operand ∷ operands) result }
@@ -34,7 +34,7 @@ impl OperandUnion {
         }
     }
 
-    /// Whether any of the operands is fixed to a register.
+    /// Returns `true` if any of the operands is fixed to a register.
     #[inline(always)]
     pub fn any_fixed(self) -> bool
         ensures { (operands : List OperandValue) → IsUnionOf operands self → result ≡ list_any is_fixed_operand operands }
@@ -42,8 +42,8 @@ impl OperandUnion {
         self.bits >> Operand::CONSTRAINT_SHIFT >= FIXED
     }
 
-    /// Whether any of the operands may have a limit. If not, none has. Some reuses and fixed
-    /// registers share the tested bit with the limits.
+    /// Returns `true` if any of the operands may have a limit, and `false` only if none has. Some
+    /// reuses and fixed registers share the tested bit with the limits.
     #[inline(always)]
     pub fn may_have_limit(self) -> bool
         ensures { (operands : List OperandValue) → IsUnionOf operands self → result ≡ false → list_any is_limited_operand operands ≡ false }

@@ -1,6 +1,7 @@
 //! Virtual registers.
 
 ghost use Rattle.std.specs.Prelude.{◌≡◌, ℕ, ◌<◌, ◌≤◌, ◌↔◌, IsTrue};
+ghost use Rattle.regalloc2_index.specs.Number.{number_limit};
 ghost use Rattle.regalloc2_names.specs.RegisterBits.{IsVRegBits, bits_of_vreg, vreg_of_bits};
 ghost use Rattle.regalloc2_names.specs.Register.{IsVirtualRegister, invalid_vreg};
 
@@ -34,7 +35,7 @@ impl Model for VReg {
 }
 
 impl VReg {
-    /// How many bits a number has.
+    /// The number of bits of a vreg's number.
     pub const MAX_BITS: usize = 30;
 
     /// The greatest number.
@@ -44,7 +45,7 @@ impl VReg {
 
     const CLASS_MASK: u32 = (1 << Self::CLASS_BITS) - 1;
 
-    /// The vreg of the number `virt_reg` and of `class`.
+    /// Returns the vreg of number `virt_reg`, at most `VReg::MAX`, and of `class`.
     pub const fn new(virt_reg: usize, class: RegClass) -> Self
         requires { virt_reg ≤ VReg.MAX }
         ensures { result ≡ record { number = virt_reg; class = class } }
@@ -54,7 +55,7 @@ impl VReg {
         }
     }
 
-    /// The number.
+    /// Returns the number.
     pub const fn vreg(self) -> usize
         ensures number { result ≡ self.number }
         ensures small { result ≤ VReg.MAX }
@@ -62,39 +63,39 @@ impl VReg {
         (self.bits >> Self::CLASS_BITS) as usize
     }
 
-    /// The class of the values.
+    /// Returns the class of the values.
     pub const fn class(self) -> RegClass
         ensures { result ≡ self.class }
     {
         CLASSES[(self.bits & Self::CLASS_MASK) as usize]
     }
 
-    /// The vreg that stands for none: the greatest number, of the class `Int`.
+    /// Returns the vreg that stands for none: the greatest number, of the class `Int`.
     pub const fn invalid() -> Self
         ensures { result ≡ invalid_vreg }
     {
         VReg::new(Self::MAX, RegClass::Int)
     }
 
-    /// The encoding of the vreg, which `from_bits` decodes.
+    /// Returns the encoding of the vreg, which `from_bits` decodes.
     pub const fn bits(self) -> usize
         ensures bits { result ≡ bits_of_vreg self }
         ensures word { IsVRegBits result }
         ensures vreg { vreg_of_bits result ≡ self }
-        ensures small { result < 4294967296 }
+        ensures small { result < number_limit }
         ensures valid { IsVirtualRegister self }
     {
         self.bits as usize
     }
 
-    /// Whether `bits` encode a vreg.
+    /// Returns `true` if `bits` encode a vreg.
     pub fn is_bits(bits: u32) -> bool
         ensures { IsTrue result ↔ IsVRegBits bits }
     {
         bits & Self::CLASS_MASK < CLASSES.len() as u32
     }
 
-    /// The vreg that `bits` encode; `is_bits` accepts them.
+    /// Returns the vreg that `bits`, which `is_bits` accepts, encode.
     pub const fn from_bits(bits: u32) -> Self
         requires { IsVRegBits bits }
         ensures vreg { result ≡ vreg_of_bits bits }
