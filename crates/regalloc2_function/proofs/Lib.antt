@@ -12,7 +12,7 @@
 -- `TablesByBlock`.
 -- The order: `leaves_once` and `leaves_reached` in `LeavesReached`; `walked_end` in `DepthFirstWalk`, whose invariant
 -- is `Walked`; `NamedBlocks` for what has to be a block.
--- Sets: `NumberSets`, over `NumberMaps` and `NumberPlaces` (words by key), `NumberBits` (members of a word) and
+-- Sets: `NumberSets`, over `NumberMaps` and `NumberIndexes` (words by key), `NumberBits` (members of a word) and
 -- `NumberUnions`; `WordsWritten`, what a write does to two lists of words.
 pub mod RunLaws
 pub mod ValueLaws
@@ -40,7 +40,7 @@ pub mod TablesByBlock
 pub mod NamedBlocks
 pub mod DepthFirstWalk
 pub mod LeavesReached
-pub mod NumberPlaces
+pub mod NumberIndexes
 pub mod NumberBits
 pub mod NumberMaps
 pub mod NumberSets

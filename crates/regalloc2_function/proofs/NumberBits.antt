@@ -9,7 +9,7 @@ use Rattle.std.specs.Int.{bit_at, trailing_zeros}
 use Rattle.std.proofs.lemmas.Nat.Bits.{bit_at-zero, bit_at-lt, bit_at_above, bit_at-trailing_zeros, bit_at_clear_same, bit_at_clear_other}
 use Rattle.regalloc2_function.specs.Numbers.{bits_from, bits_of, times_listed, RisesFrom, numbers_of_set, word_of, has_number}
 use Rattle.regalloc2_function.specs.NumberWords.{KeysApart, KeysInOneOnly}
-use Rattle.regalloc2_function.proofs.NumberPlaces.{word_of-lacks}
+use Rattle.regalloc2_function.proofs.NumberIndexes.{word_of-lacks}
 
 bits_zero : (n k : ℕ) → bits_from k n 0 ≡ []
 unfolding bits_from

@@ -1,4 +1,4 @@
--- A word is written at its place.
+-- A word is written at an index for its key.
 use Rattle.std.proofs.Common.{ℕ, zero, suc, ◌≡◌, ◌≢◌, ◌<◌, ◌≤◌, ◌+◌, inl, inr, refl, sym, ap, ◌∙◌, arith, false, cond, nat_eq, eq-eqb, List, [], ◌∷◌}
 use Rattle.std.proofs.Common.{◌++◌, length, slice_index_or, slice_set, take, length-take}
 use Rattle.std.proofs.Math.Seq.{take-set-lt}
@@ -6,7 +6,7 @@ use Rattle.std.proofs.lemmas.List.{take_more_set}
 use Rattle.std.proofs.lemmas.Bool.Decides.{nat_tests}
 use Rattle.std.proofs.lemmas.Bool.{ne_eqb}
 use Rattle.regalloc2_function.specs.Numbers.{word_of}
-use Rattle.regalloc2_function.specs.NumberWords.{LacksKey, KeysApart, IsPlaceFor}
+use Rattle.regalloc2_function.specs.NumberWords.{LacksKey, KeysApart, IsIndexFor}
 
 apart-flip : (a b : ℕ) → nat_eq a b ≡ false → nat_eq b a ≡ false
 apart-flip a b e = grind (arith, nat_tests)
@@ -109,27 +109,27 @@ KeysApart-append key w [] h l = (tt, tt)
 KeysApart-append key w (e ∷ es) h l = (Lacks-append e.0 key w es h.0 (apart-flip key e.0 l.0), KeysApart-append key w es h.1 l.1)
 
 -- a word over another one
-pub set_word : (es : List (ℕ × ℕ)) (key w p : ℕ) → KeysApart es → IsPlaceFor es key p → p < length es → (k : ℕ) →
+pub set_word : (es : List (ℕ × ℕ)) (key w p : ℕ) → KeysApart es → IsIndexFor es key p → p < length es → (k : ℕ) →
     word_of (slice_set es p (key, w)) k ≡ cond (nat_eq k key) w (word_of es k)
 set_word es key w p apart place less k = elim (place.replaces less) [
   | inl own ↦ set_own key w k es p apart less own
   | inr free ↦ set_zero key w k es p free.1 less free.0
 ]
 
--- no two words share a key after one is written over another, at a place for its key
-pub KeysApart-set : (es : List (ℕ × ℕ)) (key w p : ℕ) → KeysApart es → IsPlaceFor es key p → p < length es → KeysApart (slice_set es p (key, w))
+-- no two words share a key after one is written over another, at an index for its key
+pub KeysApart-set : (es : List (ℕ × ℕ)) (key w p : ℕ) → KeysApart es → IsIndexFor es key p → p < length es → KeysApart (slice_set es p (key, w))
 KeysApart-set es key w p apart place less = elim (place.replaces less) [
   | inl own ↦ KeysApart-set_own key w es p apart less own
   | inr free ↦ KeysApart-set_new key w es p apart free.1
 ]
 
 -- a word past the others
-pub add_word : (es : List (ℕ × ℕ)) (key w p : ℕ) → IsPlaceFor es key p → p ≡ length es → (k : ℕ) →
+pub add_word : (es : List (ℕ × ℕ)) (key w p : ℕ) → IsIndexFor es key p → p ≡ length es → (k : ℕ) →
     word_of (es ++ (key, w) ∷ []) k ≡ cond (nat_eq k key) w (word_of es k)
 add_word es key w p place at k = append_word key w k es (place.past at)
 
 -- no two words share a key after one is added past the last, where no word had its key
-pub KeysApart-add : (es : List (ℕ × ℕ)) (key w p : ℕ) → KeysApart es → IsPlaceFor es key p → p ≡ length es → KeysApart (es ++ (key, w) ∷ [])
+pub KeysApart-add : (es : List (ℕ × ℕ)) (key w p : ℕ) → KeysApart es → IsIndexFor es key p → p ≡ length es → KeysApart (es ++ (key, w) ∷ [])
 KeysApart-add es key w p apart place at = KeysApart-append key w es apart (place.past at)
 
 length_take_min : (ws : List (ℕ × ℕ)) (n : ℕ) → n ≤ length ws → length (take n ws) ≡ n
@@ -140,8 +140,8 @@ pub record IsWritten (old new : List (ℕ × ℕ)) (key w : ℕ) : Type 0 where
   pub apart : KeysApart new
   pub words : (k : ℕ) → word_of new k ≡ cond (nat_eq k key) w (word_of old k)
 
--- a word is written for its key if it replaces, at a place for it, one of the words that count
-pub written_within : (ws es : List (ℕ × ℕ)) (len key w p : ℕ) → take len ws ≡ es → len ≤ length ws → KeysApart es → IsPlaceFor es key p → p ≢ len →
+-- a word is written for its key if it replaces, at an index for it, one of the words that count
+pub written_within : (ws es : List (ℕ × ℕ)) (len key w p : ℕ) → take len ws ≡ es → len ≤ length ws → KeysApart es → IsIndexFor es key p → p ≢ len →
     IsWritten es (take len (slice_set ws p (key, w))) key w
 written_within ws es len key w p front room apart place ne =
     let l : length es ≡ len = rw (← front) (length_take_min ws len room) in
@@ -152,7 +152,7 @@ written_within ws es len key w p front room apart place ne =
     rw e (record { apart = KeysApart-set es key w p apart place less; words = set_word es key w p apart place less })
 
 -- a word is written for its key if it goes right past the words that count, and one more counts from then on
-pub written_past : (ws es : List (ℕ × ℕ)) (len key w p : ℕ) → take len ws ≡ es → len < length ws → KeysApart es → IsPlaceFor es key p → p ≡ len →
+pub written_past : (ws es : List (ℕ × ℕ)) (len key w p : ℕ) → take len ws ≡ es → len < length ws → KeysApart es → IsIndexFor es key p → p ≡ len →
     IsWritten es (take (len + 1) (slice_set ws p (key, w))) key w
 written_past ws es len key w p front room apart place at =
     let l : length es ≡ len = rw (← front) (length_take_min ws len (omega arith)) in

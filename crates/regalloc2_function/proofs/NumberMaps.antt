@@ -1,13 +1,16 @@
 -- The words that a map holds.
 use Rattle.std.proofs.Common.{ℕ, ◌≡◌, inl, inr, refl, sym, arith, false, cond, nat_eq, eq-eqb, List, [], ◌∷◌, length, Some, None}
-use Rattle.std.specs.Prelude.{unwrap_or}
+use Rattle.std.specs.Prelude.{unwrap_or, IsSome, MatchOption, Option}
+use Rattle.std.specs.List.Sorted.{IsPermutation}
 use Rattle.std.specs.List.{IsDistinct, AllByRecursion}
-use Rattle.std.specs.Map.{lookup, keys_of}
+use Rattle.std.specs.Map.{lookup, keys_of, set_value}
 use Rattle.std.proofs.lemmas.Bool.{cases_eq}
+use Rattle.std.proofs.lemmas.List.Sorted.{IsPermutation-map, IsPermutation-sym}
+use Rattle.std.proofs.lemmas.Map.Keys.{IsDistinct-IsPermutation}
 use Rattle.std.proofs.lemmas.Bool.Decides.{nat_tests}
 use Rattle.regalloc2_function.specs.Numbers.{word_of}
 use Rattle.regalloc2_function.specs.NumberWords.{LacksKey, KeysApart}
-use Rattle.regalloc2_function.proofs.NumberPlaces.{word_of-lacks}
+use Rattle.regalloc2_function.proofs.NumberIndexes.{word_of-lacks}
 
 Lacks-from_all : (k : ℕ) (es : List (ℕ × ℕ)) → AllByRecursion (λ y. nat_eq k y ≡ false) (keys_of es) → LacksKey k es
 unfolding LacksKey
@@ -57,3 +60,15 @@ word_of-update m n key w a b h k = rw (word_of-get n b k, word_of-get m a k, h k
       let g : nat_eq key k ≡ false = grind (arith, nat_tests) in
       rw (f, g) refl
 ])
+
+nat_eq-flips : (x y : ℕ) → nat_eq x y ≡ nat_eq y x
+nat_eq-flips x y = grind (arith, nat_tests)
+
+-- if a map's keys differ after a pair is put into it, they differed before
+pub distinct_before : (m n : List (ℕ × ℕ)) (key w : ℕ) (old : Option ℕ) → IsDistinct nat_eq (keys_of n)
+    → MatchOption old (IsPermutation ((key, w) ∷ m) n) (λ _. n ≡ set_value (nat_eq key) m w) → (IsSome old → keys_of n ≡ keys_of m)
+    → IsDistinct nat_eq (keys_of m)
+unfolding IsDistinct
+distinct_before m n key w None d put stay =
+    (IsDistinct-IsPermutation nat_eq nat_eq-flips _ _ (IsPermutation-sym _ _ (IsPermutation-map (λ (e : ℕ × ℕ). e.0) _ _ put)) d).1
+distinct_before m n key w (Some v) d put stay = rw (stay refl) at d

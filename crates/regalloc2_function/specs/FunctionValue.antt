@@ -1,9 +1,12 @@
 -- The function that is being allocated, as contracts see it.
 -- Its parts are what the methods of upstream's trait `Function` return.
-use Rattle.std.specs.Prelude.{ℕ, ◌-◌, ◌<◌, ◌≤◌, ◌^◌, Bool, false, IsTrue, List, [], ◌∷◌, length, slice_index_or, sum_by, All}
+use Rattle.std.specs.Prelude.{ℕ, ◌<◌, ◌≤◌, ◌^◌, Bool, false, IsTrue, List, [], ◌∷◌, length, slice_index_or, sum_by, All}
 use Rattle.std.specs.Int.{is_power_of_two}
+use Rattle.regalloc2_index.specs.Number.{invalid_number}
 use Rattle.regalloc2_index.specs.Range.{Span}
-use Rattle.regalloc2_names.specs.Register.{VirtualRegister}
+use Rattle.regalloc2_names.specs.Place.{slot_limit}
+use Rattle.regalloc2_names.specs.Point.{inst_limit}
+use Rattle.regalloc2_names.specs.Register.{VirtualRegister, vreg_limit}
 use Rattle.regalloc2_names.specs.Operand.{OperandValue}
 use Rattle.regalloc2_names.specs.declared.RegClass.{RegClass}
 use Rattle.regalloc2_names.specs.declared.RegClass.TheVariants.{Int, Float, Vector}
@@ -77,6 +80,10 @@ inst_at f i = slice_index_or f.insts i no_inst
 abbrev pub operand_count : FunctionValue → ℕ
 operand_count f = sum_by (λ i. length i.operands) f.insts
 
+-- the operands of functions that can be allocated are fewer
+abbrev pub operand_limit : ℕ
+operand_limit = 2 ^ 32
+
 -- a label as a client gives it
 abbrev pub label_of : (VirtualRegister × ℕ × ℕ × ℕ) → Label
 label_of l = record { vreg = l.0; start = l.1; end = l.2; label = l.3 }
@@ -84,14 +91,14 @@ label_of l = record { vreg = l.0; start = l.1; end = l.2; label = l.3 }
 -- the size of a spill slot: a power of two from 1 to 2^24
 pub record IsSlotSize (size : ℕ) : Type 0 where
   pub positive : 1 ≤ size
-  pub at_most : size ≤ 2 ^ 24
+  pub at_most : size ≤ slot_limit
   pub power_of_two : IsTrue (is_power_of_two size)
 
 -- the limits that each implementation keeps
 pub record IsLimited (f : FunctionValue) : Type 0 where
-  pub insts : length f.insts < 2 ^ 30
-  pub blocks : length f.blocks < 2 ^ 32 - 1
-  pub vregs : f.num_vregs < 2 ^ 30
+  pub insts : length f.insts < inst_limit
+  pub blocks : length f.blocks < invalid_number
+  pub vregs : f.num_vregs < vreg_limit
   pub slot_sizes : (class : RegClass) → IsSlotSize (slot_size f.slot_sizes class)
   pub labels : All (λ l. l.vreg.number < f.num_vregs) f.labels
 

@@ -2,6 +2,10 @@
 use Rattle.std.specs.Prelude.{ℕ, ◌≡◌, ◌<◌, ◌≤◌, ◌⊎◌, false, nat_eq, List, [], ◌∷◌, length, slice_index_or}
 use Rattle.regalloc2_function.specs.Numbers.{word_of}
 
+-- how many words a set has inline
+abbrev pub inline_words : ℕ
+inline_words = 12
+
 -- no word has the key
 unfoldable pub LacksKey : ℕ → List (ℕ × ℕ) → Type 0
 LacksKey k [] = Unit {0}
@@ -13,7 +17,7 @@ KeysApart [] = Unit {0}
 KeysApart (e ∷ es) = LacksKey e.0 es × KeysApart es
 
 -- where the word of a key may be written: over its own, over one that is zero, or past the last
-pub record IsPlaceFor (es : List (ℕ × ℕ)) (key p : ℕ) : Type 0 where
+pub record IsIndexFor (es : List (ℕ × ℕ)) (key p : ℕ) : Type 0 where
   pub within : p ≤ length es
   pub replaces : p < length es → ((slice_index_or es p (0, 0)).0 ≡ key) ⊎ (((slice_index_or es p (0, 0)).1 ≡ 0) × LacksKey key es)
   pub past : p ≡ length es → LacksKey key es

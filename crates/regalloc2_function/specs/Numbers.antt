@@ -1,6 +1,14 @@
 -- Sets of numbers, as contracts see them: words of 64 bits by their keys.
-use Rattle.std.specs.Prelude.{ℕ, zero, suc, ◌+◌, ◌*◌, ◌/◌, ◌%◌, ◌≡◌, Bool, false, ◌&&◌, ◌||◌, cond, nat_eq, List, [], ◌∷◌, ◌++◌, map, ◌≤◌, if◌then◌else◌}
+use Rattle.std.specs.Prelude.{ℕ, zero, suc, ◌+◌, ◌*◌, ◌/◌, ◌%◌, ◌^◌, ◌≡◌, Bool, false, ◌&&◌, ◌||◌, cond, nat_eq, List, [], ◌∷◌, ◌++◌, map, ◌≤◌, if◌then◌else◌}
 use Rattle.std.specs.Int.{bit_at}
+
+-- the bits of a word
+abbrev pub word_bits : ℕ
+word_bits = 64
+
+-- the members of sets are below: keys of words have 32 bits, and a word has 64 members
+abbrev pub set_limit : ℕ
+set_limit = 2 ^ 38
 
 -- a set: the word of key k has the bits of the 64 numbers from 64 k on
 abbrev pub NumberSet : Type 0

@@ -15,7 +15,7 @@ use regalloc2_index::{Block, Inst};
 use regalloc2_names::RegAllocError;
 use std::alloc::{AllocError, Allocator};
 
-// The first of these blocks whose number isn't below `num_blocks`.
+/// Returns the first of `blocks` whose number isn't below `num_blocks`.
 pub fn first_outside(num_blocks: usize, blocks: &[Block]) -> Option<Block>
     ensures none { IfNone result (All (λ s. s < num_blocks) blocks.now) }
     ensures first { IfSome result (IsFirstIn (λ s. s < num_blocks) blocks.now) }
@@ -46,7 +46,7 @@ pub fn test_successors<F: Function>(f: &F) -> Result<(), RegAllocError>
     Ok(())
 }
 
-// Adds a block to the predecessor lists of its successors, once for each position.
+/// Adds `block` to the list in `ways` of each of its successors `succs`, once for each position.
 fn add_ways<A: Allocator + Copy>(
     ways: &mut [Vec<Block, A>],
     succs: &[Block],
@@ -62,7 +62,7 @@ fn add_ways<A: Allocator + Copy>(
     Ok(())
 }
 
-// `num` empty lists.
+/// Returns `num` empty lists.
 fn no_ways<A: Allocator + Copy>(alloc: A, num: usize) -> Result<Vec<Vec<Block, A>, A>, AllocError>
     ensures len { IfOk result (λ w. length w.items ≡ num) }
     ensures none { IfOk result (λ w. (n : ℕ) → listed_of w.items n ≡ []) }
@@ -74,7 +74,7 @@ fn no_ways<A: Allocator + Copy>(alloc: A, num: usize) -> Result<Vec<Vec<Block, A
     Ok(ways)
 }
 
-// For each block the blocks that list it as a successor, once for each position.
+/// Adds to the list of each block the blocks that name it as a successor, once for each position.
 fn add_all_ways<A: Allocator + Copy, F: Function>(
     ways: &mut [Vec<Block, A>],
     f: &F,
@@ -91,7 +91,7 @@ fn add_all_ways<A: Allocator + Copy, F: Function>(
     Ok(())
 }
 
-// Adds to each block's count how often it is in a list.
+/// Adds to each block's count how often the block is in `blocks`.
 fn count_in(counts: &mut [usize], blocks: &[Block])
     requires within { All (λ b. b < length counts.old) blocks.now }
     requires room { (b : ℕ) → b < length counts.old → slice_index counts.old b + length blocks.now < 2 ^ 64 }
@@ -102,8 +102,8 @@ fn count_in(counts: &mut [usize], blocks: &[Block])
     }
 }
 
-// Subtracts from each block's count how often it is in a list, and returns whether the counts were
-// enough.
+/// Subtracts from each block's count how often the block is in `blocks`. Returns `false` as soon as a
+/// count is too low.
 fn count_out(counts: &mut [usize], blocks: &[Block]) -> bool
     ensures enough { IsTrue result ↔ ((b : ℕ) → times_in b blocks.now ≤ slice_index counts.old b) }
     ensures taken { OnTrue result ((b : ℕ) → slice_index counts.new b + times_in b blocks.now ≡ slice_index counts.old b) }
@@ -117,7 +117,7 @@ fn count_out(counts: &mut [usize], blocks: &[Block]) -> bool
     true
 }
 
-// Whether every count of these blocks is 0.
+/// Returns `true` if the count of each of `blocks` is 0.
 fn are_used_up(counts: &[usize], blocks: &[Block]) -> bool
     requires { All (λ b. b < length counts.now) blocks.now }
     ensures { IsTrue result ↔ All (λ b. slice_index counts.now b ≡ 0) blocks.now }
@@ -130,7 +130,8 @@ fn are_used_up(counts: &[usize], blocks: &[Block]) -> bool
     true
 }
 
-// Whether two lists have each block equally often. The counts are 0 before, and after `true`.
+/// Returns `true` if `listed` and `preds` have each block equally often. All counts are 0 before the
+/// call, and after a call that returns `true`.
 fn same_blocks(counts: &mut [usize], listed: &[Block], preds: &[Block]) -> bool
     requires within { All (λ b. b < length counts.old) listed.now }
     requires zero { (b : ℕ) → slice_index counts.old b ≡ 0 }
@@ -144,7 +145,8 @@ fn same_blocks(counts: &mut [usize], listed: &[Block], preds: &[Block]) -> bool
     are_used_up(counts, listed)
 }
 
-// Compares each block's predecessors with the blocks that list it as a successor.
+/// Compares the predecessors of each block with its list in `ways`, which has the blocks that name it
+/// as a successor.
 fn compare_ways<A: Allocator + Copy, F: Function>(
     counts: &mut [usize],
     ways: &[Vec<Block, A>],
@@ -165,7 +167,8 @@ fn compare_ways<A: Allocator + Copy, F: Function>(
     Ok(())
 }
 
-// Whether each successor of `block` has it as its next predecessor. Counts it as met there.
+/// Returns `true` if each successor of `block` has `block` as its next predecessor. Counts the
+/// predecessor as met.
 fn meets_in_order<F: Function>(counts: &mut [usize], f: &F, block: Block) -> bool
     requires block { block < length (F.function f.now).blocks }
     requires blocks { SuccessorsAreBlocks (F.function f.now) }
@@ -185,7 +188,7 @@ fn meets_in_order<F: Function>(counts: &mut [usize], f: &F, block: Block) -> boo
     true
 }
 
-// Whether `counts` has, for each block, as many met predecessors as the block lists.
+/// Returns `true` if `counts` has, for each block, as many met predecessors as the block lists.
 fn are_all_met<F: Function>(counts: &[usize], f: &F) -> bool
     requires { length counts.now ≡ length (F.function f.now).blocks }
     ensures { IsTrue result ↔ EachBlock (F.function f.now) (λ n b. slice_index counts.now n ≡ length b.preds) }
@@ -198,7 +201,8 @@ fn are_all_met<F: Function>(counts: &[usize], f: &F) -> bool
     true
 }
 
-// Whether a pass over all successors meets each block's predecessors in the order of its list.
+/// Returns `true` if a pass over all successors meets the predecessors of each block in the order of
+/// its list.
 fn pass_in_order<F: Function>(counts: &mut [usize], f: &F) -> bool
     requires blocks { SuccessorsAreBlocks (F.function f.now) }
     requires zero { counts.old ≡ replicate (length (F.function f.now).blocks) 0 }
@@ -212,7 +216,8 @@ fn pass_in_order<F: Function>(counts: &mut [usize], f: &F) -> bool
     are_all_met(counts, f)
 }
 
-// Whether each block's predecessors are listed in the order of blocks and their successors.
+/// Returns `true` if the predecessors of each block are listed in the order of blocks and their
+/// successors.
 fn are_in_order<A: Allocator + Copy, F: Function>(alloc: A, f: &F) -> Result<bool, AllocError>
     requires { SuccessorsAreBlocks (F.function f.now) }
     ensures { IfOk result (λ yes. IsTrue yes ↔ ListedInOrder (F.function f.now)) }
@@ -221,7 +226,7 @@ fn are_in_order<A: Allocator + Copy, F: Function>(alloc: A, f: &F) -> Result<boo
     Ok(pass_in_order(counts.as_mut_slice(), f))
 }
 
-// Counts each block's listings among successors, and compares its predecessors with them.
+/// Compares the predecessors of each block with the blocks that name it as a successor, counted.
 fn test_counted<A: Allocator + Copy, F: Function>(alloc: A, f: &F) -> Result<(), RegAllocError>
     requires { SuccessorsAreBlocks (F.function f.now) }
     ensures ok { OnOk result (PredecessorsAgree (F.function f.now)) }
@@ -251,7 +256,8 @@ pub fn test_predecessors<A: Allocator + Copy, F: Function>(
     test_counted(alloc, f)
 }
 
-// Whether a block has several incoming edges; the function's start counts as one into the entry.
+/// Returns `true` if `block` has several incoming edges. The function's start counts as an edge into
+/// the entry.
 fn is_join<F: Function>(f: &F, block: Block) -> bool
     requires { block < length (F.function f.now).blocks }
     ensures { IsTrue result ↔ (1 < ways_into (F.function f.now) block) }
@@ -264,7 +270,7 @@ fn is_join<F: Function>(f: &F, block: Block) -> bool
     }
 }
 
-// The first of these blocks that has several successors.
+/// Returns the first of `preds` that has several successors.
 fn first_fork<F: Function>(f: &F, preds: &[Block]) -> Option<Block>
     requires { All (λ p. p < length (F.function f.now).blocks) preds.now }
     ensures none { IfNone result (All (λ p. length (block_at (F.function f.now) p).succs ≤ 1) preds.now) }
@@ -296,8 +302,8 @@ pub fn test_edges<F: Function>(f: &F) -> Result<(), RegAllocError>
     Ok(())
 }
 
-// Whether a block's last instruction has no operands, or none of its successors has several
-// incoming edges.
+/// Returns `true` if `last`, the last instruction of `block`, has no operands, or no successor of
+/// `block` has several incoming edges.
 fn may_branch<F: Function>(f: &F, block: Block, last: Inst) -> bool
     requires block { block < length (F.function f.now).blocks }
     requires last { last ≡ last_of (block_at (F.function f.now) block) }

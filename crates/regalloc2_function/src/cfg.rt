@@ -21,7 +21,7 @@ pub struct CFGInfoCtx<A: Allocator = Global> {
 }
 
 impl<A: Allocator + Copy> CFGInfoCtx<A> {
-    /// A context that allocates its working memory from `alloc`. This call allocates nothing.
+    /// Returns a context that allocates its working memory from `alloc`. This call allocates nothing.
     pub fn new(alloc: A) -> CFGInfoCtx<A> {
         CFGInfoCtx {
             visited: Vec::new(alloc),
@@ -46,7 +46,7 @@ pub struct CFGInfo<A: Allocator = Global> {
     pub block_exit: Vec<ProgPoint, A>,
 }
 
-// Lists the block of each instruction.
+/// Fills `insn_block` with the block of each instruction.
 fn list_insts<A: Allocator + Copy, F: Function>(
     f: &F,
     insn_block: &mut Vec<Block, A>,
@@ -64,7 +64,8 @@ fn list_insts<A: Allocator + Copy, F: Function>(
     Ok(())
 }
 
-// Lists the points before each block's first instruction, and after its last.
+/// Fills `block_entry` with the point before the first instruction of each block, and `block_exit`
+/// with the point after its last.
 fn list_points<A: Allocator + Copy, F: Function>(
     f: &F,
     block_entry: &mut Vec<ProgPoint, A>,
@@ -85,7 +86,7 @@ fn list_points<A: Allocator + Copy, F: Function>(
 }
 
 impl<A: Allocator + Copy> CFGInfo<A> {
-    /// Tables without entries. Allocates nothing.
+    /// Returns tables without entries. Allocates nothing.
     pub fn empty(alloc: A) -> CFGInfo<A>
         ensures { IsEmptyInfo result }
     {
@@ -97,7 +98,7 @@ impl<A: Allocator + Copy> CFGInfo<A> {
         }
     }
 
-    /// The tables of a function, as [`CFGInfo::init`] fills them in, in lists of their own.
+    /// Returns the tables of `f`, as [`CFGInfo::init`] fills them in.
     pub fn new<F: Function>(alloc: A, f: &F) -> Result<CFGInfo<A>, RegAllocError>
         ensures ok { IfOk result (λ t. IsInfoOf (F.function f.now) t) }
         ensures refused { IfErr result (λ e. (e ≡ RegAllocError.Memory) ⊎ IsShapeFault (F.function f.now) e) }
@@ -109,7 +110,7 @@ impl<A: Allocator + Copy> CFGInfo<A> {
         Ok(info)
     }
 
-    // Removes all entries.
+    /// Removes all entries.
     fn clear(&mut self)
         ensures { IsEmptyInfo self.new }
     {
@@ -119,7 +120,7 @@ impl<A: Allocator + Copy> CFGInfo<A> {
         self.block_exit.clear();
     }
 
-    // Fills in tables without entries.
+    /// Fills in the tables, which have no entries.
     fn fill<F: Function>(&mut self, f: &F, ctx: &mut CFGInfoCtx<A>) -> Result<(), AllocError>
         requires shape { HasShape (F.function f.now) }
         requires empty { IsEmptyInfo self.old }
@@ -130,7 +131,7 @@ impl<A: Allocator + Copy> CFGInfo<A> {
         list_points(f, &mut self.block_entry, &mut self.block_exit)
     }
 
-    /// Tests a function's blocks and edges, and fills in the tables anew.
+    /// Tests the blocks and edges of `f`, and fills in the tables anew.
     ///
     /// The tests, in turn: the entry and each successor is a block; blocks are nonempty and follow
     /// one another, from the first instruction to the last; a block's predecessors are its listings

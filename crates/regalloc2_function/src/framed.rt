@@ -9,7 +9,7 @@ use super::Function;
 use regalloc2_index::{Block, Inst};
 use regalloc2_names::RegAllocError;
 
-/// Whether the entry and each successor is a block.
+/// Returns `true` if the entry and each successor is a block.
 fn successors_are_blocks<F: Function>(f: &F) -> bool
     ensures { IsTrue result ↔ SuccessorsAreBlocks (F.function f.now) }
 {
@@ -29,7 +29,7 @@ fn successors_are_blocks<F: Function>(f: &F) -> bool
     true
 }
 
-/// Whether a block is nonempty and follows the one before.
+/// Returns `true` if `block` is nonempty and begins where the block before it ends.
 fn follows<F: Function>(f: &F, block: Block) -> bool
     requires { block < length (F.function f.now).blocks }
     ensures { IsTrue result ↔ FollowsAt (F.function f.now) block (block_at (F.function f.now) block) }
@@ -46,19 +46,12 @@ fn follows<F: Function>(f: &F, block: Block) -> bool
     begins && (block.index() + 1 < f.num_blocks() || range.end().index() == f.num_insts())
 }
 
-/// Whether blocks follow one another.
-fn blocks_follow<F: Function>(f: &F) -> bool
-    ensures { IsTrue result ↔ BlocksFollow (F.function f.now) }
-{
-    for b in 0..f.num_blocks() {
-        if !follows(f, Block::new(b)) {
-            return false;
-        }
-    }
-    true
-}
-
-/// Tests that blocks follow one another; the error names the first that doesn't.
+/// Tests that each block is nonempty and begins where the block before it ends, from the first
+/// instruction to the last.
+///
+/// # Errors
+///
+/// `BB` with the first block that fails.
 pub fn test_blocks<F: Function>(f: &F) -> Result<(), RegAllocError>
     ensures ok { IsOk result ↔ BlocksFollow (F.function f.now) }
     ensures first { IfErr result (λ e. (b : ℕ) × (e ≡ RegAllocError.BB b) × IsFirstToFail (F.function f.now) (FollowsAt (F.function f.now)) b) }
@@ -72,7 +65,8 @@ pub fn test_blocks<F: Function>(f: &F) -> Result<(), RegAllocError>
     Ok(())
 }
 
-/// Whether `inst` may end a block with `succs` successors: a branch, or a return if there are none.
+/// Returns `true` if `inst` may end a block with `succs` successors: a branch, or a return if `succs`
+/// is 0.
 fn ends_block<F: Function>(f: &F, inst: Inst, succs: usize) -> bool
     requires { inst < length (F.function f.now).insts }
     ensures { IsTrue result ↔ EndsBlock (inst_at (F.function f.now) inst) succs }
@@ -85,7 +79,7 @@ fn ends_block<F: Function>(f: &F, inst: Inst, succs: usize) -> bool
     }
 }
 
-/// Whether no instruction from one up to another branches or returns.
+/// Returns `true` if no instruction from `first` up to but without `end` branches or returns.
 fn goes_on<F: Function>(f: &F, first: usize, end: usize) -> bool
     requires { end ≤ length (F.function f.now).insts }
     ensures { IsTrue result ↔ ((i : ℕ) → first ≤ i → i < end → ((inst_at (F.function f.now) i).is_branch ≡ false)
@@ -93,17 +87,14 @@ fn goes_on<F: Function>(f: &F, first: usize, end: usize) -> bool
 {
     for i in first..end {
         let inst = Inst::new(i);
-        if f.is_branch(inst) {
-            return false;
-        }
-        if f.is_ret(inst) {
+        if f.is_branch(inst) || f.is_ret(inst) {
             return false;
         }
     }
     true
 }
 
-/// Whether a block ends, and only ends, in a branch or in a return without successors.
+/// Returns `true` if `block` ends, and only ends, in a branch or in a return without successors.
 fn ends<F: Function>(f: &F, block: Block) -> bool
     requires block { block < length (F.function f.now).blocks }
     requires nonempty { (block_at (F.function f.now) block).range.first < (block_at (F.function f.now) block).range.end }
@@ -116,25 +107,29 @@ fn ends<F: Function>(f: &F, block: Block) -> bool
         && goes_on(f, range.first().index(), last.index())
 }
 
-/// Tests that each block ends, and only ends, in a branch or in a return without successors; the
-/// error names the first that doesn't.
+/// Tests that each block ends, and only ends, in a branch or in a return without successors.
 ///
 /// Linear in the number of instructions. Blocks follow one another, as [`test_blocks`] tests.
+///
+/// # Errors
+///
+/// `BB` with the first block that fails.
 pub fn test_ends<F: Function>(f: &F) -> Result<(), RegAllocError>
     requires { BlocksFollow (F.function f.now) }
     ensures ok { IsOk result ↔ BlocksEnd (F.function f.now) }
     ensures first { IfErr result (λ e. (b : ℕ) × (e ≡ RegAllocError.BB b) × IsFirstToFail (F.function f.now) (EndsAt (F.function f.now)) b) }
 {
     for b in 0..f.num_blocks() {
-        let open = Block::new(b);
-        if !ends(f, open) {
-            return Err(RegAllocError::BB(open));
+        let block = Block::new(b);
+        if !ends(f, block) {
+            return Err(RegAllocError::BB(block));
         }
     }
     Ok(())
 }
 
-/// Whether a block passes each successor as many arguments as it has parameters.
+/// Returns `true` if `last`, the last instruction of `block`, passes each successor as many arguments
+/// as the successor has parameters.
 fn counts_arguments<F: Function>(f: &F, block: Block, last: Inst) -> bool
     requires block { block < length (F.function f.now).blocks }
     requires last { last + 1 ≡ (block_at (F.function f.now) block).range.end }
@@ -151,7 +146,7 @@ fn counts_arguments<F: Function>(f: &F, block: Block, last: Inst) -> bool
     true
 }
 
-/// Whether each successor is passed as many arguments as it has parameters.
+/// Returns `true` if each successor of each block is passed as many arguments as it has parameters.
 fn arguments_counted<F: Function>(f: &F) -> bool
     requires blocks { SuccessorsAreBlocks (F.function f.now) }
     requires follow { BlocksFollow (F.function f.now) }
@@ -166,7 +161,7 @@ fn arguments_counted<F: Function>(f: &F) -> bool
     true
 }
 
-/// Whether a function is structurally valid (`IsFramed`): its entry and each successor is a block,
+/// Returns `true` if `f` is structurally valid (`IsFramed`): its entry and each successor is a block,
 /// blocks are nonempty and follow one another from the first instruction to the last, each ends,
 /// and only ends, in a branch or in a return without successors, and each successor is passed as
 /// many arguments as it has parameters.
@@ -179,11 +174,8 @@ pub fn is_framed<F: Function>(f: &F) -> bool
     if !successors_are_blocks(f) {
         return false;
     }
-    if !blocks_follow(f) {
+    if test_blocks(f).is_err() {
         return false;
     }
-    match test_ends(f) {
-        Ok(()) => arguments_counted(f),
-        Err(_) => false,
-    }
+    test_ends(f).is_ok() && arguments_counted(f)
 }

@@ -1,12 +1,12 @@
 //! Sparse sets of numbers.
 
-ghost use Rattle.std.specs.Prelude.{◌≡◌, ◌≢◌, ◌+◌, ◌<◌, ◌≤◌, ◌/◌, ◌^◌, ◌||◌, ℕ, true, false, cond, ◌∷◌, nat_eq, OnOk, OnErr, IfOk, IfSome, IfNone};
+ghost use Rattle.std.specs.Prelude.{◌≡◌, ◌≢◌, ◌+◌, ◌<◌, ◌≤◌, ◌/◌, ◌||◌, ℕ, true, false, cond, ◌∷◌, nat_eq, OnOk, OnErr, IfOk, IfSome, IfNone};
 ghost use Rattle.std.specs.Prelude.{[], length, slice_index_or, unwrap_or};
 ghost use Rattle.std.specs.Int.{bit_at};
 ghost use Rattle.std.specs.HashMap.{get};
 ghost use Rattle.std.specs.Iterator.{YieldsFirst, item_count};
-ghost use Rattle.regalloc2_function.specs.Numbers.{word_of, has_number, bits_of, numbers_of_set, times_listed, RisesFrom, ListsMembers};
-ghost use Rattle.regalloc2_function.specs.NumberWords.{LacksKey, KeysApart, IsPlaceFor, KeysInOneOnly};
+ghost use Rattle.regalloc2_function.specs.Numbers.{word_of, has_number, bits_of, numbers_of_set, set_limit, times_listed, word_bits, RisesFrom, ListsMembers};
+ghost use Rattle.regalloc2_function.specs.NumberWords.{LacksKey, KeysApart, IsIndexFor, KeysInOneOnly, inline_words};
 
 use std::alloc::{AllocError, Allocator, Global};
 use std::collections::{HashMap, hash_map};
@@ -14,50 +14,53 @@ use std::fmt;
 use std::hash::{BuildHasherDefault, FoldHasher};
 use std::marker::Model;
 
-/// How many words are inline.
+/// The number of words that are inline.
 const INLINE: usize = 12;
 
-/// The index of a key among words.
-fn place_of(words: &[(u32, u64)], key: u32) -> Option<usize>
+/// The number of bits of a word.
+const WORD_BITS: usize = 64;
+
+/// Returns the index of the word of `key` in `words`, if it has one.
+fn index_of(words: &[(u32, u64)], key: u32) -> Option<usize>
     ensures some { IfSome result (λ p. (p < length words.now) × ((slice_index_or words.now p (0, 0)).0 ≡ key)) }
     ensures none { IfNone result (LacksKey key words.now) }
 {
-    for place in 0..words.len() {
-        if words[place].0 == key {
-            return Some(place);
+    for index in 0..words.len() {
+        if words[index].0 == key {
+            return Some(index);
         }
     }
     None
 }
 
-/// The index of a word that is zero.
-fn zero_place(words: &[(u32, u64)]) -> Option<usize>
+/// Returns the index of a word of `words` that is zero, if there is one.
+fn index_of_zero(words: &[(u32, u64)]) -> Option<usize>
     ensures some { IfSome result (λ p. (p < length words.now) × ((slice_index_or words.now p (0, 0)).1 ≡ 0)) }
 {
-    for place in 0..words.len() {
-        if words[place].1 == 0 {
-            return Some(place);
+    for index in 0..words.len() {
+        if words[index].1 == 0 {
+            return Some(index);
         }
     }
     None
 }
 
-/// The index at which to write the word of a key: its own, else that of a word that became zero,
-/// else past the others.
-fn place_for(words: &[(u32, u64)], key: u32) -> usize
-    ensures { IsPlaceFor words.now key result }
+/// Returns the index at which to write the word of `key` in `words`: the index of its old word, else
+/// of a word that became zero, else past the last.
+fn index_for(words: &[(u32, u64)], key: u32) -> usize
+    ensures { IsIndexFor words.now key result }
 {
-    if let Some(place) = place_of(words, key) {
-        return place;
+    if let Some(index) = index_of(words, key) {
+        return index;
     }
-    zero_place(words).unwrap_or(words.len())
+    index_of_zero(words).unwrap_or(words.len())
 }
 
-/// Up to twelve words with their keys.
+/// Up to `INLINE` words with their keys.
 #[derive(Debug, Drop)]
 struct Few {
     len: usize,
-    words: [(u32, u64); 12],
+    words: [(u32, u64); INLINE],
 }
 
 impl Model for Few {
@@ -65,25 +68,25 @@ impl Model for Few {
 
     ghost Value = { List (ℕ × ℕ) };
 
-    ghost use Rattle.regalloc2_function.specs.NumberWords.{KeysApart};
+    ghost use Rattle.regalloc2_function.specs.NumberWords.{KeysApart, inline_words};
 
     ghost view = { λ few. take few.len few.words };
 
-    ghost invariant = { λ few. (few.len ≤ 12) × KeysApart (take few.len few.words) };
+    ghost invariant = { λ few. (few.len ≤ inline_words) × KeysApart (take few.len few.words) };
 }
 
 impl Few {
-    /// No words.
+    /// Returns no words.
     fn new() -> Self
         ensures { result ≡ [] }
     {
         Few {
             len: 0,
-            words: [(0, 0); 12],
+            words: [(0, 0); INLINE],
         }
     }
 
-    /// A copy of the words.
+    /// Returns a copy of the words.
     fn copy(&self) -> Self
         ensures { result ≡ self.now }
     {
@@ -93,38 +96,38 @@ impl Few {
         }
     }
 
-    /// The words with their keys, which differ.
+    /// Returns the words with their keys, which differ.
     fn as_slice(&self) -> &[(u32, u64)]
         ensures items { result.now ≡ self.now }
         ensures apart { KeysApart self.now }
-        ensures few { length self.now ≤ 12 }
+        ensures few { length self.now ≤ inline_words }
     {
         &self.words[..self.len]
     }
 
-    /// The word of a key.
+    /// Returns the word of `key`, 0 if none is stored.
     fn word(&self, key: u32) -> u64
         ensures { result ≡ word_of self.now key }
     {
         let words = self.as_slice();
-        match place_of(words, key) {
-            Some(place) => words[place].1,
+        match index_of(words, key) {
+            Some(index) => words[index].1,
             None => 0,
         }
     }
 
-    /// Writes the word of a key if there is room; returns whether there was.
+    /// Writes `word` as the word of `key`, if there is room. Returns whether there was.
     fn put(&mut self, key: u32, word: u64) -> bool
         ensures written { result ≡ true → (k : ℕ) → word_of self.new k ≡ cond (nat_eq k key) word (word_of self.old k) }
         ensures full { result ≡ false → self.new ≡ self.old }
         ensures absent { result ≡ false → word_of self.old key ≡ 0 }
     {
-        let place = place_for(self.as_slice(), key);
-        if place >= INLINE {
+        let index = index_for(self.as_slice(), key);
+        if index >= INLINE {
             return false;
         }
-        self.words[place] = (key, word);
-        if place == self.len {
+        self.words[index] = (key, word);
+        if index == self.len {
             self.len += 1;
         }
         true
@@ -147,7 +150,7 @@ impl Model for SetBitsIter {
 }
 
 impl SetBitsIter {
-    /// The indexes of the bits set in `bits`.
+    /// Iterates over the indexes of the bits set in `bits`.
     pub fn new(bits: u64) -> Self
         ensures list { result ≡ bits_of bits }
         ensures members { (i : ℕ) → times_listed result i ≡ bit_at bits i }
@@ -157,11 +160,11 @@ impl SetBitsIter {
     }
 }
 
-/// Clears the lowest bit set in a word, and returns its index.
+/// Clears the lowest bit set in `word`, which isn't 0, and returns the bit's index.
 fn take_lowest(word: &mut u64) -> usize
     requires { word.old ≢ 0 }
     ensures taken { bits_of word.old ≡ result ∷ bits_of word.new }
-    ensures small { result < 64 }
+    ensures small { result < word_bits }
 {
     let bit = word.trailing_zeros();
     *word &= !(1 << bit);
@@ -225,15 +228,15 @@ pub struct IndexSetIter<'a> {
 }
 
 impl<'a> Model for IndexSetIter<'a> {
-    ghost use Rattle.std.specs.Prelude.{List, ℕ, ◌++◌, ◌+◌, ◌<◌, ◌^◌, map};
+    ghost use Rattle.std.specs.Prelude.{List, ℕ, ◌++◌, ◌+◌, ◌<◌, map};
 
     ghost Value = { List ℕ };
 
-    ghost use Rattle.regalloc2_function.specs.Numbers.{bits_of, numbers_of_set};
+    ghost use Rattle.regalloc2_function.specs.Numbers.{bits_of, numbers_of_set, set_limit};
 
     ghost view = { λ it. map (λ b. it.base + b) (bits_of it.bits) ++ numbers_of_set it.words };
 
-    ghost invariant = { λ it. it.base < 2 ^ 38 };
+    ghost invariant = { λ it. it.base < set_limit };
 }
 
 impl<'a> Iterator for IndexSetIter<'a> {
@@ -246,7 +249,7 @@ impl<'a> Iterator for IndexSetIter<'a> {
     fn next(&mut self) -> Option<usize> {
         while self.bits == 0 {
             let (key, word) = self.words.next()?;
-            self.base = key as usize * 64;
+            self.base = key as usize * WORD_BITS;
             self.bits = word;
         }
         Some(self.base + take_lowest(&mut self.bits))
@@ -256,14 +259,14 @@ impl<'a> Iterator for IndexSetIter<'a> {
 /// The words of a set that aren't inline.
 type Many<A> = HashMap<u32, u64, BuildHasherDefault<FoldHasher>, A>;
 
-/// The word of a map at a key, or zero.
+/// Returns the word that `many` has at `key`, or 0.
 fn stored_in<A: Allocator>(many: &Many<A>, key: u32) -> u64
     ensures { result ≡ unwrap_or (get nat_eq many.now key) 0 }
 {
     many.get(&key).copied().unwrap_or(0)
 }
 
-/// The word of a key.
+/// Returns the word of `key` in `many`, 0 if none is stored. Looks up nothing in an empty map.
 fn word_in<A: Allocator>(many: &Many<A>, key: u32) -> u64
     ensures { result ≡ word_of many.now.entries key }
 {
@@ -273,7 +276,8 @@ fn word_in<A: Allocator>(many: &Many<A>, key: u32) -> u64
     stored_in(many, key)
 }
 
-/// Writes the word of a key that has one; returns whether it has one. Allocates nothing.
+/// Writes `word` as the word of `key`, if `many` has a word of `key`. Returns whether it has.
+/// Allocates nothing.
 fn rewrite<A: Allocator>(many: &mut Many<A>, key: u32, word: u64) -> bool
     ensures written { result ≡ true → (k : ℕ) → word_of many.new.entries k ≡ cond (nat_eq k key) word (word_of many.old.entries k) }
     ensures unchanged { result ≡ false → many.new.entries ≡ many.old.entries }
@@ -283,25 +287,24 @@ fn rewrite<A: Allocator>(many: &mut Many<A>, key: u32, word: u64) -> bool
         return false;
     }
     match many.get_mut(&key) {
-        Some(place) => {
-            *place = word;
+        Some(stored) => {
+            *stored = word;
             true
         }
         None => false,
     }
 }
 
-/// Writes the word of a key.
+/// Writes `word` as the word of `key`.
 fn insert<A: Allocator + Copy>(many: &mut Many<A>, key: u32, word: u64) -> Result<(), AllocError>
     ensures written { OnOk result ((k : ℕ) → word_of many.new.entries k ≡ cond (nat_eq k key) word (word_of many.old.entries k)) }
     ensures unchanged { OnErr result (many.new.entries ≡ many.old.entries) }
 {
-    let _words = many.len();
     many.insert(key, word)?;
     Ok(())
 }
 
-/// A map with the same words, over an allocator.
+/// Returns a map with the words of `many`, which allocates from `alloc`.
 fn copied<A: Allocator + Copy>(alloc: A, many: &Many<A>) -> Result<Many<A>, AllocError>
     ensures { IfOk result (λ copy. (k : ℕ) → word_of copy.entries k ≡ word_of many.now.entries k) }
 {
@@ -316,7 +319,8 @@ fn copied<A: Allocator + Copy>(alloc: A, many: &Many<A>) -> Result<Many<A>, Allo
     Ok(copy)
 }
 
-/// Writes the word of a key over its old one, else inline if there is room, else into the map.
+/// Writes `word` as the word of `key`: over its old word, else inline if there is room, else into
+/// the map.
 fn write<A: Allocator + Copy>(
     few: &mut Few,
     many: &mut Many<A>,
@@ -347,7 +351,7 @@ fn write<A: Allocator + Copy>(
 
 /// A set of numbers below 2^38, sparse by words of 64 numbers.
 ///
-/// Twelve words are inline, and a word that became zero is used again, so a set of members in up to
+/// Twelve words are inline, and a word that became zero is used again: a set of members in up to
 /// twelve words allocates nothing; further words are in a hashed map. Contracts see a set through
 /// `has_number`.
 #[derive(Drop)]
@@ -370,7 +374,7 @@ impl<A: Allocator> Model for IndexSet<A> {
 }
 
 impl<A: Allocator + Copy> IndexSet<A> {
-    /// The empty set. Allocates nothing.
+    /// Returns the empty set. Allocates nothing.
     pub fn new(alloc: A) -> Self
         ensures { (i : ℕ) → has_number result i ≡ false }
     {
@@ -381,7 +385,7 @@ impl<A: Allocator + Copy> IndexSet<A> {
         }
     }
 
-    /// The word of a key.
+    /// Returns the word of `key`, 0 if none is stored.
     fn word(&self, key: u32) -> u64
         ensures { result ≡ word_of self.now key }
     {
@@ -392,23 +396,22 @@ impl<A: Allocator + Copy> IndexSet<A> {
         word_in(&self.many, key)
     }
 
-    /// Writes the word of a key.
+    /// Writes `word` as the word of `key`.
     fn put(&mut self, key: u32, word: u64) -> Result<(), AllocError>
         ensures written { OnOk result ((k : ℕ) → word_of self.new k ≡ cond (nat_eq k key) word (word_of self.old k)) }
         ensures err { OnErr result (self.new ≡ self.old) }
         ensures absent { OnErr result (word_of self.old key ≡ 0) }
         ensures refused { OnErr result (word ≢ 0) }
     {
-        write(&mut self.few, &mut self.many, key, word)?;
-        Ok(())
+        write(&mut self.few, &mut self.many, key, word)
     }
 
-    /// Whether a number below 2^38 is a member. Allocates nothing.
+    /// Returns `true` if `index`, below 2^38, is a member. Allocates nothing.
     pub fn get(&self, index: usize) -> bool
-        requires { index < 2 ^ 38 }
+        requires { index < set_limit }
         ensures { result ≡ has_number self.now index }
     {
-        self.word((index / 64) as u32) >> (index % 64) & 1 == 1
+        self.word((index / WORD_BITS) as u32) >> (index % WORD_BITS) & 1 == 1
     }
 
     /// Adds `index`, below 2^38, to the set if `val` is true; removes it otherwise.
@@ -417,21 +420,20 @@ impl<A: Allocator + Copy> IndexSet<A> {
     /// the 64 numbers that share the number's word is a member; `set(index, false)` allocates
     /// nothing.
     pub fn set(&mut self, index: usize, val: bool) -> Result<(), AllocError>
-        requires { index < 2 ^ 38 }
+        requires { index < set_limit }
         ensures ok { OnOk result ((i : ℕ) → has_number self.new i ≡ cond (nat_eq i index) val (has_number self.old i)) }
         ensures err { OnErr result (self.new ≡ self.old) }
         ensures only_for_a_member { OnErr result (val ≡ true) }
         ensures only_for_a_word { OnErr result ((i : ℕ) → i / 64 ≡ index / 64 → has_number self.old i ≡ false) }
     {
-        let key = (index / 64) as u32;
-        let bit = 1 << (index % 64);
+        let key = (index / WORD_BITS) as u32;
+        let bit = 1 << (index % WORD_BITS);
         let had = self.word(key);
         if val {
-            self.put(key, had | bit)?;
-            return Ok(());
+            self.put(key, had | bit)
+        } else {
+            self.put(key, had & !bit)
         }
-        self.put(key, had & !bit)?;
-        Ok(())
     }
 
     /// Replaces the set's members by the members of `other`.
@@ -468,7 +470,7 @@ impl<A: Allocator + Copy> IndexSet<A> {
         Ok(added)
     }
 
-    /// The words of the set with their keys.
+    /// Iterates over the words of the set with their keys.
     fn words(&self) -> WordsIter<'_>
         ensures list { result ≡ self.now }
         ensures members { ListsMembers self.now (numbers_of_set self.now) }
@@ -479,7 +481,7 @@ impl<A: Allocator + Copy> IndexSet<A> {
         }
     }
 
-    /// The members, each once, in no guaranteed order. Allocates nothing.
+    /// Iterates over the members, each once, in no guaranteed order. Allocates nothing.
     pub fn iter(&self) -> IndexSetIter<'_>
         ensures { ListsMembers self.now result }
     {
@@ -492,7 +494,7 @@ impl<A: Allocator + Copy> IndexSet<A> {
 }
 
 impl<A: Allocator + Copy> fmt::Debug for IndexSet<A> {
-    /// The members, in the order of `iter`.
+    /// Writes the members, in the order of `iter`.
     fn fmt<W: fmt::Write>(&self, f: &mut fmt::Formatter<W>) -> fmt::Result {
         f.debug_list().entries(self.iter()).finish()
     }

@@ -28,7 +28,7 @@ pub enum Edit {
 }
 
 impl Edit {
-    /// The places of a move: the one that is read, and the one that is written.
+    /// Returns the places of a move: the place that is read, and the place that is written.
     pub fn places(self) -> (Allocation, Allocation)
         ensures from { result.0 ≡ (move_of self).from }
         ensures to { result.1 ≡ (move_of self).to }
@@ -74,7 +74,7 @@ pub struct OutputIter<'a> {
     inst_range: InstRange,
 }
 
-/// Whether a point is at or before the point before an instruction.
+/// Returns `true` if `point` is at or before the point before `inst`.
 fn is_listed_by(point: ProgPoint, inst: Inst) -> bool
     ensures { IsTrue result ↔ (point ≤ before inst) }
 {
@@ -106,7 +106,7 @@ impl<'a> Iterator for OutputIter<'a> {
     }
 }
 
-/// Whether a move names two places.
+/// Returns `true` if both places of the move `edit` are places.
 fn names_places(edit: Edit) -> bool
     ensures { IsTrue result ↔ (((move_of edit).from ≢ NoPlace) × ((move_of edit).to ≢ NoPlace)) }
 {
@@ -115,7 +115,7 @@ fn names_places(edit: Edit) -> bool
 }
 
 impl<A: Allocator> Output<A> {
-    /// An output of no instructions.
+    /// Returns the output of no instructions.
     pub fn new(alloc: A) -> Output<A>
     where
         A: Copy,
@@ -130,7 +130,7 @@ impl<A: Allocator> Output<A> {
         }
     }
 
-    /// Where an instruction's places begin and end.
+    /// Returns where the places of the instruction of number `inst` begin and end.
     fn alloc_range(&self, inst: usize) -> (usize, usize)
         requires { inst < length (output_of self.now).offsets }
         ensures start { result.0 ≡ alloc_start (output_of self.now) inst }
@@ -145,8 +145,8 @@ impl<A: Allocator> Output<A> {
         (start, end)
     }
 
-    /// The places of an instruction's operands, in operand order. They are fewer than the operands
-    /// where the last operands have none.
+    /// Returns the places of the operands of `inst`, in operand order. There are fewer places than
+    /// operands if the last operands have none.
     pub fn inst_allocs(&self, inst: Inst) -> &[Allocation]
         requires in_order { OffsetsInOrder (output_of self.now) }
         requires inst { inst < length (output_of self.now).offsets }
@@ -156,8 +156,8 @@ impl<A: Allocator> Output<A> {
         &self.allocs[start..end]
     }
 
-    /// A block's listing: its instructions, each after the edits that run before it. Each
-    /// instruction listed is the block's.
+    /// Iterates over the listing of `block`: its instructions, each after the edits that run before
+    /// it.
     pub fn block_insts_and_edits<F: Function>(&self, func: &F, block: Block) -> OutputIter<'_>
         requires in_order { IsInOrder (F.function func.now) (output_of self.now) }
         requires block { block < length (F.function func.now).blocks }
@@ -180,8 +180,8 @@ impl<A: Allocator> Output<A> {
         }
     }
 
-    /// Whether the range of an instruction's places doesn't end before it begins, begins within the
-    /// places, and has no more places than the instruction has operands.
+    /// Returns `true` if the range of the places of the instruction of number `inst` doesn't end before
+    /// it begins, begins within the places, and has at most `operands` places.
     fn has_range_in_order(&self, inst: usize, operands: usize) -> bool
         requires { inst < length (output_of self.now).offsets }
         ensures { IsTrue result ↔ ((alloc_start (output_of self.now) inst ≤ alloc_end (output_of self.now) inst)
@@ -192,7 +192,7 @@ impl<A: Allocator> Output<A> {
         start <= end && start <= self.allocs.len() && end - start <= operands
     }
 
-    /// Whether there is one offset for each instruction, the offsets are in order, and no
+    /// Returns `true` if there is one offset for each instruction, the offsets are in order, and no
     /// instruction has more places than operands.
     fn has_places_in_order<F: Function>(&self, func: &F) -> bool
         ensures { IsTrue result ↔ ((length (output_of self.now).offsets ≡ length (F.function func.now).insts) × OffsetsInOrder (output_of self.now)
@@ -214,7 +214,7 @@ impl<A: Allocator> Output<A> {
         true
     }
 
-    /// Whether the edits' points never fall.
+    /// Returns `true` if the edits' points never fall.
     fn has_points_in_order(&self) -> bool
         ensures { IsTrue result ↔ IsNonDecreasingBy (λ e. e.0) self.now.edits.items }
     {
@@ -227,7 +227,7 @@ impl<A: Allocator> Output<A> {
         true
     }
 
-    /// Whether each move names two places.
+    /// Returns `true` if each move names two places.
     fn has_places_in_moves(&self) -> bool
         ensures { IsTrue result ↔ All (λ e. ((move_of e.1).from ≢ NoPlace) × ((move_of e.1).to ≢ NoPlace)) self.now.edits.items }
     {
@@ -237,7 +237,7 @@ impl<A: Allocator> Output<A> {
             .all(|edit| names_places(edit.1))
     }
 
-    /// Whether the output is well-ordered: there is one offset for each instruction, the first is
+    /// Returns `true` if the output is well-ordered: there is one offset for each instruction, the first is
     /// 0, none is below the one before and none is past the places; no instruction has more places
     /// than operands; the edits' points never fall; and no move names `none`.
     ///

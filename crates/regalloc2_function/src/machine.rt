@@ -35,58 +35,47 @@ pub struct MachineEnv<A: Allocator = Global> {
     pub fixed_stack_slots: Vec<PReg, A>,
 }
 
-/// Whether the classes are equal.
-fn is_class(a: RegClass, b: RegClass) -> bool
-    ensures { IsTrue result ↔ (a ≡ b) }
-{
-    a as usize == b as usize
-}
-
-/// A register of a set, if it has one.
+/// Returns a register of `set`, if it has one.
 fn register_in(set: PRegSet) -> Option<PReg>
     ensures { MatchOption result ((r : Register) → has_register set r ≡ false) (λ reg. has_register set reg ≡ true) }
 {
     set.into_iter().next()
 }
 
-/// A register of a set that isn't of a class, if there is one.
+/// Returns a register of `set` that isn't of `class`, if there is one.
 fn of_other_class(set: PRegSet, class: RegClass) -> Option<PReg>
     ensures { MatchOption result ((r : Register) → has_register set r ≡ true → r.class ≡ class)
         (λ reg. (has_register set reg ≡ true) × (reg.class ≢ class)) }
 {
     for reg in set {
-        if !is_class(reg.class(), class) {
+        if reg.class() != class {
             return Some(reg);
         }
     }
     None
 }
 
-/// Whether the registers are equal.
-fn is_same(a: PReg, b: PReg) -> bool
-    ensures { IsTrue result ↔ (a ≡ b) }
-{
-    PRegSet::empty().with(a).contains(b)
-}
-
 impl<A: Allocator> MachineEnv<A> {
-    /// The registers that may be allocated to vregs of a class.
-    fn allocatable(&self, class: RegClass) -> PRegSet
+    /// Returns the registers that may be allocated to vregs of `class`: its preferred and its
+    /// non-preferred registers.
+    ///
+    /// Upstream: none.
+    pub fn allocatable(&self, class: RegClass) -> PRegSet
         ensures { (r : Register) → has_register result r ≡ is_allocatable (machine_of self.now) class r }
     {
-        let index = class as usize;
+        let index = class.code();
         self.preferred_regs_by_class[index] | self.non_preferred_regs_by_class[index]
     }
 
-    /// The registers that are listed for a class as preferred and as non-preferred.
+    /// Returns the registers that are listed for `class` as preferred and as non-preferred.
     fn listed_twice(&self, class: RegClass) -> PRegSet
         ensures { (r : Register) → has_register result r ≡ is_preferred (machine_of self.now) class r && is_non_preferred (machine_of self.now) class r }
     {
-        let index = class as usize;
+        let index = class.code();
         self.preferred_regs_by_class[index] & self.non_preferred_regs_by_class[index]
     }
 
-    /// Tests the registers that are listed for a class.
+    /// Tests the registers that are listed for `class`.
     fn test_registers(&self, class: RegClass) -> Result<(), MachineMisfit>
         ensures ok { OnOk result (AreRegistersSound (machine_of self.now) class) }
         ensures misfit { IfErr result (λ m. (f : FunctionValue) → FitsBefore f (machine_of self.now) class → IsMisfit f (machine_of self.now) m) }
@@ -104,14 +93,14 @@ impl<A: Allocator> MachineEnv<A> {
         Ok(())
     }
 
-    /// The dedicated scratch register of a class, if there is one.
+    /// Returns the dedicated scratch register of `class`, if there is one.
     fn scratch(&self, class: RegClass) -> Option<PReg>
         ensures { result ≡ scratch_of (machine_of self.now) class }
     {
-        self.scratch_by_class[class as usize]
+        self.scratch_by_class[class.code()]
     }
 
-    /// Tests the dedicated scratch register of a class, if there is one.
+    /// Tests the dedicated scratch register of `class`, if there is one.
     fn test_scratch(&self, class: RegClass) -> Result<(), MachineMisfit>
         ensures ok { OnOk result (IsScratchSound (machine_of self.now) class) }
         ensures misfit { IfErr result (λ m. (f : FunctionValue) → PassesRegisters f (machine_of self.now) class → IsMisfit f (machine_of self.now) m) }
@@ -119,7 +108,7 @@ impl<A: Allocator> MachineEnv<A> {
         let Some(scratch) = self.scratch(class) else {
             return Ok(());
         };
-        if !is_class(scratch.class(), class) {
+        if scratch.class() != class {
             return Err(MachineMisfit::ScratchOfOtherClass(class, scratch));
         }
         if self.allocatable(class).contains(scratch) {
@@ -131,7 +120,7 @@ impl<A: Allocator> MachineEnv<A> {
         }
     }
 
-    /// Whether a fixed stack slot is the invalid register.
+    /// Returns `true` if a fixed stack slot is the invalid register.
     fn has_invalid_slot(&self) -> bool
         ensures some { OnTrue result (Contains (machine_of self.now).fixed_stack_slots invalid_register) }
         ensures none { OnFalse result (AreSlotsValid (machine_of self.now)) }
@@ -139,17 +128,17 @@ impl<A: Allocator> MachineEnv<A> {
         self.fixed_stack_slots.contains(&PReg::invalid())
     }
 
-    /// Whether a register is the dedicated scratch register of a class.
+    /// Returns `true` if `reg` is the dedicated scratch register of `class`.
     fn is_scratch(&self, class: RegClass, reg: PReg) -> bool
         ensures { IsTrue result ↔ (scratch_of (machine_of self.now) class ≡ Some reg) }
     {
         match self.scratch(class) {
-            Some(scratch) => is_same(scratch, reg),
+            Some(scratch) => scratch == reg,
             None => false,
         }
     }
 
-    /// Tests that no fixed stack slot is a register that serves a class.
+    /// Tests that no fixed stack slot is an allocatable register or the scratch register of `class`.
     fn test_slots(&self, class: RegClass) -> Result<(), MachineMisfit>
         ensures ok { OnOk result (All (IsSlotApart (machine_of self.now) class) (machine_of self.now).fixed_stack_slots) }
         ensures misfit { IfErr result (λ m. (f : FunctionValue) → PassesScratch f (machine_of self.now) class → IsMisfit f (machine_of self.now) m) }
@@ -166,7 +155,7 @@ impl<A: Allocator> MachineEnv<A> {
     }
 }
 
-/// The registers that may be allocated, of all classes.
+/// Collects the registers that may be allocated, of all classes.
 impl<A: Allocator> From<&MachineEnv<A>> for PRegSet {
     ghost use Rattle.std.specs.Prelude.{◌≡◌, ◌||◌};
     ghost use Rattle.regalloc2_names.specs.Register.{Register};
@@ -185,14 +174,14 @@ impl<A: Allocator> From<&MachineEnv<A>> for PRegSet {
     }
 }
 
-/// Whether an operand names a vreg of a class.
+/// Returns `true` if `operand` names a vreg of `class`.
 fn operand_names(operand: Operand, class: RegClass) -> bool
     ensures { IsTrue result ↔ ((is_fixed_nonallocatable operand ≡ false) × (operand.vreg.class ≡ class)) }
 {
-    operand.as_fixed_nonallocatable().is_none() && is_class(operand.class(), class)
+    operand.as_fixed_nonallocatable().is_none() && operand.class() == class
 }
 
-/// Whether an instruction's operands name a vreg of a class.
+/// Returns `true` if an operand of `inst` names a vreg of `class`.
 fn inst_names<F: Function>(f: &F, inst: Inst, class: RegClass) -> bool
     requires { inst < length (F.function f.now).insts }
     ensures { IsTrue result ↔ Any (λ o. (is_fixed_nonallocatable o ≡ false) × (o.vreg.class ≡ class)) (inst_at (F.function f.now) inst).operands }
@@ -202,7 +191,7 @@ fn inst_names<F: Function>(f: &F, inst: Inst, class: RegClass) -> bool
         .any(|operand| operand_names(*operand, class))
 }
 
-/// Whether some instruction's operands name a vreg of a class.
+/// Returns `true` if an operand of some instruction names a vreg of `class`.
 fn insts_name<F: Function>(f: &F, class: RegClass) -> bool
     ensures { IsTrue result ↔ ((i : ℕ) × (i < length (F.function f.now).insts)
         × Any (λ o. (is_fixed_nonallocatable o ≡ false) × (o.vreg.class ≡ class)) (inst_at (F.function f.now) i).operands) }
@@ -215,14 +204,14 @@ fn insts_name<F: Function>(f: &F, class: RegClass) -> bool
     false
 }
 
-/// Whether one of `vregs` is of `class`.
+/// Returns `true` if one of `vregs` is of `class`.
 fn vregs_name(vregs: &[VReg], class: RegClass) -> bool
     ensures { IsTrue result ↔ Any (λ v. v.class ≡ class) vregs.now }
 {
-    vregs.iter().any(|vreg| is_class(vreg.class(), class))
+    vregs.iter().any(|vreg| vreg.class() == class)
 }
 
-/// Whether the arguments of `block` name a vreg of `class`. The arguments of a block that is empty
+/// Returns `true` if an argument that `block` passes is of `class`. The arguments of a block that is empty
 /// or not within the instructions don't count, because nothing determines them.
 fn arguments_name<F: Function>(f: &F, block: Block, class: RegClass) -> bool
     requires { block < length (F.function f.now).blocks }
@@ -240,7 +229,7 @@ fn arguments_name<F: Function>(f: &F, block: Block, class: RegClass) -> bool
     false
 }
 
-/// Whether some block's parameters or arguments name a vreg of a class.
+/// Returns `true` if a parameter or an argument of some block is of `class`.
 fn blocks_name<F: Function>(f: &F, class: RegClass) -> bool
     ensures { IsTrue result ↔ ((b : ℕ) × (b < length (F.function f.now).blocks)
         × (Any (λ v. v.class ≡ class) (block_at (F.function f.now) b).params ⊎ NamesByArgument (F.function f.now) b class)) }
@@ -254,14 +243,14 @@ fn blocks_name<F: Function>(f: &F, class: RegClass) -> bool
     false
 }
 
-/// Whether the function names a vreg of a class.
+/// Returns `true` if the function names a vreg of `class`.
 fn names_class<F: Function>(f: &F, class: RegClass) -> bool
     ensures { IsTrue result ↔ NamesClass (F.function f.now) class }
 {
     insts_name(f, class) || blocks_name(f, class)
 }
 
-/// Tests that a machine fits a function, for one class.
+/// Tests that `env` fits `f` as far as `class` is concerned.
 fn test_class<F: Function, A: Allocator>(
     f: &F,
     env: &MachineEnv<A>,
@@ -281,8 +270,7 @@ fn test_class<F: Function, A: Allocator>(
     Ok(())
 }
 
-/// Tests that a machine fits a function, as an allocation requires, and returns the first condition
-/// that fails.
+/// Tests that `env` fits `f`, as an allocation requires, and returns the first condition that fails.
 ///
 /// Each class's registers, its scratch register too, are of the class; preferred, non-preferred and
 /// scratch registers and fixed stack slots are apart, and none is `PReg::invalid()`; and each
@@ -312,7 +300,7 @@ pub fn test_machine<F: Function, A: Allocator>(
     test_class(f, env, RegClass::Vector)
 }
 
-/// Whether a machine fits a function, as [`test_machine`] tests it.
+/// Returns `true` if `env` fits `f`, as [`test_machine`] tests it.
 pub fn machine_fits<F: Function, A: Allocator>(f: &F, env: &MachineEnv<A>) -> bool
     ensures { IsTrue result ↔ MachineFits (F.function f.now) (machine_of env.now) }
 {

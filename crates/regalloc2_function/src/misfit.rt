@@ -2,8 +2,7 @@
 
 ghost use Rattle.std.specs.Prelude.{◌≡◌};
 ghost use Rattle.std.specs.Fmt.{WritesOnOk};
-ghost use Rattle.regalloc2_names.specs.Text.{class_name};
-ghost use Rattle.regalloc2_function.specs.RoleText.{scratch_text, slot_text};
+ghost use Rattle.regalloc2_function.specs.RoleText.{listed_text, no_register_text, scratch_text, slot_text};
 
 use regalloc2_names::{PReg, RegClass};
 use std::error::Error;
@@ -35,15 +34,17 @@ pub enum MachineMisfit {
     NoRegister(RegClass),
 }
 
-/// Returns the name of `class`, as `Int`.
-fn class_name(class: RegClass) -> &'static str
-    ensures { result.now ≡ class_name class }
+/// Writes what is wrong with the register `reg`, which is listed for `class`.
+fn write_listed<W: fmt::Write>(
+    f: &mut fmt::Formatter<W>,
+    class: RegClass,
+    reg: PReg,
+    fault: &'static str,
+) -> fmt::Result
+    ensures { WritesOnOk W.write_str_gives f.old result (listed_text class reg fault.now) f.new }
 {
-    match class {
-        RegClass::Int => "Int",
-        RegClass::Float => "Float",
-        RegClass::Vector => "Vector",
-    }
+    let class = class.name();
+    write!(f, "{reg} is listed for the class {class}{fault}")
 }
 
 /// Writes what is wrong with the scratch register `reg` of `class`.
@@ -55,7 +56,7 @@ fn write_scratch<W: fmt::Write>(
 ) -> fmt::Result
     ensures { WritesOnOk W.write_str_gives f.old result (scratch_text class reg fault.now) f.new }
 {
-    let class = class_name(class);
+    let class = class.name();
     write!(
         f,
         "{reg}, the scratch register of the class {class}, {fault}"
@@ -71,11 +72,22 @@ fn write_slot<W: fmt::Write>(
 ) -> fmt::Result
     ensures { WritesOnOk W.write_str_gives f.old result (slot_text class reg role.now) f.new }
 {
-    let class = class_name(class);
+    let class = class.name();
     write!(f, "{reg}, a fixed stack slot, is {role} the class {class}")
 }
 
-/// As `p3f is listed for the class Int, and is of another class`.
+/// Writes that `class` has no register to allocate.
+fn write_no_register<W: fmt::Write>(f: &mut fmt::Formatter<W>, class: RegClass) -> fmt::Result
+    ensures { WritesOnOk W.write_str_gives f.old result (no_register_text class) f.new }
+{
+    let class = class.name();
+    write!(
+        f,
+        "the function has a virtual register of the class {class}, which has no register to allocate"
+    )
+}
+
+/// Writes the cause, as `p3f is listed for the class Int, and is of another class`.
 impl fmt::Display for MachineMisfit {
     ghost use Rattle.std.specs.Prelude.{Some};
     ghost use Rattle.regalloc2_function.specs.MisfitText.{misfit_text};
@@ -85,18 +97,14 @@ impl fmt::Display for MachineMisfit {
     fn fmt<W: fmt::Write>(&self, f: &mut fmt::Formatter<W>) -> fmt::Result {
         match *self {
             Self::InvalidSlot => write!(f, "a fixed stack slot is the invalid register"),
-            Self::OtherClass(class, reg) => write!(
-                f,
-                "{reg} is listed for the class {}, and is of another class",
-                class_name(class)
-            ),
-            Self::ListedTwice(class, reg) => write!(
-                f,
-                "{reg} is listed for the class {} as preferred and as non-preferred",
-                class_name(class)
-            ),
+            Self::OtherClass(class, reg) => {
+                write_listed(f, class, reg, ", and is of another class")
+            }
+            Self::ListedTwice(class, reg) => {
+                write_listed(f, class, reg, " as preferred and as non-preferred")
+            }
             Self::InvalidRegister(class) => {
-                let class = class_name(class);
+                let class = class.name();
                 write!(f, "the invalid register is listed for the class {class}")
             }
             Self::ScratchOfOtherClass(class, reg) => {
@@ -105,22 +113,20 @@ impl fmt::Display for MachineMisfit {
             Self::ScratchAllocatable(class, reg) => {
                 write_scratch(f, class, reg, "is listed to be allocated")
             }
-            Self::InvalidScratch(class) => write!(
-                f,
-                "the scratch register of the class {} is the invalid register",
-                class_name(class)
-            ),
+            Self::InvalidScratch(class) => {
+                let class = class.name();
+                write!(
+                    f,
+                    "the scratch register of the class {class} is the invalid register"
+                )
+            }
             Self::SlotAllocatable(class, reg) => {
                 write_slot(f, class, reg, "listed to be allocated for")
             }
             Self::SlotIsScratch(class, reg) => {
                 write_slot(f, class, reg, "the scratch register of")
             }
-            Self::NoRegister(class) => write!(
-                f,
-                "the function has a virtual register of the class {}, which has no register to allocate",
-                class_name(class)
-            ),
+            Self::NoRegister(class) => write_no_register(f, class),
         }
     }
 }

@@ -13,14 +13,14 @@ use regalloc2_index::Block;
 use regalloc2_names::RegAllocError;
 use std::alloc::{AllocError, Allocator};
 
-/// A block that the walk has entered, and the position of the successor that it looks at next.
+/// A block that the walk has entered, and the position of the next successor to look at.
 #[derive(Clone, Copy)]
 struct Frame {
     block: Block,
     next: usize,
 }
 
-// The successors that a closure returns for a block.
+/// Returns the successors that `succ_blocks` returns for `block`.
 fn succs_of<'a, F: Fn(Block) -> &'a [Block]>(succ_blocks: &F, block: Block) -> &'a [Block]
     requires { F.pre succ_blocks.now block }
     ensures { F.post succ_blocks.now block result }
@@ -28,7 +28,7 @@ fn succs_of<'a, F: Fn(Block) -> &'a [Block]>(succ_blocks: &F, block: Block) -> &
     succ_blocks(block)
 }
 
-// Tests that `entry` and each successor is one of the `num_blocks` blocks.
+/// Tests that `entry` and each successor is one of the `num_blocks` blocks.
 fn test_named<'a, F: Fn(Block) -> &'a [Block]>(
     num_blocks: usize,
     entry: Block,
@@ -51,8 +51,8 @@ fn test_named<'a, F: Fn(Block) -> &'a [Block]>(
     Ok(())
 }
 
-// Walks depth first from the entry over blocks that aren't visited, and lists each block as it
-// leaves it.
+/// Walks depth first from `entry` over blocks that aren't visited, and adds each block to `out` as the
+/// walk leaves it.
 fn walk<'a, A: Allocator + Copy, F: Fn(Block) -> &'a [Block]>(
     alloc: A,
     entry: Block,
@@ -96,11 +96,11 @@ fn walk<'a, A: Allocator + Copy, F: Fn(Block) -> &'a [Block]>(
 /// Lists the blocks that the entry reaches, in the order in which a depth-first walk that takes
 /// successors in listed order leaves them, each once.
 ///
-/// For each of the `num_blocks` blocks, numbered from 0, the closure returns the same successors at
-/// every call. It is called for each block, reached or not: the entry and each successor has to be
-/// a block, and `BB` names the first that isn't: the entry, or else the first in the lists of
-/// successors by rising block. The error is `Memory` if memory ran out. After an error `out` is
-/// empty. `visited_scratch` holds nothing that is needed again.
+/// For each of the `num_blocks` blocks, numbered from 0, `succ_blocks` returns the same successors at
+/// every call. It is called for each block, reached or not: `entry` and each successor has to be a
+/// block, and `BB` names the first that isn't: `entry`, or else the first in the lists of successors
+/// by rising block. The error is `Memory` if memory ran out. After an error `out` is empty.
+/// `visited_scratch` holds nothing that is needed again.
 ///
 /// Linear in the blocks and their successors. The walk has its own stack, so it handles a chain of
 /// any length. Upstream tests only the blocks that the walk meets.

@@ -1,4 +1,4 @@
-//! Outputs as plain numbers, to be stored.
+//! Outputs as plain numbers that can be stored.
 
 ghost use Rattle.std.specs.Prelude.{◌≡◌, ◌⊎◌, ◌↔◌, IsTrue, All, IfOk, IfErr, map};
 ghost use Rattle.regalloc2_names.specs.PlaceBits.{IsPlaceBits, place_of_bits};
@@ -87,7 +87,7 @@ pub struct StoredOutput<A: Allocator = Global> {
 }
 
 impl<A: Allocator> StoredOutput<A> {
-    /// Whether each number that should encode a point or a place does.
+    /// Returns `true` if each number that should encode a point or a place does.
     fn names_values(&self) -> bool
         ensures { IsTrue result ↔ NamesValues self.now }
     {
@@ -97,14 +97,14 @@ impl<A: Allocator> StoredOutput<A> {
     }
 }
 
-/// Whether the numbers of `edit` encode a point and two places.
+/// Returns `true` if the numbers of `edit` encode a point and two places.
 fn is_move(edit: (u32, u32, u32)) -> bool
     ensures { IsTrue result ↔ NamesMove edit }
 {
     ProgPoint::is_index(edit.0) && Allocation::is_bits(edit.1) && Allocation::is_bits(edit.2)
 }
 
-/// Whether the numbers of `location`, after its label, encode two points and a place.
+/// Returns `true` if the numbers of `location`, after its label, encode two points and a place.
 fn is_location(location: (u32, u32, u32, u32)) -> bool
     ensures { IsTrue result ↔ NamesLocation location }
 {
@@ -113,28 +113,28 @@ fn is_location(location: (u32, u32, u32, u32)) -> bool
         && Allocation::is_bits(location.3)
 }
 
-/// Whether all are moves.
+/// Returns `true` if each of `edits` encodes a move.
 fn are_moves(edits: &[(u32, u32, u32)]) -> bool
     ensures { IsTrue result ↔ All NamesMove edits.now }
 {
     edits.iter().all(|edit| is_move(*edit))
 }
 
-/// Whether all are places.
+/// Returns `true` if each of `words` encodes a place.
 fn are_places(words: &[u32]) -> bool
     ensures { IsTrue result ↔ All IsPlaceBits words.now }
 {
     words.iter().all(|bits| Allocation::is_bits(*bits))
 }
 
-/// Whether all are debug locations.
+/// Returns `true` if each of `locations` encodes a debug location.
 fn are_locations(locations: &[(u32, u32, u32, u32)]) -> bool
     ensures { IsTrue result ↔ All NamesLocation locations.now }
 {
     locations.iter().all(|location| is_location(*location))
 }
 
-/// The moves of these numbers.
+/// Decodes `words` to moves.
 fn moves_from<A: Allocator>(
     alloc: A,
     words: &[(u32, u32, u32)],
@@ -151,7 +151,7 @@ fn moves_from<A: Allocator>(
     Ok(edits)
 }
 
-/// The places of these numbers.
+/// Decodes `words` to places.
 fn places_from<A: Allocator>(alloc: A, words: &[u32]) -> Result<Vec<Allocation, A>, AllocError>
     requires { All IsPlaceBits words.now }
     ensures { IfOk result (λ places. places.items ≡ map place_of_bits words.now) }
@@ -163,7 +163,7 @@ fn places_from<A: Allocator>(alloc: A, words: &[u32]) -> Result<Vec<Allocation, 
     Ok(places)
 }
 
-/// The debug locations of these numbers.
+/// Decodes `words` to debug locations.
 fn locations_from<A: Allocator>(
     alloc: A,
     words: &[(u32, u32, u32, u32)],
@@ -180,7 +180,7 @@ fn locations_from<A: Allocator>(
     Ok(locations)
 }
 
-/// A copy of `words`.
+/// Copies `words`.
 fn numbers_from<A: Allocator>(alloc: A, words: &[u32]) -> Result<Vec<u32, A>, AllocError>
     ensures { IfOk result (λ numbers. numbers.items ≡ words.now) }
 {
@@ -189,7 +189,7 @@ fn numbers_from<A: Allocator>(alloc: A, words: &[u32]) -> Result<Vec<u32, A>, Al
     Ok(numbers)
 }
 
-/// The numbers of moves.
+/// Encodes the moves `edits`.
 fn words_of_moves<A: Allocator>(
     alloc: A,
     edits: &[(ProgPoint, Edit)],
@@ -205,7 +205,7 @@ fn words_of_moves<A: Allocator>(
     Ok(words)
 }
 
-/// The numbers of places.
+/// Encodes `places`.
 fn words_of_places<A: Allocator>(alloc: A, places: &[Allocation]) -> Result<Vec<u32, A>, AllocError>
     ensures places { IfOk result (λ words. map place_of_bits words.items ≡ places.now) }
     ensures names { IfOk result (λ words. All IsPlaceBits words.items) }
@@ -217,7 +217,7 @@ fn words_of_places<A: Allocator>(alloc: A, places: &[Allocation]) -> Result<Vec<
     Ok(words)
 }
 
-/// The numbers of debug locations.
+/// Encodes the debug locations `locations`.
 fn words_of_locations<A: Allocator>(
     alloc: A,
     locations: &[(u32, ProgPoint, ProgPoint, Allocation)],
@@ -239,7 +239,7 @@ fn words_of_locations<A: Allocator>(
 }
 
 impl<A: Allocator + Copy> Output<A> {
-    /// The output that stored numbers encode.
+    /// Decodes `stored` to an output.
     ///
     /// Returns `Bits` exactly if a number that should encode a point or a place doesn't; `Memory`
     /// only if each does, and memory ran out; no other error. [`Output::is_in_order`] tests whether
@@ -272,7 +272,7 @@ impl<A: Allocator + Copy> Output<A> {
 }
 
 impl<A: Allocator + Copy> Output<A> {
-    /// The numbers of this output, which [`Output::from_stored`] decodes, made with the output's
+    /// Encodes the output as numbers, which [`Output::from_stored`] decodes. Allocates from the output's
     /// own allocator.
     ///
     /// Returns `Memory` if memory ran out, and no other error.

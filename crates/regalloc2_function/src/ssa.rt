@@ -26,12 +26,13 @@ use std::alloc::Allocator;
 #[derive(Clone, Copy)]
 struct Definition {
     class: RegClass,
-    // The point from which on it may be used: after the instruction that defines it, or before its
-    // block for a parameter.
+    /// The point from which on it may be used: after the instruction that defines it, or before its
+    /// block for a parameter.
     usable: ProgPoint,
 }
 
-// Notes a definition, unless its number is past the table's or is defined already.
+/// Notes that `vreg` is defined and may be used from `usable` on. Returns `false`, and notes nothing,
+/// if its number is past the table's end or is defined already.
 fn note(defined: &mut [Option<Definition>], vreg: VReg, usable: ProgPoint) -> bool
     ensures room { OnTrue result (vreg.number < length defined.old) }
     ensures free { OnTrue result (entry_of defined.old vreg.number ≡ None) }
@@ -52,7 +53,7 @@ fn note(defined: &mut [Option<Definition>], vreg: VReg, usable: ProgPoint) -> bo
     true
 }
 
-// Notes the parameters of a block that begins at an instruction.
+/// Notes `params`, the parameters of a block that begins at `first`.
 fn note_params(
     defined: &mut [Option<Definition>],
     params: &[VReg],
@@ -71,7 +72,7 @@ fn note_params(
     Ok(())
 }
 
-// Notes what an instruction's operands define.
+/// Notes what `operands` of `inst` define.
 fn note_operands(
     defined: &mut [Option<Definition>],
     operands: &[Operand],
@@ -90,7 +91,7 @@ fn note_operands(
     Ok(())
 }
 
-// Notes what a range of instructions defines.
+/// Notes what the instructions of `range` define.
 fn note_insts<F: Function>(
     defined: &mut [Option<Definition>],
     f: &F,
@@ -108,7 +109,7 @@ fn note_insts<F: Function>(
     Ok(())
 }
 
-// Notes what a block defines.
+/// Notes what `block` defines.
 fn note_block<F: Function>(
     defined: &mut [Option<Definition>],
     f: &F,
@@ -125,7 +126,7 @@ fn note_block<F: Function>(
     note_insts(defined, f, range)
 }
 
-// Notes what all blocks define.
+/// Notes what all blocks define.
 fn note_blocks<F: Function>(defined: &mut [Option<Definition>], f: &F) -> Result<(), RegAllocError>
     requires { BlocksFollow (F.function f.now) }
     ensures ok { OnOk result (NotesDefinitions defined.old (definitions_in (F.function f.now)) defined.new) }
@@ -137,7 +138,7 @@ fn note_blocks<F: Function>(defined: &mut [Option<Definition>], f: &F) -> Result
     Ok(())
 }
 
-// Whether a vreg is defined, in number and class, by a point.
+/// Returns `true` if `vreg` is defined, in number and class, and may be used at `point`.
 fn is_usable(defined: &[Option<Definition>], vreg: VReg, point: ProgPoint) -> bool
     ensures { IsTrue result ↔ IsDefinedInTable defined.now vreg point }
 {
@@ -151,7 +152,7 @@ fn is_usable(defined: &[Option<Definition>], vreg: VReg, point: ProgPoint) -> bo
     }
 }
 
-// Tests what an instruction's operands read.
+/// Tests what `operands` of `inst` read.
 fn test_operands(
     defined: &[Option<Definition>],
     operands: &[Operand],
@@ -170,7 +171,7 @@ fn test_operands(
     Ok(())
 }
 
-// Tests the arguments that an instruction passes to one successor.
+/// Tests `arguments`, which `inst` passes to one successor.
 fn test_arguments(
     defined: &[Option<Definition>],
     arguments: &[VReg],
@@ -189,7 +190,7 @@ fn test_arguments(
     Ok(())
 }
 
-// Tests what a range of instructions reads.
+/// Tests what the instructions of `range` read.
 fn test_reads<F: Function>(
     defined: &[Option<Definition>],
     f: &F,
@@ -207,7 +208,7 @@ fn test_reads<F: Function>(
     Ok(())
 }
 
-// Tests what a block passes to its successors.
+/// Tests what `block` passes to its successors.
 fn test_passed<F: Function>(
     defined: &[Option<Definition>],
     f: &F,
@@ -228,7 +229,7 @@ fn test_passed<F: Function>(
     Ok(())
 }
 
-// Tests what a block reads and passes.
+/// Tests what `block` reads and passes.
 fn test_block<F: Function>(
     defined: &[Option<Definition>],
     f: &F,
@@ -244,7 +245,7 @@ fn test_block<F: Function>(
     test_passed(defined, f, block)
 }
 
-// Tests what all blocks read and pass.
+/// Tests what all blocks read and pass.
 fn test_blocks<F: Function>(defined: &[Option<Definition>], f: &F) -> Result<(), RegAllocError>
     requires { BlocksFollow (F.function f.now) }
     ensures ok { OnOk result (All (IsUsable defined.now) (uses_in (F.function f.now))) }
@@ -256,8 +257,8 @@ fn test_blocks<F: Function>(defined: &[Option<Definition>], f: &F) -> Result<(),
     Ok(())
 }
 
-// Tests definitions and then uses, over a table that is blank and has room for what the function
-// defines.
+/// Tests definitions and then uses, over `defined`, which is blank and has room for each vreg that `f`
+/// defines.
 fn test_over<F: Function>(defined: &mut [Option<Definition>], f: &F) -> Result<(), RegAllocError>
     requires some { 0 < length (F.function f.now).blocks }
     requires follow { BlocksFollow (F.function f.now) }
@@ -299,7 +300,7 @@ pub fn test_definitions<A: Allocator + Copy, F: Function>(
     test_over(defined.as_mut_slice(), f)
 }
 
-// Tests that the entry is block 0 and has no parameters.
+/// Tests that the entry is block 0 and has no parameters.
 fn test_entry<F: Function>(f: &F) -> Result<(), RegAllocError>
     requires { 0 < length (F.function f.now).blocks }
     ensures ok { OnOk result (EntryIsFirst (F.function f.now)) }
@@ -316,7 +317,7 @@ fn test_entry<F: Function>(f: &F) -> Result<(), RegAllocError>
     Ok(())
 }
 
-// Whether there is one argument for each parameter, of its class.
+/// Returns `true` if `arguments` has one argument for each of `params`, of the parameter's class.
 fn same_classes(arguments: &[VReg], params: &[VReg]) -> bool
     ensures { IsTrue result ↔ (map (λ v. v.class) arguments.now ≡ map (λ v. v.class) params.now) }
 {
@@ -331,7 +332,8 @@ fn same_classes(arguments: &[VReg], params: &[VReg]) -> bool
     true
 }
 
-// Whether a block passes each successor arguments that fit its parameters.
+/// Returns `true` if `last`, the last instruction of `block`, passes each successor arguments that fit
+/// the successor's parameters.
 fn arguments_fit<F: Function>(f: &F, block: Block, last: Inst) -> bool
     requires block { block < length (F.function f.now).blocks }
     requires last { last + 1 ≡ (block_at (F.function f.now) block).range.end }
@@ -349,7 +351,7 @@ fn arguments_fit<F: Function>(f: &F, block: Block, last: Inst) -> bool
     true
 }
 
-// Tests that each successor is passed arguments that fit its parameters.
+/// Tests that each successor is passed arguments that fit its parameters.
 fn test_fit<F: Function>(f: &F) -> Result<(), RegAllocError>
     requires blocks { SuccessorsAreBlocks (F.function f.now) }
     requires follow { BlocksFollow (F.function f.now) }

@@ -1,4 +1,4 @@
-//! How long a table by vreg's number has to be.
+//! The length that a table by vreg number needs.
 
 ghost use Rattle.std.specs.Prelude.{◌≡◌, ◌+◌, ◌<◌, ◌≤◌, ◌⊎◌, ℕ, All, length, true};
 ghost use Rattle.regalloc2_names.specs.Operand.{is_def};
@@ -9,7 +9,7 @@ use crate::Function;
 use regalloc2_index::{Block, Inst};
 use regalloc2_names::{Operand, VReg};
 
-// A bound above the number of a vreg, and not below another one.
+/// Returns the least number that is at least `bound` and above the number of `vreg`.
 fn above_vreg(bound: usize, vreg: VReg) -> usize
     ensures rises { bound ≤ result }
     ensures above { vreg.number < result }
@@ -19,7 +19,7 @@ fn above_vreg(bound: usize, vreg: VReg) -> usize
     bound.max(number + 1)
 }
 
-// A bound above the numbers of parameters, and not below another one.
+/// Returns the least number that is at least `bound` and above the numbers of `params`.
 fn above_params(bound: usize, params: &[VReg]) -> usize
     ensures rises { bound ≤ result }
     ensures above { All (λ v. v.number < result) params.now }
@@ -32,7 +32,8 @@ fn above_params(bound: usize, params: &[VReg]) -> usize
     above
 }
 
-// A bound above the number of an operand that defines, and not below another one.
+/// Returns the least number that is at least `bound` and above the number that `operand` defines, if
+/// it is a definition.
 fn above_operand(bound: usize, operand: Operand) -> usize
     ensures rises { bound ≤ result }
     ensures above { IsBelow result operand }
@@ -45,7 +46,7 @@ fn above_operand(bound: usize, operand: Operand) -> usize
     }
 }
 
-// A bound above the numbers that an instruction's operands define, and not below another one.
+/// Returns the least number that is at least `bound` and above the numbers that `operands` define.
 fn above_operands(bound: usize, operands: &[Operand]) -> usize
     ensures rises { bound ≤ result }
     ensures above { All (IsBelow result) operands.now }
@@ -58,7 +59,7 @@ fn above_operands(bound: usize, operands: &[Operand]) -> usize
     above
 }
 
-// A bound above the numbers of all parameters.
+/// Returns the least number above the numbers of all parameters.
 fn above_blocks<F: Function>(f: &F) -> usize
     ensures above { (b : ℕ) → b < length (F.function f.now).blocks → All (λ v. v.number < result) (block_at (F.function f.now) b).params }
     ensures near { (result ≡ 0) ⊎ ((b : ℕ) × (b < length (F.function f.now).blocks) × ReachedByParam (block_at (F.function f.now) b).params result) }
@@ -70,7 +71,8 @@ fn above_blocks<F: Function>(f: &F) -> usize
     above
 }
 
-// A bound above the numbers that all instructions define, and not below another one.
+/// Returns the least number that is at least `bound` and above the numbers that all instructions
+/// define.
 fn above_insts<F: Function>(f: &F, bound: usize) -> usize
     ensures rises { bound ≤ result }
     ensures above { (i : ℕ) → i < length (F.function f.now).insts → All (IsBelow result) (inst_at (F.function f.now) i).operands }
@@ -83,9 +85,12 @@ fn above_insts<F: Function>(f: &F, bound: usize) -> usize
     above
 }
 
-/// How long a table by vreg's number has to be, to have an entry for each number that the function defines. It
-/// is at most `num_vregs`; and where that is more than four times the instructions, one above the greatest number that an
-/// operand or a parameter defines, so that a number that only `num_vregs` names takes no memory.
+/// Returns the length that a table by vreg number needs to have an entry for each number that `f`
+/// defines.
+///
+/// The length is at most `num_vregs`. If `num_vregs` is more than four times the number of
+/// instructions, the length is at most one above the greatest number that an operand or a parameter
+/// defines: a great `num_vregs` alone then takes no memory.
 pub fn table_length<F: Function>(f: &F) -> usize
     ensures room { HasRoom (F.function f.now) result }
     ensures few { result ≤ (F.function f.now).num_vregs }

@@ -1,5 +1,5 @@
 use Rattle.std.proofs.Common.{ℕ, ◌<◌, ◌≢◌, slice_index_or}
-use Rattle.regalloc2_function.proofs.indexset.place_of.Given as goal
+use Rattle.regalloc2_function.proofs.indexset.index_of.Given as goal
 
-abbrev pub invariant-loop-place : goal.invariant-loop-place
-invariant-loop-place l = (k : ℕ) → k < l.place → (slice_index_or l.words k (0, 0)).0 ≢ l.key
+abbrev pub invariant-loop-index : goal.invariant-loop-index
+invariant-loop-index l = (k : ℕ) → k < l.index → (slice_index_or l.words k (0, 0)).0 ≢ l.key

@@ -1,4 +1,4 @@
-use Rattle.std.proofs.Common.{ap, sym, ◌∙◌}
+use Rattle.std.proofs.Common.{ap, rules, sym, tests, ◌∙◌}
 use Rattle.std.specs.Prelude.{Some}
 use Rattle.std.proofs.lemmas.Bool.{false≢true}
 use Rattle.regalloc2_names.specs.Register.{Register}
@@ -7,8 +7,8 @@ use Rattle.regalloc2_function.proofs.machine.MachineEnv.is_scratch.Goals as goal
 
 pub returns-in-Some : goal.returns-in-Some
 returns-in-Some g c = (
-  λ yes. sym c.scratch.ensures ∙ c.in-Some.is ∙ ap (λ (x : Register). Some x) (c.is_same.ensures.0 yes),
-  λ is. c.is_same.ensures.1 (same_some _ _ (sym c.in-Some.is ∙ c.scratch.ensures ∙ is)),
+  λ yes. search (rules, tests),
+  λ is. search (rules, tests),
 )
 
 pub returns-in-None : goal.returns-in-None
