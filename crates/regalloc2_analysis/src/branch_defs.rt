@@ -51,11 +51,11 @@ pub struct EdgeInto {
 /// What branches define.
 #[derive(Drop)]
 pub struct BranchDefs<A: Allocator> {
-    // by vreg number: the operand of a branch that defines it
+    /// by vreg number: the operand of a branch that defines it
     sites: Vec<Option<DefSite>, A>,
-    // by block
+    /// by block
     edges: Vec<Option<EdgeInto>, A>,
-    // the operands, by index and branch after branch, that are fixed and define what is used
+    /// the operands, by index and branch after branch, that are fixed and define what is used
     stored: Vec<usize, A>,
 }
 

@@ -14,7 +14,7 @@ use regalloc2_index::Block;
 use regalloc2_names::{Operand, PRegSet, RegClass};
 use std::alloc::{AllocError, Allocator};
 
-// Whether some operand defines.
+/// Whether some operand defines.
 fn some_defines(operands: &[Operand]) -> bool
     ensures { IsTrue result ↔ ((n k : ℕ) × DefinesNumber operands.now n k) }
 {
@@ -26,7 +26,7 @@ fn some_defines(operands: &[Operand]) -> bool
     false
 }
 
-// Whether a block ends in a branch that defines.
+/// Whether a block ends in a branch that defines.
 fn ends_in_definitions<F: Function>(f: &F, block: Block) -> bool
     requires block { block < length (F.function f.now).blocks }
     requires well_formed { MayHaveTables (F.function f.now) }
@@ -49,7 +49,7 @@ pub fn some_branch_defines<F: Function>(f: &F) -> bool
     false
 }
 
-// The registers to which definitions are fixed.
+/// The registers to which definitions are fixed.
 fn held_by(operands: &[Operand]) -> PRegSet
     ensures { (r : Register) → (has_register result r ≡ true) ↔ IsHeld operands.now r }
 {
@@ -62,14 +62,14 @@ fn held_by(operands: &[Operand]) -> PRegSet
     held
 }
 
-// Whether an operand is fixed and defines what is used.
+/// Whether an operand is fixed and defines what is used.
 fn is_stored(used: &[bool], operand: Operand) -> bool
     ensures { IsTrue result ↔ IsMarkedDefinition used.now operand }
 {
     fixed_definition(operand).is_some() && is_marked(used, operand.vreg().vreg())
 }
 
-// Lists the operands that are fixed and define what is used, by index.
+/// Lists the operands that are fixed and define what is used, by index.
 fn list_stored<A: Allocator>(
     stored: &mut Vec<usize, A>,
     used: &[bool],
@@ -85,7 +85,7 @@ fn list_stored<A: Allocator>(
     Ok(())
 }
 
-// Whether a set holds no register.
+/// Whether a set holds no register.
 fn is_none_held(held: PRegSet) -> bool
     ensures { IsTrue result ↔ ((r : Register) → has_register held r ≡ false) }
 {
@@ -94,8 +94,8 @@ fn is_none_held(held: PRegSet) -> bool
         && held.is_empty(RegClass::Vector)
 }
 
-// Lists the operands that are fixed and define what is used, where `held` has the registers to which definitions are fixed. If
-// `held` is empty, no operand is read.
+/// Lists the operands that are fixed and define what is used, where `held` has the registers to which definitions are fixed. If
+/// `held` is empty, no operand is read.
 fn list_held<A: Allocator>(
     stored: &mut Vec<usize, A>,
     used: &[bool],
@@ -111,7 +111,7 @@ fn list_held<A: Allocator>(
     list_stored(stored, used, operands)
 }
 
-// Notes an edge for each successor, with its position.
+/// Notes an edge for each successor, with its position.
 #[inline(always)]
 fn note_positions(edges: &mut [Option<EdgeInto>], succs: &[Block], edge: EdgeInto)
     requires { All (λ s. s < length edges.old) succs.now }
@@ -124,7 +124,7 @@ fn note_positions(edges: &mut [Option<EdgeInto>], succs: &[Block], edge: EdgeInt
     }
 }
 
-// Notes the edges out of a block, if its branch defines.
+/// Notes the edges out of a block, if its branch defines.
 fn note_edges_of<A: Allocator, F: Function>(
     edges: &mut [Option<EdgeInto>],
     stored: &mut Vec<usize, A>,
@@ -158,7 +158,7 @@ fn note_edges_of<A: Allocator, F: Function>(
     Ok(())
 }
 
-// Notes the edges out of all blocks whose branches define.
+/// Notes the edges out of all blocks whose branches define.
 fn note_edges<A: Allocator, F: Function>(
     edges: &mut [Option<EdgeInto>],
     stored: &mut Vec<usize, A>,
@@ -176,7 +176,7 @@ fn note_edges<A: Allocator, F: Function>(
     Ok(())
 }
 
-// A table of `num` blocks, with no edge into any.
+/// A table of `num` blocks, with no edge into any.
 fn no_edges<A: Allocator + Copy>(
     alloc: A,
     num: usize,

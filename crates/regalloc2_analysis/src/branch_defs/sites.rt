@@ -13,7 +13,7 @@ use regalloc2_index::{Block, Inst};
 use regalloc2_names::{Operand, VReg};
 use std::alloc::{AllocError, Allocator};
 
-// Notes an operand as the site of the number that it defines, if it is a definition.
+/// Notes an operand as the site of the number that it defines, if it is a definition.
 fn note_site(sites: &mut [Option<DefSite>], operand: Operand, site: DefSite)
     ensures { sites.new ≡ (if is_def operand.kind then slice_set sites.old operand.vreg.number (Some site) else sites.old) }
 {
@@ -23,7 +23,7 @@ fn note_site(sites: &mut [Option<DefSite>], operand: Operand, site: DefSite)
     }
 }
 
-// Notes the operands of a branch as the sites of what they define.
+/// Notes the operands of a branch as the sites of what they define.
 fn note_sites(sites: &mut [Option<DefSite>], operands: &[Operand], branch: Inst)
     ensures { NotesSites operands.now branch (length operands.now) sites.old sites.new }
 {
@@ -32,7 +32,7 @@ fn note_sites(sites: &mut [Option<DefSite>], operands: &[Operand], branch: Inst)
     }
 }
 
-// Notes the operands of the branch that ends a block, if one does.
+/// Notes the operands of the branch that ends a block, if one does.
 fn note_branch<F: Function>(sites: &mut [Option<DefSite>], f: &F, block: Block)
     requires block { block < length (F.function f.now).blocks }
     requires well_formed { MayHaveTables (F.function f.now) }
@@ -44,7 +44,7 @@ fn note_branch<F: Function>(sites: &mut [Option<DefSite>], f: &F, block: Block)
     }
 }
 
-// Notes the operands of all blocks' branches.
+/// Notes the operands of all blocks' branches.
 fn note_branches<F: Function>(sites: &mut [Option<DefSite>], f: &F)
     requires well_formed { MayHaveTables (F.function f.now) }
     requires room { HasRoom (F.function f.now) (length sites.old) }
@@ -56,7 +56,7 @@ fn note_branches<F: Function>(sites: &mut [Option<DefSite>], f: &F)
     }
 }
 
-// A table of `num` numbers, none with a site.
+/// A table of `num` numbers, none with a site.
 fn no_sites<A: Allocator + Copy>(
     alloc: A,
     num: usize,

@@ -21,7 +21,7 @@ pub struct RangeEnd {
     pub by: Option<InstOperand>,
 }
 
-// Notes an end for a vreg, unless a later one is noted already.
+/// Notes an end for a vreg, unless a later one is noted already.
 fn note_end(ends: &mut [Option<RangeEnd>], slots: &[u32], vreg: VReg, end: RangeEnd)
     requires apart { IsApart slots.now (length ends.old) }
     ensures noted { HasSlot slots.now vreg.number (length ends.old) →
@@ -34,7 +34,7 @@ fn note_end(ends: &mut [Option<RangeEnd>], slots: &[u32], vreg: VReg, end: Range
     }
 }
 
-// Notes what an instruction's operands read at a position.
+/// Notes what an instruction's operands read at a position.
 fn note_reads(
     ends: &mut [Option<RangeEnd>],
     slots: &[u32],
@@ -59,7 +59,7 @@ fn note_reads(
     }
 }
 
-// Notes the arguments that an instruction passes to one successor.
+/// Notes the arguments that an instruction passes to one successor.
 fn note_arguments(ends: &mut [Option<RangeEnd>], slots: &[u32], arguments: &[VReg], inst: Inst)
     requires apart { IsApart slots.now (length ends.old) }
     requires small { inst < inst_limit }

@@ -16,8 +16,8 @@ use regalloc2_index::Inst;
 use regalloc2_names::{RegAllocError, VReg};
 use std::alloc::Allocator;
 
-// The live range of the vreg of `label`, if the label is kept: if it starts at or after the first point's instruction, and ends
-// at most one past the last point's.
+/// The live range of the vreg of `label`, if the label is kept: if it starts at or after the first point's instruction, and ends
+/// at most one past the last point's.
 fn kept_range<F: Function>(
     f: &F,
     slots: &[u32],
@@ -41,7 +41,7 @@ fn kept_range<F: Function>(
     }
 }
 
-// The labels of a function that are kept, as listed.
+/// The labels of a function that are kept, as listed.
 fn keep_labels<A: Allocator + Copy, F: Function>(
     alloc: A,
     f: &F,

@@ -20,8 +20,8 @@ use regalloc2_function::Function;
 use regalloc2_index::{Block, Inst};
 use regalloc2_names::{Operand, ProgPoint, VReg};
 
-// The end of what `inst` defines, where `noted` is its last use from the instruction on. An end right
-// before the instruction is an argument that the instruction itself passes, which doesn't count.
+/// The end of what `inst` defines, where `noted` is its last use from the instruction on. An end right
+/// before the instruction is an argument that the instruction itself passes, which doesn't count.
 fn end_of_defined(noted: Option<RangeEnd>, inst: Inst, unused: RangeEnd) -> RangeEnd
     requires { inst < inst_limit }
     ensures { result ≡ end_behind inst noted unused }
@@ -33,7 +33,7 @@ fn end_of_defined(noted: Option<RangeEnd>, inst: Inst, unused: RangeEnd) -> Rang
     }
 }
 
-// Whether an operand defines a requested vreg.
+/// Whether an operand defines a requested vreg.
 fn defines_wanted(wanted: &[bool], operand: Operand) -> bool
     ensures { result ≡ is_def operand.kind && slice_index_or wanted.now operand.vreg.number false }
 {
@@ -80,7 +80,7 @@ pub fn begin_at_defs<F: Function>(
     }
 }
 
-// The end that is noted for a vreg, if the vreg is requested.
+/// The end that is noted for a vreg, if the vreg is requested.
 fn wanted_end(
     wanted: &[bool],
     ends: &[Option<RangeEnd>],

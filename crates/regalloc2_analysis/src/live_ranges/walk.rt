@@ -26,7 +26,7 @@ pub struct FewRanges<A: Allocator> {
     pub entries: Vec<Option<LiveRange>, A>,
 }
 
-// Whether `inst` is the last of the first `many` listed instructions.
+/// Whether `inst` is the last of the first `many` listed instructions.
 fn is_next(listed: &[u32], many: usize, inst: Inst) -> bool
     requires { many ≤ length listed.now }
     ensures { IsTrue result ↔ ((0 < many) × (slice_index_or listed.now (many - 1) 0 ≡ inst)) }
@@ -34,7 +34,7 @@ fn is_next(listed: &[u32], many: usize, inst: Inst) -> bool
     many > 0 && listed[many - 1] as usize == inst.index()
 }
 
-// Whether the last of the first `many` listed instructions is `inst` or comes after it.
+/// Whether the last of the first `many` listed instructions is `inst` or comes after it.
 fn is_left(listed: &[u32], many: usize, inst: Inst) -> bool
     requires { many ≤ length listed.now }
     ensures { IsTrue result ↔ ((0 < many) × (inst ≤ slice_index_or listed.now (many - 1) 0)) }
@@ -42,7 +42,7 @@ fn is_left(listed: &[u32], many: usize, inst: Inst) -> bool
     many > 0 && listed[many - 1] as usize >= inst.index()
 }
 
-// Walks an instruction of a block: what it uses, then what it defines.
+/// Walks an instruction of a block: what it uses, then what it defines.
 fn walk_inst<F: Function>(
     ends: &mut [Option<RangeEnd>],
     ranges: &mut [Option<LiveRange>],
@@ -67,8 +67,8 @@ fn walk_inst<F: Function>(
     begin_at_defs(ranges, ends, slots, f, wanted, inst);
 }
 
-// Walks the last instruction of a block. If it isn't listed, only the arguments that it passes are
-// noted. Returns how many listed instructions are left.
+/// Walks the last instruction of a block. If it isn't listed, only the arguments that it passes are
+/// noted. Returns how many listed instructions are left.
 fn walk_last<F: Function>(
     ends: &mut [Option<RangeEnd>],
     ranges: &mut [Option<LiveRange>],
@@ -100,8 +100,8 @@ fn walk_last<F: Function>(
     many
 }
 
-// Walks the listed instructions of a block, and the last one. Returns how many listed instructions
-// are left.
+/// Walks the listed instructions of a block, and the last one. Returns how many listed instructions
+/// are left.
 fn walk_insts<F: Function>(
     ends: &mut [Option<RangeEnd>],
     ranges: &mut [Option<LiveRange>],
@@ -135,7 +135,7 @@ fn walk_insts<F: Function>(
     left
 }
 
-// Walks all blocks: the instructions of each, then its parameters.
+/// Walks all blocks: the instructions of each, then its parameters.
 fn walk_blocks<F: Function>(
     ends: &mut [Option<RangeEnd>],
     ranges: &mut [Option<LiveRange>],
@@ -192,7 +192,7 @@ pub fn few_ranges<A: Allocator + Copy, F: Function>(
     Ok(FewRanges { slots, entries })
 }
 
-// The table `entries` by number.
+/// The table `entries` by number.
 fn spread_out<A: Allocator + Copy>(
     alloc: A,
     slots: &[u32],

@@ -23,7 +23,7 @@ pub fn is_wanted(wanted: &[bool], vreg: VReg) -> bool
     is_marked(wanted, vreg.vreg())
 }
 
-// Whether an operand names a requested vreg.
+/// Whether an operand names a requested vreg.
 fn some_is_wanted(wanted: &[bool], operands: &[Operand]) -> bool
     ensures { IsTrue result ↔ ((k : ℕ) × (k < length operands.now) × IsWanted wanted.now (op_at operands.now k).vreg.number) }
 {
@@ -61,7 +61,7 @@ pub fn naming<A: Allocator + Copy, F: Function>(
     Ok(named)
 }
 
-// Marks the numbers of the vregs that labels name.
+/// Marks the numbers of the vregs that labels name.
 fn mark_labelled(wanted: &mut [bool], labels: &[(VReg, Inst, Inst, u32)])
     ensures { Marks (NamedAmong labels.now (length labels.now)) wanted.old wanted.new }
 {
@@ -70,7 +70,7 @@ fn mark_labelled(wanted: &mut [bool], labels: &[(VReg, Inst, Inst, u32)])
     }
 }
 
-// By number, whether a label names the vreg, for the numbers that the function defines.
+/// By number, whether a label names the vreg, for the numbers that the function defines.
 fn labelled<A: Allocator + Copy, F: Function>(alloc: A, f: &F) -> Result<Vec<bool, A>, AllocError>
     ensures room { IfOk result (λ w. HasRoom (F.function f.now) (length w.items)) }
     ensures marks { IfOk result (λ w. (n : ℕ) → n < length w.items → IsWanted w.items n ↔ IsLabelled (F.function f.now) n) }
