@@ -23,7 +23,7 @@ use Rattle.regalloc2_analysis.specs.declared.live_ranges.InstOperand.{InstOperan
 use Rattle.regalloc2_analysis.specs.declared.live_ranges.KeptLabel.{KeptLabel}
 use Rattle.regalloc2_analysis.specs.declared.live_ranges.LiveRange.{LiveRange}
 use Rattle.regalloc2_analysis.specs.LiveRanges.LiveRanges.{IsKeptRange, IsShownBy}
-use Rattle.regalloc2_analysis.proofs.LiveRangesLemmas.KeptLabels.{IsOneOf, kept_from, located_labels}
+use Rattle.regalloc2_analysis.proofs.LiveRangesLemmas.KeptLabels.{IsKeptLabelOf, kept_from, located_labels}
 use Rattle.regalloc2_analysis.proofs.LiveRangesLemmas.FirstAndLastPoints.{shown_within}
 use Rattle.regalloc2_fastalloc_proofs.specs.Debug.ShownPlace.{shown_place}
 use Rattle.regalloc2_fastalloc_proofs.specs.Safety.{MayBeLocatedAt}
@@ -76,10 +76,10 @@ module _ (env : MachineValue) (f : FunctionValue) (limited : IsLimited f) (ok : 
   locations_stand ds a =
       All-permutation (IsOfLabel f env (Made f) t.slots) (map (location_shown t.slots offsets allocs) a.kept) ds a.same
       (All-map (IsOfLabel f env (Made f) t.slots) (location_shown t.slots offsets allocs) a.kept
-      (All-weaker (IsOneOf f f.labels) (λ (k : KeptLabel). IsOfLabel f env (Made f) t.slots (location_shown t.slots offsets allocs k)) each a.kept
+      (All-weaker (IsKeptLabelOf f f.labels) (λ (k : KeptLabel). IsOfLabel f env (Made f) t.slots (location_shown t.slots offsets allocs k)) each a.kept
       (kept_from a.are)))
     where
-      each : (k : KeptLabel) → IsOneOf f f.labels k → IsOfLabel f env (Made f) t.slots (location_shown t.slots offsets allocs k)
+      each : (k : KeptLabel) → IsKeptLabelOf f f.labels k → IsOfLabel f env (Made f) t.slots (location_shown t.slots offsets allocs k)
       each k (j, l, lt, there, (is, range)) = (j, l, lt, there, (sym is, range.kept, pointed_made f l.vreg range.kept.0, range_stands l k range))
 
 module _ (env : MachineValue) (f : FunctionValue) (limited : IsLimited f) (ok : IsWellFormed env f) (May : ℕ → Type 0) (t : StateValue) (out : OutputValue)

@@ -7,7 +7,7 @@ use Rattle.regalloc2_names.specs.declared.RegAllocError.TheVariants.{SSA, TooMan
 use Rattle.regalloc2_function.specs.FunctionValue.{FunctionValue, inst_at, no_inst, no_operand, operand_count}
 use Rattle.regalloc2_function.specs.Machine.{MachineValue}
 use Rattle.regalloc2_function.specs.WellFormed.{FixedAvoidClobbers, IsWellFormed, ReusesAreSound}
-use Rattle.regalloc2_function.specs.Reasons.{HasShape, IsShapeFault, IsSound, IsSoundnessFault}
+use Rattle.regalloc2_function.specs.Reasons.{HasShape, IsShapeFault, HasSoundness, IsSoundnessFault}
 use Rattle.regalloc2_function.specs.Reasons.IsShapeFault.{apart, critical, operands, outside, unlisted}
 use Rattle.regalloc2_function.specs.Reasons.IsSoundnessFault.{arguments, definitions, elsewhere, livein, open_end}
 use Rattle.regalloc2_function.proofs.ErrorOnlyOutOfMemory.{shape_refused}
@@ -66,7 +66,7 @@ soundness_reason f env asked p on shape h = soundness_cases h (λ w. no_soundnes
     soundness_cases (arguments b entry end h) malformed = (p, on, malformed, unsound shape (arguments b entry end h))
     soundness_cases (definitions v i entry end fit h) malformed = (p, on, malformed, unsound shape (definitions v i entry end fit h))
 
-fixed_reason : (f : FunctionValue) (env : MachineValue) (asked : Bool) (e : RegAllocError) → HasFewOperands f → asked ≡ true → HasShape f → IsSound f →
+fixed_reason : (f : FunctionValue) (env : MachineValue) (asked : Bool) (e : RegAllocError) → HasFewOperands f → asked ≡ true → HasShape f → HasSoundness f →
     IsFixedFault f env e → IsReason f env asked e
 fixed_reason f env asked e p on shape sound h =
     rw h.1 (inl (p, on, λ w. no_fixed_fault f env w h, clashing shape sound (h.0, refl, h.2)))

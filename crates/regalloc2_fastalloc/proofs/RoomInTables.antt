@@ -3,12 +3,12 @@ use Rattle.std.proofs.Common.{ℕ, ◌≡◌, ◌<◌, ◌∙◌, length, sym, a
 use Rattle.std.specs.Prelude.{slice_index_or}
 use Rattle.std.proofs.lemmas.List.{get_or_default, get_or_past}
 use Rattle.std.proofs.lemmas.Bool.{cases_lt}
-use Rattle.regalloc2_names.specs.Register.{VirtualRegister}
+use Rattle.regalloc2_names.specs.Register.{VirtualRegister, no_vreg}
 use Rattle.regalloc2_names.specs.Operand.{OperandValue, is_def}
 use Rattle.regalloc2_function.specs.FunctionValue.{FunctionValue, InstValue, block_at, inst_at, no_inst, no_operand, op_at}
 use Rattle.regalloc2_function.specs.WellFormed.{DefinedOnce, IsDefinedBy}
-use Rattle.regalloc2_function.specs.TableLength.{HasRoom}
-use Rattle.regalloc2_semantics.proofs.SingleDef.{defined_small, no_vreg, taken_small}
+use Rattle.regalloc2_function.specs.TableLength.{CoversDefinitions}
+use Rattle.regalloc2_semantics.proofs.SingleDef.{defined_small, taken_small}
 use Rattle.regalloc2_fastalloc_proofs.specs.BlockSteps.{DefinesBelow}
 
 -- an instruction with operands is one of the function's
@@ -34,5 +34,5 @@ defined_small_by f once v point (inr o) =
     })
 
 -- a table that has room for the numbers below the count has room for all numbers that are defined
-pub has_room : (f : FunctionValue) → DefinedOnce f → (n : ℕ) → HasRoom f n → DefinesBelow f n
+pub has_room : (f : FunctionValue) → DefinedOnce f → (n : ℕ) → CoversDefinitions f n → DefinesBelow f n
 has_room f once n room v point defined = room v point defined (defined_small_by f once v point defined)

@@ -19,7 +19,7 @@ use Rattle.regalloc2_parts.specs.ScratchPool.{error_of}
 use Rattle.regalloc2_fastalloc_state.specs.StateParts.{SpillSlotsValue, SlotsHaveOneOwner, GetsSpillSlot, AreUpTo, IsSlotOrNone, later_end, owners, slot_name}
 use Rattle.regalloc2_fastalloc_state.specs.StateParts.{most_units}
 use Rattle.regalloc2_fastalloc_state.specs.OutOfResources.{IsResourceError, LacksSlots, SlotsExhausted}
-use Rattle.regalloc2_semantics.proofs.Forms.{nothing_there}
+use Rattle.regalloc2_semantics.proofs.Forms.{NoPlace-from_failed_test}
 use Rattle.regalloc2_semantics.proofs.Plain.{end_near}
 use Rattle.regalloc2_fastalloc_state.proofs.SlotsAsPlaces.{slot_grows}
 
@@ -58,7 +58,7 @@ fewer_fit k n most h = mul-le-mul_right (2 * most) h
 -- a vreg whose place was read, and is none
 pub no_slot_yet : (items : List Place) (n : ℕ) (p : Place) (b : Bool) → n < length items → p ≡ slice_index_or items n p → (is_no_place p ≡ false → IsTrue b) →
     b ≡ false → slice_index_or items n NoPlace ≡ NoPlace
-no_slot_yet items n p b lt reads h f = sym (get_or_read items n p lt reads NoPlace) ∙ nothing_there p b h f
+no_slot_yet items n p b lt reads h f = sym (get_or_read items n p lt reads NoPlace) ∙ NoPlace-from_failed_test p b h f
 
 -- a vreg keeps the slot that it has
 pub slot_kept : (s : SpillSlotsValue) (v : VirtualRegister) (n : ℕ) (p : Place) → SlotsHaveOneOwner s → n ≡ v.number → n < length s.vreg_spillslots →

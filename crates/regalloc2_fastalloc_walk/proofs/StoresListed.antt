@@ -15,7 +15,7 @@ use Rattle.regalloc2_function.specs.FunctionValue.{FunctionValue, block_at, inst
 use Rattle.regalloc2_function.specs.SourceRun.{arguments_at}
 use Rattle.regalloc2_function.specs.WellFormed.{last_of}
 use Rattle.regalloc2_semantics.specs.Blocks.{target_at}
-use Rattle.regalloc2_semantics.proofs.SingleDef.{DefinesAt, TakesAt, one_operand, one_param as one_taken, not_both}
+use Rattle.regalloc2_semantics.proofs.SingleDef.{IsDefOperand, TakesAt, one_operand, one_param as one_taken, not_both}
 use Rattle.regalloc2_semantics.proofs.Soundness.{well_formed_are_sound}
 use Rattle.regalloc2_analysis.specs.BranchDefs.BranchDefs.{AreStoredOperands, DefinesNumber, IsEdgeInto, IsSite, IsStoredOperand}
 use Rattle.regalloc2_analysis.specs.BranchDefs.Tables.{AreBranchDefsOf, site_of}
@@ -128,7 +128,7 @@ module _ (f : FunctionValue) (well : MayBeAllocated f) (b e k : ℕ) (edge : IsE
   last = last_of (block_at f e)
 
   -- what the branch defines is defined at the block's end
-  pub defines_there : (n j : ℕ) → DefinesNumber ops n j → DefinesAt f n last j
+  pub defines_there : (n j : ℕ) → DefinesNumber ops n j → IsDefOperand f n last j
   defines_there n j d = record { inst = last_within f well e edge.block; operand = d.operand; definition = d.definition; number = d.number }
 
   pub takes_there : (n j : ℕ) → j < length params → (slice_index_or params j no_vreg).number ≡ n → TakesAt f n (target_at f e k) j

@@ -14,7 +14,7 @@ use Rattle.regalloc2_function.specs.OutputValue.{MoveValue}
 use Rattle.regalloc2_function.specs.WellFormed.{IsWellFormed, last_of}
 use Rattle.regalloc2_semantics.specs.Stores.{Store, moves_by, store_moves, IsOneOf, AreInOrder}
 use Rattle.regalloc2_semantics.specs.Stores.IsOneOf.{first, later}
-use Rattle.regalloc2_semantics.proofs.SingleDef.{DefinesAt, not_both, one_operand}
+use Rattle.regalloc2_semantics.proofs.SingleDef.{IsDefOperand, not_both, one_operand}
 use Rattle.regalloc2_semantics.proofs.Soundness.{well_formed_are_sound}
 use Rattle.regalloc2_analysis.specs.BranchDefs.BranchDefs.{DefinesNumber, IsEdgeInto, fixed_definition}
 use Rattle.regalloc2_fastalloc_state.specs.StateParts.{SpillSlotsValue, GetsSpillSlot, NoneIsFrom, slot_name}
@@ -345,7 +345,7 @@ module _ (at_edge : EdgeStores) where
   is_stored : (i : ℕ) → i < length ms → IsStoredFor f e k t.slots (store_at ds i).index (store_at ds i).to
   is_stored i lt = lists.each i no_store (let l = long in omega (arith, lt, l))
 
-  defines_at : (n j : ℕ) → DefinesNumber (branch_operands f e) n j → DefinesAt f n (last_of (block_at f e)) j
+  defines_at : (n j : ℕ) → DefinesNumber (branch_operands f e) n j → IsDefOperand f n (last_of (block_at f e)) j
   defines_at n j d = record { inst = last_within f ok.follow e edge.block; operand = d.operand; definition = d.definition; number = d.number }
 
   to_memory : (i : ℕ) → i < length ms → is_memory t.fixed_stack (store_move_at ms i).to ≡ true

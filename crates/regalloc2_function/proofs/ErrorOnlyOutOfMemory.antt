@@ -15,10 +15,10 @@ use Rattle.regalloc2_function.proofs.ListMembers.{all_members, from_flat}
 use Rattle.regalloc2_function.proofs.ListsInParts.{first_not_all}
 
 -- the entry and all successors as listed
-abbrev listed : FunctionValue → List ℕ
-listed f = f.entry ∷ flat_map (λ b. b.succs) f.blocks
+abbrev entry_and_successors : FunctionValue → List ℕ
+entry_and_successors f = f.entry ∷ flat_map (λ b. b.succs) f.blocks
 
-all_listed : (f : FunctionValue) → SuccessorsAreBlocks f → All (λ s. s < length f.blocks) (listed f)
+all_listed : (f : FunctionValue) → SuccessorsAreBlocks f → All (λ s. s < length f.blocks) (entry_and_successors f)
 all_listed f h = All-cons (λ s. s < length f.blocks) f.entry (flat_map (λ b. b.succs) f.blocks) h.0
     (all_members (λ s. s < length f.blocks) (flat_map (λ b. b.succs) f.blocks) (λ s m.
     let b = from_flat (λ (b : BlockValue). b.succs) f.blocks s m in
@@ -28,7 +28,7 @@ all_listed f h = All-cons (λ s. s < length f.blocks) f.entry (flat_map (λ b. b
 
 -- a function whose blocks and edges pass all tests has no error of blocks and edges
 pub shape_refused : (f : FunctionValue) {e : RegAllocError} → HasShape f → IsShapeFault f e → ⊥
-shape_refused f shape (outside s h) = first_not_all (λ s. s < length f.blocks) (listed f) s h (all_listed f shape.successors)
+shape_refused f shape (outside s h) = first_not_all (λ s. s < length f.blocks) (entry_and_successors f) s h (all_listed f shape.successors)
 shape_refused f shape (apart b blocks h) = h.1 (shape.follow b h.0)
 shape_refused f shape (unlisted b blocks follow h) = h.1 (shape.predecessors b h.0)
 shape_refused f shape (critical b p blocks follow agree h fork) = h.1 (shape.no_critical_edge b h.0)

@@ -22,17 +22,17 @@ use Rattle.regalloc2_function.proofs.BlockRanges.{block_is}
 abbrev param_count : ℕ → BlockValue → ℕ
 param_count n b = count_by (λ v. nat_eq v.number n) b.params
 
-abbrev operand_count : ℕ → InstValue → ℕ
-operand_count n i = count_by (defines_number n) i.operands
+abbrev definition_count : ℕ → InstValue → ℕ
+definition_count n i = count_by (defines_number n) i.operands
 
 -- a function with other blocks and instructions
 abbrev made_of : FunctionValue → List BlockValue → List InstValue → FunctionValue
 made_of f bs is = record f { blocks = bs; insts = is }
 
 sums_of : (f : FunctionValue) (n : ℕ) (bs : List BlockValue) (is : List InstValue) →
-    definitions_of (made_of f bs is) n ≡ sum_by (param_count n) bs + sum_by (operand_count n) is
+    definitions_of (made_of f bs is) n ≡ sum_by (param_count n) bs + sum_by (definition_count n) is
 sums_of f n [] [] = refl
-sums_of f n [] (i ∷ is) = let h = sums_of f n [] is in let c = sum_by-cons (operand_count n) i is in omega (arith, h, c)
+sums_of f n [] (i ∷ is) = let h = sums_of f n [] is in let c = sum_by-cons (definition_count n) i is in omega (arith, h, c)
 sums_of f n (b ∷ bs) is = let h = sums_of f n bs is in let c = sum_by-cons (param_count n) b bs in omega (arith, h, c)
 
 -- the last block ends at the last instruction
@@ -50,7 +50,7 @@ among_all f follow some n =
     ap (λ bs. definitions_among (flat_map (block_definitions f) bs) n) (sym all)
     ∙ h
     ∙ ap (λ bs. sum_by (param_count n) bs + insts_to f n (start_of f (length f.blocks))) all
-    ∙ ap (λ is. sum_by (param_count n) f.blocks + sum_by (operand_count n) is) every
+    ∙ ap (λ is. sum_by (param_count n) f.blocks + sum_by (definition_count n) is) every
     ∙ sym (sums_of f n f.blocks f.insts)
 
 -- where blocks follow one another, the function defines each number at most once and below a bound if the listed definitions do

@@ -15,7 +15,7 @@ use Rattle.regalloc2_function.specs.WellFormed.{BlocksFollow, DefinedOnce, IsDef
 use Rattle.regalloc2_function.specs.Reasons.{AreSingle, DefinitionSite, IsDefinitionFault, IsFirstRepeat, IsFirstUndefined, UseSite, definitions_among}
 use Rattle.regalloc2_function.specs.Reasons.{definitions_in, uses_in}
 use Rattle.regalloc2_function.specs.Definitions.{IsUsable, NamesTaken, NamesUnusable, NotesDefinitions, Table, entry_of}
-use Rattle.regalloc2_function.specs.TableLength.{HasRoom}
+use Rattle.regalloc2_function.specs.TableLength.{CoversDefinitions}
 use Rattle.regalloc2_function.proofs.ListingsOfFunction.{defined_listed, listed_defines, listed_uses, once_single, single_once, uses_listed}
 use Rattle.regalloc2_function.proofs.DefsCounted.{among_append}
 use Rattle.regalloc2_function.proofs.TableKeepsDefs.{Keeps, notes_keep, taken_repeats}
@@ -40,7 +40,7 @@ among_some (d ∷ ds) m h =
     ]
 
 -- single definitions are below a bound with room for all that the function defines, if they are the first of its definitions
-narrower : (f : FunctionValue) (n : ℕ) (xs ys : List DefinitionSite) → HasRoom f n → definitions_in f ≡ xs ++ ys → AreSingle f.num_vregs xs → AreSingle n xs
+narrower : (f : FunctionValue) (n : ℕ) (xs ys : List DefinitionSite) → CoversDefinitions f n → definitions_in f ≡ xs ++ ys → AreSingle f.num_vregs xs → AreSingle n xs
 narrower f n xs ys room is h m = (
   (h m).0,
   λ some.
@@ -91,7 +91,7 @@ module _ (f : FunctionValue) (follow : BlocksFollow f) (some : 0 < length f.bloc
       subst (IsDefinitionFault f) (sym h.1) (inr (noted_once few noted, first))
 
 -- an error that names the first definition whose number the table has already is right: it is the first repeat
-pub taken_fault : (f : FunctionValue) (n : ℕ) → n ≤ f.num_vregs → HasRoom f n → (e : RegAllocError) →
+pub taken_fault : (f : FunctionValue) (n : ℕ) → n ≤ f.num_vregs → CoversDefinitions f n → (e : RegAllocError) →
     NamesTaken (replicate n None) (definitions_in f) e → IsDefinitionFault f e
 taken_fault f n few room e h =
     let k = notes_keep n h.2.noted in

@@ -6,7 +6,7 @@ use Rattle.regalloc2_names.specs.Register.{VirtualRegister}
 use Rattle.regalloc2_names.specs.Operand.{OperandValue, is_def}
 use Rattle.regalloc2_names.specs.Point.{before, after}
 use Rattle.regalloc2_function.specs.FunctionValue.{FunctionValue, block_at, inst_at}
-use Rattle.regalloc2_function.specs.TableLength.{HasRoom, IsBelow, IsShort, ReachedByDef, ReachedByParam}
+use Rattle.regalloc2_function.specs.TableLength.{CoversDefinitions, IsBelow, IsShort, ReachedByDef, ReachedByParam}
 use Rattle.regalloc2_function.proofs.ListingsOfFunction.{has_operands}
 
 -- some block's parameter reaches the bound, if it isn't 0
@@ -54,7 +54,7 @@ inst_more f bound i old new (inl low) (inr r) =
 -- a length that no defined number below the count comes up to makes room
 pub room_above : (f : FunctionValue) (m n r : ℕ) → ((k : ℕ) → k < n → k < f.num_vregs → k < r) → m ≤ n →
     ((b : ℕ) → b < length f.blocks → All (λ v. v.number < m) (block_at f b).params)
-    → ((i : ℕ) → i < length f.insts → All (IsBelow n) (inst_at f i).operands) → HasRoom f r
+    → ((i : ℕ) → i < length f.insts → All (IsBelow n) (inst_at f i).operands) → CoversDefinitions f r
 room_above f m n r least le params operands v point (inl p) less =
     let low : v.number < m = All-contains (λ (w : VirtualRegister). w.number < m) (block_at f p.0).params v (params p.0 p.1) p.3 in
     least v.number (omega (arith, low, le)) less

@@ -138,7 +138,7 @@ pub data IsShapeFault (f : FunctionValue) : RegAllocError → Type 0 where
       IsShapeFault f (DisallowedBranchArg (last_of (block_at f b)))
 
 -- what the tests of the entry, of terminators, arguments, definitions and uses test
-pub record IsSound (f : FunctionValue) : Type 0 where
+pub record HasSoundness (f : FunctionValue) : Type 0 where
   pub entry : EntryIsFirst f
   pub end : BlocksEnd f
   pub counted : ArgumentsCounted f

@@ -13,9 +13,9 @@ abbrev pub no_register_text : RegClass → List ℕ
 no_register_text class = codes "the function has a virtual register of the class " ++ (class_name class ++ codes ", which has no register to allocate")
 
 -- what is wrong with the scratch register of a class
-abbrev pub scratch_text : RegClass → Register → List ℕ → List ℕ
-scratch_text class r fault = register_text r ++ (codes ", the scratch register of the class " ++ (class_name class ++ (codes ", " ++ fault)))
+abbrev pub scratch_fault_text : RegClass → Register → List ℕ → List ℕ
+scratch_fault_text class r fault = register_text r ++ (codes ", the scratch register of the class " ++ (class_name class ++ (codes ", " ++ fault)))
 
 -- which other role for a class a fixed stack slot has
-abbrev pub slot_text : RegClass → Register → List ℕ → List ℕ
-slot_text class r role = register_text r ++ (codes ", a fixed stack slot, is " ++ (role ++ (codes " the class " ++ class_name class)))
+abbrev pub slot_role_text : RegClass → Register → List ℕ → List ℕ
+slot_role_text class r role = register_text r ++ (codes ", a fixed stack slot, is " ++ (role ++ (codes " the class " ++ class_name class)))

@@ -6,8 +6,8 @@ use Rattle.regalloc2_function.specs.FunctionValue.{FunctionValue}
 use Rattle.regalloc2_function.specs.WellFormed.{IsDefinedBy}
 
 -- a table of `n` entries has one for each number that the function defines below its count
-abbrev pub HasRoom : FunctionValue → ℕ → Type 0
-HasRoom f n = (v : VirtualRegister) (point : ℕ) → IsDefinedBy f v point → v.number < f.num_vregs → v.number < n
+abbrev pub CoversDefinitions : FunctionValue → ℕ → Type 0
+CoversDefinitions f n = (v : VirtualRegister) (point : ℕ) → IsDefinedBy f v point → v.number < f.num_vregs → v.number < n
 
 -- a table of `n` entries has at most some four for each instruction, or at most as many as some defined number needs
 abbrev pub IsShort : FunctionValue → ℕ → Type 0

@@ -2,7 +2,7 @@
 
 ghost use Rattle.std.specs.Prelude.{◌≡◌};
 ghost use Rattle.std.specs.Fmt.{WritesOnOk};
-ghost use Rattle.regalloc2_function.specs.RoleText.{listed_text, no_register_text, scratch_text, slot_text};
+ghost use Rattle.regalloc2_function.specs.RoleText.{listed_text, no_register_text, scratch_fault_text, slot_role_text};
 
 use regalloc2_names::{PReg, RegClass};
 use std::error::Error;
@@ -54,7 +54,7 @@ fn write_scratch<W: fmt::Write>(
     reg: PReg,
     fault: &'static str,
 ) -> fmt::Result
-    ensures { WritesOnOk W.write_str_gives f.old result (scratch_text class reg fault.now) f.new }
+    ensures { WritesOnOk W.write_str_gives f.old result (scratch_fault_text class reg fault.now) f.new }
 {
     let class = class.name();
     write!(
@@ -70,7 +70,7 @@ fn write_slot<W: fmt::Write>(
     reg: PReg,
     role: &'static str,
 ) -> fmt::Result
-    ensures { WritesOnOk W.write_str_gives f.old result (slot_text class reg role.now) f.new }
+    ensures { WritesOnOk W.write_str_gives f.old result (slot_role_text class reg role.now) f.new }
 {
     let class = class.name();
     write!(f, "{reg}, a fixed stack slot, is {role} the class {class}")

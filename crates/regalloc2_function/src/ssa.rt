@@ -8,11 +8,11 @@ ghost use Rattle.regalloc2_names.specs.Point.{inst_limit};
 ghost use Rattle.regalloc2_function.specs.FunctionValue.{block_at};
 ghost use Rattle.regalloc2_function.specs.Reasons.{param_definition, operand_definition, inst_definitions, block_definitions, definitions_in};
 ghost use Rattle.regalloc2_function.specs.Reasons.{operand_read, inst_reads, argument_use, passed_at, block_uses, uses_in, IsDefinitionFault};
-ghost use Rattle.regalloc2_function.specs.Reasons.{HasShape, IsSound, IsSoundnessFault};
+ghost use Rattle.regalloc2_function.specs.Reasons.{HasShape, HasSoundness, IsSoundnessFault};
 ghost use Rattle.regalloc2_function.specs.WellFormed.{ArgumentsFit, ArgumentsFitAt, BlocksFollow, DefinedOnce, EntryIsFirst, IsFirstToFail};
 ghost use Rattle.regalloc2_function.specs.WellFormed.{SuccessorsAreBlocks, UsesAreDefined, last_of};
 ghost use Rattle.regalloc2_function.specs.Definitions.{entry_of, IsDefinedInTable, IsNumberTaken, IsUsable, NamesTaken, NamesUnusable, NotesDefinitions};
-ghost use Rattle.regalloc2_function.specs.TableLength.{HasRoom};
+ghost use Rattle.regalloc2_function.specs.TableLength.{CoversDefinitions};
 ghost use Rattle.regalloc2_function.specs.Tables.{IsInfoOf};
 
 use super::cfg::CFGInfo;
@@ -263,7 +263,7 @@ fn test_over<F: Function>(defined: &mut [Option<Definition>], f: &F) -> Result<(
     requires some { 0 < length (F.function f.now).blocks }
     requires follow { BlocksFollow (F.function f.now) }
     requires blank { defined.old ≡ replicate (length defined.old) None }
-    requires room { HasRoom (F.function f.now) (length defined.old) }
+    requires room { CoversDefinitions (F.function f.now) (length defined.old) }
     requires few { length defined.old ≤ (F.function f.now).num_vregs }
     ensures once { OnOk result (DefinedOnce (F.function f.now)) }
     ensures uses { OnOk result (UsesAreDefined (F.function f.now)) }
@@ -390,9 +390,9 @@ pub fn test_soundness<A: Allocator + Copy, F: Function>(
     f: &F,
 ) -> Result<(), RegAllocError>
     requires { HasShape (F.function f.now) }
-    ensures sound { OnOk result (IsSound (F.function f.now)) }
+    ensures sound { OnOk result (HasSoundness (F.function f.now)) }
     ensures refused { IfErr result (λ e. (e ≡ RegAllocError.Memory) ⊎ IsSoundnessFault (F.function f.now) e) }
-    ensures accepted { IsSound (F.function f.now) → IfErr result (λ e. e ≡ RegAllocError.Memory) }
+    ensures accepted { HasSoundness (F.function f.now) → IfErr result (λ e. e ≡ RegAllocError.Memory) }
 {
     test_entry(f)?;
     test_ends(f)?;
@@ -408,9 +408,9 @@ pub fn validate_ssa<A: Allocator + Copy, F: Function, B: Allocator>(
     _cfginfo: &CFGInfo<B>,
 ) -> Result<(), RegAllocError>
     requires { IsInfoOf (F.function f.now) _cfginfo.now }
-    ensures sound { OnOk result (IsSound (F.function f.now)) }
+    ensures sound { OnOk result (HasSoundness (F.function f.now)) }
     ensures refused { IfErr result (λ e. (e ≡ RegAllocError.Memory) ⊎ IsSoundnessFault (F.function f.now) e) }
-    ensures accepted { IsSound (F.function f.now) → IfErr result (λ e. e ≡ RegAllocError.Memory) }
+    ensures accepted { HasSoundness (F.function f.now) → IfErr result (λ e. e ≡ RegAllocError.Memory) }
 {
     test_soundness(alloc, f)
 }

@@ -3,7 +3,7 @@
 ghost use Rattle.std.specs.Prelude.{◌≡◌, ◌+◌, ◌<◌, ◌≤◌, ◌⊎◌, ℕ, All, length, true};
 ghost use Rattle.regalloc2_names.specs.Operand.{is_def};
 ghost use Rattle.regalloc2_function.specs.FunctionValue.{block_at, inst_at};
-ghost use Rattle.regalloc2_function.specs.TableLength.{HasRoom, IsBelow, IsShort, ReachedByDef, ReachedByParam};
+ghost use Rattle.regalloc2_function.specs.TableLength.{CoversDefinitions, IsBelow, IsShort, ReachedByDef, ReachedByParam};
 
 use crate::Function;
 use regalloc2_index::{Block, Inst};
@@ -92,7 +92,7 @@ fn above_insts<F: Function>(f: &F, bound: usize) -> usize
 /// instructions, the length is at most one above the greatest number that an operand or a parameter
 /// defines: a great `num_vregs` alone then takes no memory.
 pub fn table_length<F: Function>(f: &F) -> usize
-    ensures room { HasRoom (F.function f.now) result }
+    ensures room { CoversDefinitions (F.function f.now) result }
     ensures few { result ≤ (F.function f.now).num_vregs }
     ensures short { IsShort (F.function f.now) result }
 {

@@ -38,7 +38,7 @@ pub record FreeAt (early late : Place → Bool) (at_early at_late : Bool) (r : P
   pub free_late : at_late ≡ true → late r ≡ false
 
 -- the place is held from now on, if the position is requested
-pub record Holds (before_it after_it : Place → Bool) (asked : Bool) (r : Place) : Type 0 where
+pub record IsHeldAsAsked (before_it after_it : Place → Bool) (asked : Bool) (r : Place) : Type 0 where
   pub keeps : (q : Place) → before_it q ≡ true → after_it q ≡ true
   pub holds : asked ≡ true → after_it r ≡ true
 
@@ -47,8 +47,8 @@ pub record Takes (w : What) (early late early2 late2 : Place → Bool) (r : Plac
   pub at_early : Bool
   pub at_late : Bool
   pub covers : Covers w at_early at_late
-  pub in_early : Holds early early2 at_early r
-  pub in_late : Holds late late2 at_late r
+  pub in_early : IsHeldAsAsked early early2 at_early r
+  pub in_late : IsHeldAsAsked late late2 at_late r
 
 -- a place that is free at positions that cover an operand's is free for the operand
 pub free_of : (w : What) (early late : Place → Bool) (at_early at_late : Bool) (r : Place) → Covers w at_early at_late → FreeAt early late at_early at_late r →

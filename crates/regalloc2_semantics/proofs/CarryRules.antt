@@ -47,10 +47,10 @@ carries_move v m L P R E there moved kept g = λ s c n holds.
     ])
 
 -- a move by way of a place that the vreg does not need
-pub carries_through : (v : VirtualRegister) (from by to : Place) (L : List Item) (P R E : Place → Type 0) → (by ≡ NoPlace → ⊥) → (to ≡ NoPlace → ⊥) →
+pub carries_by_two_moves : (v : VirtualRegister) (from by to : Place) (L : List Item) (P R E : Place → Type 0) → (by ≡ NoPlace → ⊥) → (to ≡ NoPlace → ⊥) →
     (P by → ⊥) → (P to → R from) → ((p : Place) → (p ≡ to → ⊥) → P p → R p) →
     Carries v L P E → Carries v (Move (record { from = from; to = by }) ∷ (Move (record { from = by; to = to }) ∷ L)) R E
-carries_through v from by to L P R E there_by there_to clear moved kept g =
+carries_by_two_moves v from by to L P R E there_by there_to clear moved kept g =
     let M : Place → Type 0 = λ p. ((p ≡ by) × R from) ⊎ ((p ≡ by → ⊥) × R p) in
     carries_move v (record { from = from; to = by }) (Move (record { from = by; to = to }) ∷ L) M R E there_by
     (λ x. elim x [ inl y ↦ y.1 | inr y ↦ absurd (y.0 refl) ])

@@ -15,9 +15,9 @@ use Rattle.regalloc2_semantics.specs.Laws.{FaithfulWhereReadsAgree}
 none_past : (f : FunctionValue) (i : ℕ) → length f.insts ≤ i → length (inst_at f i).operands ≡ 0
 none_past f i le = ap (λ (x : InstValue). length x.operands) (get_or_past f.insts i no_inst le)
 
-met : (f : FunctionValue) (env : MachineValue) (out : OutputValue) → ((i : ℕ) → i < length f.insts → ConstraintsMet f env out i) → (i : ℕ) →
+constraints_met : (f : FunctionValue) (env : MachineValue) (out : OutputValue) → ((i : ℕ) → i < length f.insts → ConstraintsMet f env out i) → (i : ℕ) →
     ConstraintsMet f env out i
-met f env out h i = elim (cases_lt i (length f.insts)) [
+constraints_met f env out h i = elim (cases_lt i (length f.insts)) [
   | inl lt ↦ h i lt
   | inr le ↦ λ k d less. let n : length (inst_at f i).operands ≡ 0 = none_past f i le in absurd (omega arith)
 ]
@@ -31,6 +31,6 @@ moves_before-All P out first i h =
 pub faithful : FaithfulWhereReadsAgree
 faithful f env out constraints moves reads ws p = record {
   reads = reads ws p;
-  constraints = met f env out constraints (end_of f ws).inst;
+  constraints = constraints_met f env out constraints (end_of f ws).inst;
   moves = moves_before-All (λ m. IsStackToStack env m → ⊥) out (block_at f (end_of f ws).block).range.first (end_of f ws).inst moves;
 }

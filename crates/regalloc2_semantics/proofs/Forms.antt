@@ -11,20 +11,20 @@ place_of_register (InRegister q) r e = let same : q ≡ r = cc in ap InRegister 
 place_of_register (InSlot n) r e = absurd cc
 
 -- tests of whether there is a place
-pub nothing : (p : Place) → is_no_place p ≡ true → p ≡ NoPlace
-nothing NoPlace h = refl
-nothing (InRegister r) h = absurd cc
-nothing (InSlot n) h = absurd cc
+pub NoPlace-from_test : (p : Place) → is_no_place p ≡ true → p ≡ NoPlace
+NoPlace-from_test NoPlace h = refl
+NoPlace-from_test (InRegister r) h = absurd cc
+NoPlace-from_test (InSlot n) h = absurd cc
 
 -- if a test holds of every place but none, and fails, the place is none
-pub nothing_there : (p : Place) (b : Bool) → (is_no_place p ≡ false → IsTrue b) → b ≡ false → p ≡ NoPlace
-nothing_there NoPlace b h e = refl
-nothing_there (InRegister r) b h e = let t : b ≡ true = h refl in absurd cc
-nothing_there (InSlot n) b h e = let t : b ≡ true = h refl in absurd cc
+pub NoPlace-from_failed_test : (p : Place) (b : Bool) → (is_no_place p ≡ false → IsTrue b) → b ≡ false → p ≡ NoPlace
+NoPlace-from_failed_test NoPlace b h e = refl
+NoPlace-from_failed_test (InRegister r) b h e = let t : b ≡ true = h refl in absurd cc
+NoPlace-from_failed_test (InSlot n) b h e = let t : b ≡ true = h refl in absurd cc
 
 -- no place is both none and, by the test, not none
-pub something_there : (p : Place) → p ≡ NoPlace → is_no_place p ≡ false → ⊥
-something_there p e h = let t : is_no_place p ≡ true = ap is_no_place e in cc
+pub NoPlace-not_false : (p : Place) → p ≡ NoPlace → is_no_place p ≡ false → ⊥
+NoPlace-not_false p e h = let t : is_no_place p ≡ true = ap is_no_place e in cc
 
 -- two names of one register's place
 pub same_register : (q r : Register) → InRegister q ≡ InRegister r → q ≡ r

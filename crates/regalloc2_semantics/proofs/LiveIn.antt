@@ -12,7 +12,7 @@ use Rattle.regalloc2_semantics.specs.Carry.{Undefined}
 use Rattle.regalloc2_semantics.specs.Blocks.{IsUnwritten, HasSoundBlocks, target_at}
 use Rattle.regalloc2_semantics.specs.Live.{IsLive, read_there, passed_there, later}
 use Rattle.regalloc2_semantics.specs.Live.{HasEntered, LiveStandWhereBlocksCarryOn}
-use Rattle.regalloc2_semantics.proofs.SingleDef.{DefinesAt, reads_defined}
+use Rattle.regalloc2_semantics.proofs.SingleDef.{IsDefOperand, reads_defined}
 use Rattle.regalloc2_semantics.proofs.Order.{ends_within, reads_later, passes_defined_earlier}
 use Rattle.regalloc2_semantics.proofs.Soundness.{well_formed_are_sound}
 use Rattle.regalloc2_semantics.proofs.Paths.{Live, UsedSomewhere, live_somewhere, block_within}
@@ -24,7 +24,7 @@ module _ (env : MachineValue) (f : FunctionValue) (ok : IsWellFormed env f) (v :
   FreeUpTo b i = (j : ℕ) → (block_at f b).range.first ≤ j → j < i → Undefined (inst_at f j).operands v
 
   -- nor do the block's other instructions, if each definition of v is before i
-  all_free : (b i : ℕ) → b < length f.blocks → FreeUpTo b i → ((j k : ℕ) → DefinesAt f v.number j k → j < i) → IsUnwritten f b v
+  all_free : (b i : ℕ) → b < length f.blocks → FreeUpTo b i → ((j k : ℕ) → IsDefOperand f v.number j k → j < i) → IsUnwritten f b v
   all_free b i lb free sooner j ge less k lt def is = elim (cases_lt j i) [
     | inl early ↦ free j ge early k lt def is
     | inr late ↦ (
@@ -40,7 +40,7 @@ module _ (env : MachineValue) (f : FunctionValue) (ok : IsWellFormed env f) (v :
 
   -- what is passed, and not defined there, is defined earlier
   passed_later : (b last k : ℕ) → b < length f.blocks → last + 1 ≡ (block_at f b).range.end → k < length (block_at f b).succs →
-      Contains (slice_index_or (block_at f b).arguments k []) v → Undefined (inst_at f last).operands v → (i j : ℕ) → DefinesAt f v.number i j → i < last
+      Contains (slice_index_or (block_at f b).arguments k []) v → Undefined (inst_at f last).operands v → (i j : ℕ) → IsDefOperand f v.number i j → i < last
   passed_later b last k lb end edge has here i j d =
       let same : last ≡ last_of (block_at f b) = omega (arith, end) in
       let other : Undefined (inst_at f (last_of (block_at f b))).operands v = subst (λ (m : ℕ). Undefined (inst_at f m).operands v) same here in

@@ -8,7 +8,7 @@ use Rattle.regalloc2_semantics.specs.Listing.Item.{Move}
 use Rattle.regalloc2_semantics.specs.Instruction.{Claims}
 use Rattle.regalloc2_semantics.specs.OperandsPlaced.{What, Need, located, in_slot, made, Pending, still, slotted, used, Progress}
 use Rattle.regalloc2_semantics.specs.OperandsPlaced.{GoesToSlot, IsMoved}
-use Rattle.regalloc2_semantics.proofs.CarryRules.{carries_move, carries_weaken, carries_through}
+use Rattle.regalloc2_semantics.proofs.CarryRules.{carries_move, carries_weaken, carries_by_two_moves}
 
 -- a listing carries more, and less of it is needed
 pub claims_weaken : (IsTracked : VirtualRegister → Type 0) (E : VirtualRegister → Place → Type 0) (L : List Item) (N M : ℕ → Place → Type 0) →
@@ -24,12 +24,12 @@ claims_move IsTracked E L N M from to there moved kept g v known =
     carries_move v (record { from = from; to = to }) L (N v.number) (M v.number) (E v) there (moved v.number) (kept v.number) (g v known)
 
 -- a move by way of a place that no vreg needs
-pub claims_through : (IsTracked : VirtualRegister → Type 0) (E : VirtualRegister → Place → Type 0) (L : List Item) (N M : ℕ → Place → Type 0) (from by to : Place) →
+pub claims_by_two_moves : (IsTracked : VirtualRegister → Type 0) (E : VirtualRegister → Place → Type 0) (L : List Item) (N M : ℕ → Place → Type 0) (from by to : Place) →
     by ≢ NoPlace → to ≢ NoPlace → ((n : ℕ) → N n by → ⊥) →
     ((n : ℕ) → N n to → M n from) → ((n : ℕ) (p : Place) → (p ≡ to → ⊥) → N n p → M n p) → Claims IsTracked L N E →
     Claims IsTracked (Move (record { from = from; to = by }) ∷ (Move (record { from = by; to = to }) ∷ L)) M E
-claims_through IsTracked E L N M from by to there_by there_to clear moved kept g v known =
-    carries_through v from by to L (N v.number) (M v.number) (E v) there_by there_to (clear v.number) (moved v.number) (kept v.number) (g v known)
+claims_by_two_moves IsTracked E L N M from by to there_by there_to clear moved kept g v known =
+    carries_by_two_moves v from by to L (N v.number) (M v.number) (E v) there_by there_to (clear v.number) (moved v.number) (kept v.number) (g v known)
 
 module _ (IsTracked : VirtualRegister → Type 0) (E : VirtualRegister → Place → Type 0) (L : List Item) where
   -- the reload of w, which is evicted
@@ -95,11 +95,11 @@ module _ (what : ℕ → What) (p : Progress) (T S : ℕ → Option Place) (k : 
       moved_there
 
   -- the need moves back over two moves, through an intermediate place that nothing needs
-  pub pend_through : (by : Place) (IsTracked : VirtualRegister → Type 0) (E : VirtualRegister → Place → Type 0) (L : List Item)
+  pub pending_by_two_moves : (by : Place) (IsTracked : VirtualRegister → Type 0) (E : VirtualRegister → Place → Type 0) (L : List Item)
       → by ≢ NoPlace → ((v : ℕ) → Pending what p.here p.done p.out T S k v by → ⊥)
       → Claims IsTracked L (Pending what p.here p.done p.out T S k) E → Claims IsTracked
       (Move (record { from = c; to = by }) ∷ (Move (record { from = by; to = p.here k }) ∷ L)) (Pending what p.here p.done p.out T S (k + 1)) E
-  pend_through by IsTracked E L real clear = claims_through IsTracked E L (Pending what p.here p.done p.out T S k) (Pending what p.here p.done p.out T S (k + 1)) c by
+  pending_by_two_moves by IsTracked E L real clear = claims_by_two_moves IsTracked E L (Pending what p.here p.done p.out T S k) (Pending what p.here p.done p.out T S (k + 1)) c by
       (p.here k) real
       h.there clear moved_here moved_there
 

@@ -15,14 +15,14 @@ use Rattle.regalloc2_semantics.specs.Carry.{CarriesFrom, Carries}
 use Rattle.regalloc2_semantics.proofs.CarryRules.{carries_append}
 
 -- no operand reads v
-abbrev pub Unread : List OperandValue → VirtualRegister → Type 0
-Unread operands v = (j : ℕ) → j < length operands → is_reading (op_at operands j) ≡ true → (op_at operands j).vreg ≡ v → ⊥
+abbrev pub ReadsOthersOnly : List OperandValue → VirtualRegister → Type 0
+ReadsOthersOnly operands v = (j : ℕ) → j < length operands → is_reading (op_at operands j) ≡ true → (op_at operands j).vreg ≡ v → ⊥
 
 -- no instruction of a listing does
 unfoldable pub Silent : VirtualRegister → List Item → Type 0
 Silent v [] = Unit {0}
 Silent v (Move m ∷ items) = Silent v items
-Silent v (Exec operands places clobbers ∷ items) = Unread operands v × Silent v items
+Silent v (Exec operands places clobbers ∷ items) = ReadsOthersOnly operands v × Silent v items
 
 -- moves in front of a listing that doesn't read v make one that doesn't read it either
 pub silent_moves : (v : VirtualRegister) (ms : List MoveValue) (L : List Item) → Silent v L → Silent v (with_moves ms L)
@@ -32,7 +32,7 @@ silent_moves v (m ∷ ms) L h = silent_moves v ms L h
 
 -- a stretch of a block none of whose instructions reads v
 pub silent_walked : (v : VirtualRegister) (insts : ℕ → InstValue) (at : ℕ → List MoveValue) (places : ℕ → List Place) (i n : ℕ) →
-    ((j : ℕ) → i ≤ j → j < i + n → Unread (insts j).operands v) →
+    ((j : ℕ) → i ≤ j → j < i + n → ReadsOthersOnly (insts j).operands v) →
     Silent v (walked insts at places i n)
 unfolding Silent walked
 silent_walked v insts at places i zero h = tt

@@ -9,7 +9,7 @@ use Rattle.regalloc2_function.specs.FunctionValue.{FunctionValue, block_at, inst
 use Rattle.regalloc2_function.specs.WellFormed.{BlocksFollow, DefinedOnce, IsDefinedBy, UsesAreDefined, last_of}
 use Rattle.regalloc2_function.specs.FunctionValue.{op_at}
 use Rattle.regalloc2_semantics.specs.Carry.{Undefined}
-use Rattle.regalloc2_semantics.proofs.SingleDef.{DefinesAt, Made, MadeBefore, by_earlier, is_made}
+use Rattle.regalloc2_semantics.proofs.SingleDef.{IsDefOperand, Made, MadeBefore, by_earlier, is_made}
 use Rattle.regalloc2_semantics.proofs.SingleDef.{made_before, made_behind, one_made, one_operand, not_both, ReadsDefined}
 use Rattle.regalloc2_semantics.proofs.SingleDef.Made.{by_operand}
 
@@ -52,21 +52,21 @@ module _ (f : FunctionValue) (follow : BlocksFollow f) where
   ]
 
 -- what is defined before an instruction is defined at an earlier one
-earlier_made : (f : FunctionValue) → DefinedOnce f → (n i k j : ℕ) → DefinesAt f n i k → (v : VirtualRegister) → v.number ≡ n → MadeBefore f v j → i < j
+earlier_made : (f : FunctionValue) → DefinedOnce f → (n i k j : ℕ) → IsDefOperand f n i k → (v : VirtualRegister) → v.number ≡ n → MadeBefore f v j → i < j
 earlier_made f once n i k j d v same (by_earlier m l less y e) =
-    let at = one_operand f once v.number i m k l (subst (λ x. DefinesAt f x i k) (sym same) d) y in omega (arith, less, at.0)
-earlier_made f once n i k j d v same (MadeBefore.by_param b l y e) = absurd (not_both f once v.number i k b l (subst (λ x. DefinesAt f x i k) (sym same) d) y)
+    let at = one_operand f once v.number i m k l (subst (λ x. IsDefOperand f x i k) (sym same) d) y in omega (arith, less, at.0)
+earlier_made f once n i k j d v same (MadeBefore.by_param b l y e) = absurd (not_both f once v.number i k b l (subst (λ x. IsDefOperand f x i k) (sym same) d) y)
 
 module _ (f : FunctionValue) (once : DefinedOnce f) where
   -- what reads a number comes after what defines it
-  pub reads_later : (n i k j l : ℕ) → DefinesAt f n i k → j < length f.insts → ReadsDefined f j → l < length (inst_at f j).operands →
+  pub reads_later : (n i k j l : ℕ) → IsDefOperand f n i k → j < length f.insts → ReadsDefined f j → l < length (inst_at f j).operands →
       is_reading (op_at (inst_at f j).operands l) ≡ true
       → (op_at (inst_at f j).operands l).vreg.number ≡ n → i < j
   reads_later n i k j l d lt reads less read same = earlier_made f once n i k j d (op_at (inst_at f j).operands l).vreg same
       (made_before f (op_at (inst_at f j).operands l).vreg j lt (reads l less read))
 
   -- a branch that passes a vreg isn't earlier than the instruction that defines it
-  pub passes_later : (n i k b e : ℕ) (v : VirtualRegister) → DefinesAt f n i k → BlocksFollow f → UsesAreDefined f → b < length f.blocks →
+  pub passes_later : (n i k b e : ℕ) (v : VirtualRegister) → IsDefOperand f n i k → BlocksFollow f → UsesAreDefined f → b < length f.blocks →
       e < length (block_at f b).succs
       → Contains (slice_index_or (block_at f b).arguments e []) v → v.number ≡ n → i ≤ last_of (block_at f b)
   passes_later n i k b e v d follow uses lt edge has same =
@@ -88,7 +88,7 @@ module _ (f : FunctionValue) (once : DefinedOnce f) where
       is_made f v (last + 1) (made_behind f v last (omega (arith, within, some)) by)
 
   -- what is passed, and not defined by the branch that passes it, is defined earlier
-  pub passes_defined_earlier : (n i k b e : ℕ) (v : VirtualRegister) → DefinesAt f n i k → BlocksFollow f → UsesAreDefined f → b < length f.blocks →
+  pub passes_defined_earlier : (n i k b e : ℕ) (v : VirtualRegister) → IsDefOperand f n i k → BlocksFollow f → UsesAreDefined f → b < length f.blocks →
       e < length (block_at f b).succs → Contains (slice_index_or (block_at f b).arguments e []) v → v.number ≡ n →
       Undefined (inst_at f (last_of (block_at f b))).operands v → i < last_of (block_at f b)
   passes_defined_earlier n i k b e v d follow uses lt edge has same other =
@@ -97,9 +97,9 @@ module _ (f : FunctionValue) (once : DefinedOnce f) where
         | inl less ↦ less
         | inr late ↦ (
             let here : i ≡ last_of (block_at f b) = omega (arith, early, late) in
-            let x : DefinesAt f n (last_of (block_at f b)) k = subst (λ (m : ℕ). DefinesAt f n m k) here d in
+            let x : IsDefOperand f n (last_of (block_at f b)) k = subst (λ (m : ℕ). IsDefOperand f n m k) here d in
             let w : VirtualRegister = (op_at (inst_at f (last_of (block_at f b))).operands k).vreg in
-            let y : DefinesAt f w.number (last_of (block_at f b)) k = subst (λ (m : ℕ). DefinesAt f m (last_of (block_at f b)) k) (sym x.number) x in
+            let y : IsDefOperand f w.number (last_of (block_at f b)) k = subst (λ (m : ℕ). IsDefOperand f m (last_of (block_at f b)) k) (sym x.number) x in
             let made : Made f w = by_operand (last_of (block_at f b)) k y refl in
             absurd (other k x.operand x.definition (one_made f once w v made (passed_made b e v follow uses lt edge has) (x.number ∙ sym same))))
       ]

@@ -72,15 +72,15 @@ record Entered (f : FunctionValue) (b : ℕ) (ws : List Way) : Type 0 where
   first_is : (end_of f ws).inst ≡ (block_at f b).range.first
 
 -- a path at an instruction of the block, on which what the instructions before it do not write is as at the beginning
-record Through (f : FunctionValue) (b i : ℕ) (ws vs : List Way) : Type 0 where
+record PathTo (f : FunctionValue) (b i : ℕ) (ws vs : List Way) : Type 0 where
   path : IsPath f vs
   block_is : (end_of f vs).block ≡ b
   inst_is : (end_of f vs).inst ≡ i
   same : (v : VirtualRegister) → IsUnwritten f b v → source_before f vs v ≡ source_before f ws v
 
-path_through : (f : FunctionValue) (b i : ℕ) (ws : List Way) → Entered f b ws → (block_at f b).range.first ≤ i → i < (block_at f b).range.end →
-    Through f b i ws (onwards (i - (block_at f b).range.first) ws)
-path_through f b i ws e le lt =
+path_to_inst : (f : FunctionValue) (b i : ℕ) (ws : List Way) → Entered f b ws → (block_at f b).range.first ≤ i → i < (block_at f b).range.end →
+    PathTo f b i ws (onwards (i - (block_at f b).range.first) ws)
+path_to_inst f b i ws e le lt =
     let n : ℕ = i - (block_at f b).range.first in
     let first : (end_of f ws).inst ≡ (block_at f b).range.first = e.first_is in
     let last : (block_at f (end_of f ws).block).range.end ≡ (block_at f b).range.end = ap (λ c. (block_at f c).range.end) e.block_is in
@@ -141,9 +141,9 @@ module _ (f : FunctionValue) (ok : HasSoundBlocks f) (written : IsWrittenFirst f
 
   -- a path through the whole block, at its last instruction
   at_last : (b : ℕ) (ws : List Way) → b < length f.blocks → Entered f b ws →
-      Through f b (last_inst_of f b) ws (onwards (last_inst_of f b - (block_at f b).range.first) ws)
+      PathTo f b (last_inst_of f b) ws (onwards (last_inst_of f b - (block_at f b).range.first) ws)
   at_last b ws block e = let h : (block_at f b).range.first < (block_at f b).range.end = ok.nonempty b block in
-      path_through f b (last_inst_of f b) ws e (omega arith) (omega arith)
+      path_to_inst f b (last_inst_of f b) ws e (omega arith) (omega arith)
 
   -- over an edge into a block that does not take v
   entered_on : (b k : ℕ) (vs : List Way) → b < length f.blocks → HasEdge f b k → IsPath f vs → (end_of f vs).block ≡ b → (end_of f vs).inst ≡ last_inst_of f b →
@@ -163,7 +163,7 @@ module _ (f : FunctionValue) (ok : HasSoundBlocks f) (written : IsWrittenFirst f
   -- a live vreg has a value
   live_written : (v : VirtualRegister) (b : ℕ) (ws : List Way) → b < length f.blocks → Entered f b ws → Live f v b → source_before f ws v ≡ None → ⊥
   live_written v b ws block e (read u (i, j, le, lt, j_lt, reads, is)) none =
-      let t = path_through f b i ws e le lt in
+      let t = path_to_inst f b i ws e le lt in
       let vs : List Way = onwards (i - (block_at f b).range.first) ws in
       let before : source_before f vs v ≡ None = t.same v u ∙ none in
       read_written b i j vs v t.path t.inst_is j_lt reads is before (still vs v b i t.inst_is le lt u ∙ before)

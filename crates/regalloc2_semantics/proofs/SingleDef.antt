@@ -6,7 +6,7 @@ use Rattle.std.proofs.lemmas.Bool.{cases_eq}
 use Rattle.std.proofs.lemmas.List.Sums.{sum_by-cons}
 use Rattle.std.proofs.lemmas.List.{get_or_default}
 use Rattle.regalloc2_names.specs.declared.RegClass.TheVariants.{Int}
-use Rattle.regalloc2_names.specs.Register.{VirtualRegister}
+use Rattle.regalloc2_names.specs.Register.{VirtualRegister, no_vreg}
 use Rattle.regalloc2_names.specs.Operand.{OperandValue, is_def, is_reading}
 use Rattle.regalloc2_names.specs.Point.{before, after}
 use Rattle.regalloc2_function.specs.FunctionValue.{FunctionValue, BlockValue, InstValue, block_at, inst_at, no_block, no_inst, no_operand}
@@ -60,15 +60,11 @@ one_passes {X} {Y} p g xs x₀ y₀ i j k l most li lj lk ll a b =
     ]
 
 -- an operand defines the number
-pub record DefinesAt (f : FunctionValue) (n i k : ℕ) : Type 0 where
+pub record IsDefOperand (f : FunctionValue) (n i k : ℕ) : Type 0 where
   pub inst : i < length f.insts
   pub operand : k < length (inst_at f i).operands
   pub definition : is_def (op_at (inst_at f i).operands k).kind ≡ true
   pub number : (op_at (inst_at f i).operands k).vreg.number ≡ n
-
--- the vreg read past the end of a list of parameters: number 0, class Int
-abbrev pub no_vreg : VirtualRegister
-no_vreg = record { number = 0; class = Int }
 
 -- a parameter of a block has the number
 pub record TakesAt (f : FunctionValue) (n b k : ℕ) : Type 0 where
@@ -81,7 +77,7 @@ defines_it o n d e = rw (d, eq-eqb o.vreg.number n e) refl
 
 module _ (f : FunctionValue) (once : DefinedOnce f) where
   -- one operand alone defines a number
-  pub one_operand : (n i j k l : ℕ) → DefinesAt f n i k → DefinesAt f n j l → (i ≡ j) × (k ≡ l)
+  pub one_operand : (n i j k l : ℕ) → IsDefOperand f n i k → IsDefOperand f n j l → (i ≡ j) × (k ≡ l)
   unfolding in_blocks in_insts
   one_operand n i j k l a b =
       let z = at_most_one f once n in
@@ -97,7 +93,7 @@ module _ (f : FunctionValue) (once : DefinedOnce f) where
       (eq-eqb (slice_index_or (block_at f b).params k no_vreg).number n x.number) (eq-eqb (slice_index_or (block_at f c).params l no_vreg).number n y.number)
 
   -- no operand defines the number of a parameter
-  pub not_both : (n i k b l : ℕ) → DefinesAt f n i k → TakesAt f n b l → ⊥
+  pub not_both : (n i k b l : ℕ) → IsDefOperand f n i k → TakesAt f n b l → ⊥
   unfolding in_blocks in_insts
   not_both n i k b l x y =
       let z = at_most_one f once n in
@@ -109,7 +105,7 @@ module _ (f : FunctionValue) (once : DefinedOnce f) where
       omega (arith, z, o, p, os, ps)
 
   -- a number that is defined is one of the function's
-  pub defined_small : (n i k : ℕ) → DefinesAt f n i k → n < f.num_vregs
+  pub defined_small : (n i k : ℕ) → IsDefOperand f n i k → n < f.num_vregs
   unfolding in_blocks in_insts
   defined_small n i k x =
       let o = count_at (defines_number n) (inst_at f i).operands k no_operand x.operand (defines_it (op_at (inst_at f i).operands k) n x.definition x.number) in
@@ -127,12 +123,12 @@ module _ (f : FunctionValue) (once : DefinedOnce f) where
 
 -- what makes a vreg
 pub data Made (f : FunctionValue) (v : VirtualRegister) : Type 0 where
-  by_operand : (i k : ℕ) → DefinesAt f v.number i k → (op_at (inst_at f i).operands k).vreg ≡ v → Made f v
+  by_operand : (i k : ℕ) → IsDefOperand f v.number i k → (op_at (inst_at f i).operands k).vreg ≡ v → Made f v
   by_param : (b k : ℕ) → TakesAt f v.number b k → slice_index_or (block_at f b).params k no_vreg ≡ v → Made f v
 
 -- a vreg that is defined before an instruction is made by a parameter, or by an earlier instruction
 pub data MadeBefore (f : FunctionValue) (v : VirtualRegister) (i : ℕ) : Type 0 where
-  by_earlier : (j k : ℕ) → j < i → DefinesAt f v.number j k → (op_at (inst_at f j).operands k).vreg ≡ v → MadeBefore f v i
+  by_earlier : (j k : ℕ) → j < i → IsDefOperand f v.number j k → (op_at (inst_at f j).operands k).vreg ≡ v → MadeBefore f v i
   by_param : (b k : ℕ) → TakesAt f v.number b k → slice_index_or (block_at f b).params k no_vreg ≡ v → MadeBefore f v i
 
 -- a vreg defined by a point has a block parameter or an operand of an earlier instruction that defines it
@@ -163,7 +159,7 @@ made_behind f v i lt h = made_by f v (i + 1) (after i) (omega (arith, lt)) (omeg
 -- a number has one vreg that is made
 pub one_made : (f : FunctionValue) → DefinedOnce f → (v w : VirtualRegister) → Made f v → Made f w → v.number ≡ w.number → v ≡ w
 one_made f once v w (by_operand i k x a) (by_operand j l y b) e =
-    let at = one_operand f once v.number i j k l x (subst (λ n. DefinesAt f n j l) (sym e) y) in
+    let at = one_operand f once v.number i j k l x (subst (λ n. IsDefOperand f n j l) (sym e) y) in
     sym a ∙ ap (λ (m : ℕ). (op_at (inst_at f m).operands k).vreg) at.0 ∙ ap (λ (m : ℕ). (op_at (inst_at f j).operands m).vreg) at.1 ∙ b
 one_made f once v w (by_operand i k x a) (Made.by_param b l y c) e = absurd (not_both f once v.number i k b l x (subst (λ n. TakesAt f n b l) (sym e) y))
 one_made f once v w (Made.by_param b l y c) (by_operand i k x a) e = absurd (not_both f once w.number i k b l x (subst (λ n. TakesAt f n b l) e y))
@@ -192,18 +188,18 @@ pub once_at : (f : FunctionValue) → DefinedOnce f → (i : ℕ) → i < length
 once_at f once i lt reads =
     let ops : List OperandValue = (inst_at f i).operands in
     let at : (j n : ℕ) → Counts ops j → is_def (op_at ops j).kind ≡ true → (op_at ops j).vreg.number ≡ n →
-    DefinesAt f n i j = λ j n c d e. record { inst = lt; operand = c.0; definition = d; number = e } in
+    IsDefOperand f n i j = λ j n c d e. record { inst = lt; operand = c.0; definition = d; number = e } in
     record {
       one = λ j k a b d e same. (one_operand f once (op_at ops j).vreg.number i i j k (at j (op_at ops j).vreg.number a d refl)
           (at k (op_at ops j).vreg.number b e (sym same))).1;
       unread = λ j k a b d e same.
           let n : ℕ = (op_at ops k).vreg.number in
-          let x : DefinesAt f n i j = at j n a d same in
+          let x : IsDefOperand f n i j = at j n a d same in
           let read : is_reading (op_at ops k) ≡ true = elim b.1 [ inl def ↦ absurd (let y : true ≡ false = sym def ∙ e in cc) | inr r ↦ r ] in
           by_maker n j x (made_before f (op_at ops k).vreg i lt (reads k b.0 read));
     }
   where
-    by_maker : (n j : ℕ) → {v : VirtualRegister} → DefinesAt f v.number i j → MadeBefore f v i → ⊥
+    by_maker : (n j : ℕ) → {v : VirtualRegister} → IsDefOperand f v.number i j → MadeBefore f v i → ⊥
     by_maker n j x (by_earlier l m less y e) = let same = one_operand f once _ i l j m x y in omega (arith, less, same.0)
     by_maker n j x (MadeBefore.by_param b l y e) = not_both f once _ i j b l x y
 

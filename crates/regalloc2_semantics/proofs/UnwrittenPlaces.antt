@@ -83,8 +83,8 @@ unwritten_walked v insts at places i (suc n) h =
     ∙ rw (defines_none (insts i).operands v (h i (omega arith) (omega arith)), writes_moves v (at (after i)) (walked insts at places (i + 1) n), rest) refl
 
 -- an operand reads v at the place
-abbrev pub IsReadAt : List OperandValue → List Place → VirtualRegister → Place → Type 0
-IsReadAt operands places v p = (k : ℕ) × (k < length operands) × (is_reading (op_at operands k) ≡ true) × ((op_at operands k).vreg ≡ v)
+abbrev pub IsReadInPlace : List OperandValue → List Place → VirtualRegister → Place → Type 0
+IsReadInPlace operands places v p = (k : ℕ) × (k < length operands) × (is_reading (op_at operands k) ≡ true) × ((op_at operands k).vreg ≡ v)
     × (place_at places k ≡ p)
 
 -- An instruction and its moves leave in the place what v has: nothing else is written to it. Where a move before the instruction writes it,
@@ -93,7 +93,7 @@ pub record Keeps (operands : List OperandValue) (places : List Place) (clobbers 
     (p : Place) : Type 0 where
   pub spared : Spares operands places clobbers p
   pub no_move_later : NoMoveTo p later
-  pub before_it : NoMoveTo p sooner ⊎ IsReadAt operands places v p
+  pub before_it : NoMoveTo p sooner ⊎ IsReadInPlace operands places v p
 
 module _ (v : VirtualRegister) (ops : List OperandValue) (places : List Place) (clobbers : PRegSet) (sooner later : List MoveValue)
     (undefined : Undefined ops v) where

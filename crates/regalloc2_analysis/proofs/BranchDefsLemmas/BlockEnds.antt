@@ -7,7 +7,7 @@ use Rattle.regalloc2_function.specs.WellFormed.{BlocksFollow, last_of}
 use Rattle.std.proofs.lemmas.List.{get_or_read}
 use Rattle.regalloc2_names.specs.Operand.{OperandValue}
 use Rattle.regalloc2_function.specs.FunctionValue.{op_at}
-use Rattle.regalloc2_semantics.proofs.SingleDef.{DefinesAt}
+use Rattle.regalloc2_semantics.proofs.SingleDef.{IsDefOperand}
 use Rattle.regalloc2_semantics.proofs.Order.{ends_within}
 use Rattle.regalloc2_analysis.specs.BranchDefs.BranchDefs.{DefinesNumber, EndsInDefinitions, HasDefinitions, IsSite, MayHaveTables}
 
@@ -63,7 +63,7 @@ goes_on_by_branch f w b k lt edge = elim (w.1.end b lt).0
     [ inl x ↦ x.0 | inr r ↦ (let none : length (block_at f b).succs ≡ 0 = r.2 in absurd (omega (arith, none, edge))) ]
 
 -- the operand of a branch, as one that defines a number
-pub site_defines : (f : FunctionValue) (n i k : ℕ) → IsSite f n i k → DefinesAt f n i k
+pub site_defines : (f : FunctionValue) (n i k : ℕ) → IsSite f n i k → IsDefOperand f n i k
 site_defines f n i k s = record { inst = s.inst; operand = s.defines.operand; definition = s.defines.definition; number = s.defines.number }
 
 -- where no block ends in definitions no branch defines

@@ -16,7 +16,7 @@ use Rattle.regalloc2_function.specs.FunctionValue.{FunctionValue, block_at, inst
 use Rattle.regalloc2_function.specs.WellFormed.{last_of}
 use Rattle.regalloc2_function.specs.FunctionValue.{op_at}
 use Rattle.regalloc2_semantics.specs.Blocks.{target_at}
-use Rattle.regalloc2_semantics.proofs.SingleDef.{DefinesAt, one_made}
+use Rattle.regalloc2_semantics.proofs.SingleDef.{IsDefOperand, one_made}
 use Rattle.regalloc2_semantics.proofs.SingleDef.Made.{by_operand}
 use Rattle.regalloc2_analysis.specs.BranchDefs.BranchDefs.{AreStoredOperands, EndsInDefinitions, IsEdgeInto, IsHeld, IsUsedElsewhere, MayHaveTables}
 use Rattle.regalloc2_analysis.specs.BranchDefs.BranchDefs.{fixed_definition}
@@ -30,12 +30,12 @@ use Rattle.regalloc2_analysis.proofs.BranchDefsLemmas.UseNotes.{used_made}
 abbrev pub IsHeldAmong : List OperandValue → ℕ → Register → Type 0
 IsHeldAmong operands count r = (k : ℕ) × (k < count) × (fixed_definition (op_at operands k) ≡ Some r)
 
-abbrev pub Holds : List OperandValue → ℕ → PRegSet → Type 0
-Holds operands count held = (r : Register) → (has_register held r ≡ true) ↔ IsHeldAmong operands count r
+abbrev pub HasHeldAmong : List OperandValue → ℕ → PRegSet → Type 0
+HasHeldAmong operands count held = (r : Register) → (has_register held r ≡ true) ↔ IsHeldAmong operands count r
 
 -- one fixed definition more
 pub holds_more : (ops : List OperandValue) (k : ℕ) (p : Register) (old new : PRegSet) → fixed_definition (op_at ops k) ≡ Some p →
-    ((r : Register) → has_register new r ≡ is_register p r || has_register old r) → Holds ops k old → Holds ops (k + 1) new
+    ((r : Register) → has_register new r ≡ is_register p r || has_register old r) → HasHeldAmong ops k old → HasHeldAmong ops (k + 1) new
 holds_more ops k p old new is now h r = (
   λ t. elim (or_cases (is_register p r) (has_register old r) (sym (now r) ∙ t)) [
     | inl mine ↦ (k, omega arith, is ∙ ap Some (is_register-true p r mine))
@@ -52,7 +52,7 @@ holds_more ops k p old new is now h r = (
 )
 
 -- one operand more that is none
-pub holds_same : (ops : List OperandValue) (k : ℕ) (held : PRegSet) → fixed_definition (op_at ops k) ≡ None → Holds ops k held → Holds ops (k + 1) held
+pub holds_same : (ops : List OperandValue) (k : ℕ) (held : PRegSet) → fixed_definition (op_at ops k) ≡ None → HasHeldAmong ops k held → HasHeldAmong ops (k + 1) held
 holds_same ops k held is h r = (
   λ t. let x = (h r).0 t in let lt = x.1 in (x.0, omega (arith, lt), x.2),
   λ x. elim (cases_eq x.0 k) [
@@ -162,7 +162,7 @@ lists_stored f w used are i lt old new h =
       members = λ k. (
         λ c. let y = (h.members k).0 c in
             let u = are.marked (op_at ops k).vreg.number y.1.1 in
-            let d : DefinesAt f (op_at ops k).vreg.number i k = record {
+            let d : IsDefOperand f (op_at ops k).vreg.number i k = record {
               inst = lt;
               operand = y.0;
               definition = fixed_defines (op_at ops k) y.1.0;

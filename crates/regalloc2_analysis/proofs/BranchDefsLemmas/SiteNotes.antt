@@ -8,7 +8,7 @@ use Rattle.regalloc2_index.proofs.Numbers.{below_or_last}
 use Rattle.regalloc2_names.specs.Operand.{OperandValue, is_def}
 use Rattle.regalloc2_function.specs.FunctionValue.{FunctionValue, block_at, inst_at, op_at}
 use Rattle.regalloc2_function.specs.WellFormed.{last_of}
-use Rattle.regalloc2_function.specs.TableLength.{HasRoom}
+use Rattle.regalloc2_function.specs.TableLength.{CoversDefinitions}
 use Rattle.regalloc2_analysis.specs.BranchDefs.BranchDefs.{DefinesNumber, IsSite, MayHaveTables}
 use Rattle.regalloc2_analysis.specs.BranchDefs.Notes.{NotesBranch, NotesSites}
 use Rattle.regalloc2_analysis.specs.BranchDefs.Tables.{AreDefSites}
@@ -101,14 +101,14 @@ operand_noted ops branch k o first old new lt is now h =
 
 -- what the branches of the first blocks define is noted
 pub record SitesUpTo (f : FunctionValue) (count : ℕ) (sites : List (Option DefSite)) : Type 0 where
-  pub room : HasRoom f (length sites)
+  pub room : CoversDefinitions f (length sites)
   pub site : (n : ℕ) (s : DefSite) → slice_index_or sites n None ≡ Some s → IsSite f n s.branch s.index
   pub noted : (n : ℕ) → slice_index_or sites n None ≡ None → (b : ℕ) → b < count → b < length f.blocks →
       (inst_at f (last_of (block_at f b))).is_branch ≡ true
       → (k : ℕ) → DefinesNumber (inst_at f (last_of (block_at f b))).operands n k → ⊥
 
 -- at first nothing is
-pub sites_none : (f : FunctionValue) (sites : List (Option DefSite)) → HasRoom f (length sites) → ((n : ℕ) → slice_index_or sites n None ≡ None) →
+pub sites_none : (f : FunctionValue) (sites : List (Option DefSite)) → CoversDefinitions f (length sites) → ((n : ℕ) → slice_index_or sites n None ≡ None) →
     SitesUpTo f 0 sites
 sites_none f sites room none = record {
   room = room;
@@ -124,7 +124,7 @@ sites_branch : (f : FunctionValue) → MayHaveTables f → (b : ℕ) → b < len
 sites_branch f w b lt old new h is notes =
     let i : ℕ = last_of (block_at f b) in
     record {
-      room = subst (HasRoom f) (sym notes.long) h.room;
+      room = subst (CoversDefinitions f) (sym notes.long) h.room;
       site = λ n s e. elim (notes.from n s e) [
         | inl was ↦ h.site n s was
         | inr now ↦ subst (λ (m : ℕ). IsSite f n m s.index) (sym now.0) (record { inst = last_within f w b lt; is_branch = is; defines = now.1 })

@@ -12,10 +12,10 @@ use Rattle.regalloc2_function.specs.DebugPoints.{DefinesAt, PassesAt, ReadsAt, U
 use Rattle.regalloc2_function.specs.WellFormed.{last_of}
 use Rattle.regalloc2_function.specs.FunctionValue.{op_at}
 use Rattle.regalloc2_semantics.proofs.SingleDef.{Made, is_made, made_before, one_made, one_operand, reads_defined}
-use Rattle.regalloc2_semantics.proofs.SingleDef.{DefinesAt as DefinesOperand}
+use Rattle.regalloc2_semantics.proofs.SingleDef.{IsDefOperand}
 use Rattle.regalloc2_semantics.proofs.SingleDef.Made.{by_operand}
 use Rattle.regalloc2_semantics.proofs.Order.{passed_made}
-use Rattle.regalloc2_function.specs.TableLength.{HasRoom}
+use Rattle.regalloc2_function.specs.TableLength.{CoversDefinitions}
 use Rattle.regalloc2_function.specs.MarkedNumbers.{Marks}
 use Rattle.regalloc2_analysis.specs.BranchDefs.BranchDefs.{DefinesNumber, IsSite, IsUsedElsewhere, MayHaveTables}
 use Rattle.regalloc2_analysis.specs.BranchDefs.Notes.{AreUsed, IsSiteAt, PassesAmong, PassesIn, PassesOut, ReadsAmong, ReadsIn}
@@ -158,13 +158,13 @@ not_noted f w sites are b k lt edge v has free at =
     let s : IsSite f v.number i at.0 = are.site v.number (record { branch = i; index = at.0 }) at.1 in
     let o : OperandValue = op_at (inst_at f i).operands at.0 in
     let number : o.vreg.number ≡ v.number = s.defines.number in
-    let d : DefinesOperand f o.vreg.number i at.0 = record { inst = s.inst; operand = s.defines.operand; definition = s.defines.definition; number = refl } in
+    let d : IsDefOperand f o.vreg.number i at.0 = record { inst = s.inst; operand = s.defines.operand; definition = s.defines.definition; number = refl } in
     let made : Made f o.vreg = by_operand i at.0 d refl in
     let same : o.vreg ≡ v = one_made f w.1.defined_once o.vreg v made (passed_made f w.1.defined_once b k v w.1.follow w.1.uses_defined lt edge has) number in
     free (s.inst, (at.0, o, s.defines.operand, get_or_default (inst_at f i).operands at.0 o no_operand s.defines.operand, s.defines.definition, same))
 
 -- what is read has an entry
-read_room : (f : FunctionValue) → MayHaveTables f → (n : ℕ) → HasRoom f n → (i k : ℕ) → i < length f.insts → k < length (inst_at f i).operands →
+read_room : (f : FunctionValue) → MayHaveTables f → (n : ℕ) → CoversDefinitions f n → (i k : ℕ) → i < length f.insts → k < length (inst_at f i).operands →
     is_reading (op_at (inst_at f i).operands k) ≡ true → (op_at (inst_at f i).operands k).vreg.number < n
 read_room f w n room i k lt few reads =
     let some : 0 < length f.blocks = let e = w.1.successors.0 in omega (arith, e) in
@@ -176,7 +176,7 @@ pub reads_within : (ops : List OperandValue) (k : ℕ) → k < length ops → (o
 reads_within ops k lt o e = get_or_default ops k no_operand o lt ∙ e
 
 module _ (f : FunctionValue) (w : MayHaveTables f) (sites : List (Option DefSite)) (are : AreDefSites f sites) (none mid new : List Bool)
-    (room : HasRoom f (length none)) (middle : length mid ≡ length none) (blank : (n : ℕ) → slice_index_or none n false ≡ false)
+    (room : CoversDefinitions f (length none)) (middle : length mid ≡ length none) (blank : (n : ℕ) → slice_index_or none n false ≡ false)
     (reads : Marks (ReadsIn f (length f.insts)) none mid) (passes : Marks (PassesIn f sites (length f.blocks)) mid new) where
   -- what is marked as passed
   by_pass : (n : ℕ) → PassesIn f sites (length f.blocks) n → (v : VirtualRegister) × (v.number ≡ n) × IsUsedElsewhere f v

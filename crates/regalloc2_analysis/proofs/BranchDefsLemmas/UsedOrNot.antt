@@ -70,14 +70,14 @@ abbrev pub SomeDefines : FunctionValue → VirtualRegister → ℕ → Type 0
 SomeDefines f v i = (i < length f.insts) × ((k : ℕ) × (k < length (inst_at f i).operands) × DefinesIt f v i k)
 
 -- v is among the arguments of an edge, whose branch doesn't define it
-abbrev pub IsPassed : FunctionValue → VirtualRegister → ℕ → ℕ → Type 0
-IsPassed f v b k = ((j : ℕ) × (j < length (slice_index_or (block_at f b).arguments k []))
+abbrev pub PassesOnEdge : FunctionValue → VirtualRegister → ℕ → ℕ → Type 0
+PassesOnEdge f v b k = ((j : ℕ) × (j < length (slice_index_or (block_at f b).arguments k []))
     × (slice_index_or (slice_index_or (block_at f b).arguments k []) j v ≡ v))
     × (SomeDefines f v (last_of (block_at f b)) → ⊥)
 
 -- at some edge out of a block
 abbrev pub SomePasses : FunctionValue → VirtualRegister → ℕ → Type 0
-SomePasses f v b = (k : ℕ) × (k < length (block_at f b).succs) × IsPassed f v b k
+SomePasses f v b = (k : ℕ) × (k < length (block_at f b).succs) × PassesOnEdge f v b k
 
 some_reads : (f : FunctionValue) (v : VirtualRegister) (i : ℕ) → Decided (SomeReads f v i)
 some_reads f v i = below (ReadsIt f v i) (λ k. both _ _ (is_so (is_reading (op_at (inst_at f i).operands k)))
@@ -91,7 +91,7 @@ some_defines f v i = both _ _ (is_below i (length f.insts)) (below (DefinesIt f 
     (same_vreg (op_at (inst_at f i).operands k).vreg v)) (length (inst_at f i).operands))
 
 some_passes : (f : FunctionValue) (v : VirtualRegister) (b : ℕ) → Decided (SomePasses f v b)
-some_passes f v b = below (IsPassed f v b) (λ k. both _ _
+some_passes f v b = below (PassesOnEdge f v b) (λ k. both _ _
     (below (λ j. slice_index_or (slice_index_or (block_at f b).arguments k []) j v ≡ v)
     (λ j. same_vreg (slice_index_or (slice_index_or (block_at f b).arguments k []) j v) v) (length (slice_index_or (block_at f b).arguments k [])))
     (neither _ (some_defines f v (last_of (block_at f b))))) (length (block_at f b).succs)

@@ -19,7 +19,7 @@ use Rattle.regalloc2_analysis.specs.LiveRanges.LiveRanges.{IsDefiner, IsFirstRea
 use Rattle.regalloc2_analysis.specs.LiveRanges.LiveRanges.IsShownBy.{by_late_use, by_early_use, by_argument, by_definition}
 use Rattle.regalloc2_analysis.specs.LiveRanges.LastUses.{EndsFrom, EndsUse, ReadsFirst, Unread, UsesNumber, end_behind}
 use Rattle.regalloc2_analysis.specs.LiveRanges.LastUses.EndsUse.{late, early, passed}
-use Rattle.regalloc2_analysis.proofs.LiveRangesLemmas.UsesInSSA.{definer_defines, defines_number, is_reader, made_by_definition, made_by_parameter, passes_it}
+use Rattle.regalloc2_analysis.proofs.LiveRangesLemmas.UsesInSSA.{definer_defines, IsDefOperand-from_DefinesAt, is_reader, made_by_definition, made_by_parameter, passes_it}
 use Rattle.regalloc2_analysis.proofs.LiveRangesLemmas.UsesInSSA.{read_number, reader_reads, takes_number, use_after, use_within, used_number}
 
 one_last : (f : FunctionValue) (v : VirtualRegister) (i j : ℕ) → IsLastUse f v i → IsLastUse f v j → i ≡ j
@@ -37,10 +37,10 @@ shown_within f v (by_definition o never definer) = (definer.inst, definer.index,
 module _ (f : FunctionValue) (ssa : IsSSA f) where
   -- one instruction defines a vreg
   one_definition : (v : VirtualRegister) (i j : ℕ) → DefinesAt f v i → DefinesAt f v j → i ≡ j
-  one_definition v i j a b = (one_operand f ssa.once v.number i j a.1.0 b.1.0 (defines_number f v i a) (defines_number f v j b)).0
+  one_definition v i j a b = (one_operand f ssa.once v.number i j a.1.0 b.1.0 (IsDefOperand-from_DefinesAt f v i a) (IsDefOperand-from_DefinesAt f v j b)).0
 
   no_both : (v : VirtualRegister) (i b : ℕ) → DefinesAt f v i → b < length f.blocks → Contains (block_at f b).params v → ⊥
-  no_both v i b d lt h = not_both f ssa.once v.number i d.1.0 b h.0 (defines_number f v i d) (takes_number f v b lt h)
+  no_both v i b d lt h = not_both f ssa.once v.number i d.1.0 b h.0 (IsDefOperand-from_DefinesAt f v i d) (takes_number f v b lt h)
 
   -- a vreg has one first point
   pub one_first_point : (v : VirtualRegister) {p q : ℕ} → IsFirstPoint f v p → IsFirstPoint f v q → p ≡ q

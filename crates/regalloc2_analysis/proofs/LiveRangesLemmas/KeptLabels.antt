@@ -133,15 +133,15 @@ nothing_mapped h [] empty = refl
 nothing_mapped h (x ∷ xs) empty = let some = (Decides-eqb (length (x ∷ xs)) 0).0 empty in absurd (omega (arith, some))
 
 -- each label that is kept is one of the list
-abbrev pub IsOneOf : FunctionValue → List Label → KeptLabel → Type 0
-IsOneOf f ls k = Any (λ l. (k.label ≡ l.label) × IsKeptRange f l k.range) ls
+abbrev pub IsKeptLabelOf : FunctionValue → List Label → KeptLabel → Type 0
+IsKeptLabelOf f ls k = Any (λ l. (k.label ≡ l.label) × IsKeptRange f l k.range) ls
 
-one_later : (f : FunctionValue) (l : Label) (ls : List Label) (k : KeptLabel) → IsOneOf f ls k → IsOneOf f (l ∷ ls) k
+one_later : (f : FunctionValue) (l : Label) (ls : List Label) (k : KeptLabel) → IsKeptLabelOf f ls k → IsKeptLabelOf f (l ∷ ls) k
 one_later f l ls k h = (suc h.0, h.1, omega (arith, h.2), h.3, h.4)
 
 -- each kept label is one of the listed labels, kept with its live range
-pub kept_from : {f : FunctionValue} {ls : List Label} {ks : List KeptLabel} → AreKeptLabels f ls ks → All (IsOneOf f ls) ks
-kept_from {f = f} none = All-nil (IsOneOf f [])
-kept_from {f = f} (kept {ls = ls} {ks = ks} l k is range rest) = All-cons (IsOneOf f (l ∷ ls)) k ks (0, l, omega arith, refl, (is, range))
-    (All-weaker (IsOneOf f ls) (IsOneOf f (l ∷ ls)) (one_later f l ls) ks (kept_from rest))
-kept_from {f = f} (left_out {ls = ls} {ks = ks} l never rest) = All-weaker (IsOneOf f ls) (IsOneOf f (l ∷ ls)) (one_later f l ls) ks (kept_from rest)
+pub kept_from : {f : FunctionValue} {ls : List Label} {ks : List KeptLabel} → AreKeptLabels f ls ks → All (IsKeptLabelOf f ls) ks
+kept_from {f = f} none = All-nil (IsKeptLabelOf f [])
+kept_from {f = f} (kept {ls = ls} {ks = ks} l k is range rest) = All-cons (IsKeptLabelOf f (l ∷ ls)) k ks (0, l, omega arith, refl, (is, range))
+    (All-weaker (IsKeptLabelOf f ls) (IsKeptLabelOf f (l ∷ ls)) (one_later f l ls) ks (kept_from rest))
+kept_from {f = f} (left_out {ls = ls} {ks = ks} l never rest) = All-weaker (IsKeptLabelOf f ls) (IsKeptLabelOf f (l ∷ ls)) (one_later f l ls) ks (kept_from rest)

@@ -7,7 +7,7 @@ use Rattle.regalloc2_names.specs.Register.{VirtualRegister}
 use Rattle.regalloc2_function.specs.FunctionValue.{FunctionValue, Label, label_of}
 use Rattle.regalloc2_function.specs.DebugPoints.{IsFirstPoint}
 use Rattle.regalloc2_function.specs.DebugPoints.IsFirstPoint.{of_definition, of_parameter}
-use Rattle.regalloc2_function.specs.TableLength.{HasRoom}
+use Rattle.regalloc2_function.specs.TableLength.{CoversDefinitions}
 use Rattle.regalloc2_function.specs.MarkedNumbers.{Marks}
 use Rattle.regalloc2_analysis.specs.declared.live_ranges.LiveRange.{LiveRange}
 use Rattle.regalloc2_analysis.specs.LiveRanges.LiveRanges.{AreLabelsMarked, AreLiveRanges, IsLabelled, IsSSA, IsWanted}
@@ -66,7 +66,7 @@ labelled_are f items old new none same m n lt = (
 )
 
 -- the live ranges of the requested numbers are the live ranges of what labels name
-pub ranges_of_labelled : (f : FunctionValue) → IsSSA f → (wanted : List Bool) (t : List (Option LiveRange)) → HasRoom f (length wanted) →
+pub ranges_of_labelled : (f : FunctionValue) → IsSSA f → (wanted : List Bool) (t : List (Option LiveRange)) → CoversDefinitions f (length wanted) →
     ((n : ℕ) → n < length wanted → IsWanted wanted n ↔ IsLabelled f n) → AreLiveRanges f (IsWanted wanted) t → AreLiveRanges f (IsLabelled f) t
 ranges_of_labelled f ssa wanted t room same are = record {
   room = are.room;
@@ -101,7 +101,7 @@ marked_none f items marks same empty none =
     record { room = λ lt. absurd (omega (arith, lt, long, no)); marks = λ n lt. absurd (omega (arith, lt, nil)) }
 
 -- a table that is made has both
-pub marked_some : {A E : Type 0} (f : FunctionValue) (r : Result (Vec Bool A) E) → IfOk r (λ w. HasRoom f (length w.items)) →
+pub marked_some : {A E : Type 0} (f : FunctionValue) (r : Result (Vec Bool A) E) → IfOk r (λ w. CoversDefinitions f (length w.items)) →
     IfOk r (λ w. (n : ℕ) → n < length w.items → IsWanted w.items n ↔ IsLabelled f n) → IfOk r (λ w. AreLabelsMarked f w.items)
 marked_some f (Ok w) room marks = record { room = λ _. room; marks = marks }
 marked_some f (Err e) room marks = tt

@@ -17,7 +17,7 @@ use Rattle.regalloc2_function.specs.DebugPoints.IsFirstPoint.{of_definition, of_
 use Rattle.regalloc2_function.specs.FunctionValue.{op_at}
 use Rattle.regalloc2_semantics.proofs.SingleDef.{Made, one_made}
 use Rattle.regalloc2_semantics.proofs.Order.{ends_within}
-use Rattle.regalloc2_function.specs.TableLength.{HasRoom}
+use Rattle.regalloc2_function.specs.TableLength.{CoversDefinitions}
 use Rattle.regalloc2_analysis.specs.declared.live_ranges.LiveRange.{LiveRange}
 use Rattle.regalloc2_analysis.specs.declared.live_ranges.ends.RangeEnd.{RangeEnd}
 use Rattle.regalloc2_analysis.specs.LiveRanges.LiveRanges.{AreLiveRanges, IsDefiner, IsLiveRange, IsSSA, range_at}
@@ -132,7 +132,7 @@ taken_same Asked vs m ends t v less is none h k lt within asked some = elim (bel
 
 -- the table of ends has an entry for each vreg, and the uses from an instruction on are noted there
 pub record AreNoted (f : FunctionValue) (Asked : ℕ → Type 0) (i : ℕ) (ends : List (Option RangeEnd)) : Type 0 where
-  pub room : HasRoom f (length ends)
+  pub room : CoversDefinitions f (length ends)
   pub noted : AreEndsFrom f Asked i ends
 
 -- the first parameters of a list are all of a block's parameters
@@ -154,11 +154,11 @@ taken_all f ssa Asked b vs m ends t params noted h v j asked has used =
     (subst (λ (w : VirtualRegister). Asked w.number) (sym at) asked) (subst (λ (w : VirtualRegister). end_at ends w.number ≢ None) (sym at) some))
 
 -- before the walk
-pub walked_none : (f : FunctionValue) → IsSSA f → (Asked : ℕ → Type 0) (slots : List ℕ) (m : ℕ) → HasRoom f (length slots) →
+pub walked_none : (f : FunctionValue) → IsSSA f → (Asked : ℕ → Type 0) (slots : List ℕ) (m : ℕ) → CoversDefinitions f (length slots) →
     AreRangesWalked f Asked (length f.insts) (length f.blocks) (spread slots (replicate m None)) (spread slots (replicate m None))
 walked_none f ssa Asked slots m room = record {
-  ends_room = subst (HasRoom f) (sym (spread_length slots (replicate m None))) room;
-  ranges_room = subst (HasRoom f) (sym (spread_length slots (replicate m None))) room;
+  ends_room = subst (CoversDefinitions f) (sym (spread_length slots (replicate m None))) room;
+  ranges_room = subst (CoversDefinitions f) (sym (spread_length slots (replicate m None))) room;
   noted = λ n lt asked. subst (EndsFrom f (length f.insts) n) (sym (spread_nothing slots m n)) (λ j le u. none_past j le n u);
   right = λ n r h. absurd (let e : Some r ≡ None = sym h ∙ spread_nothing slots m n in cc);
   defined = λ v j le asked d. absurd (omega (arith, le, d.0));
@@ -179,8 +179,8 @@ pub walked_inst : (f : FunctionValue) (Asked : ℕ → Type 0) (i b : ℕ) (ends
     Stay ranges ranges'
     → ((v : VirtualRegister) → Asked v.number → DefinesAt f v i → range_at ranges' v.number ≢ None) → AreRangesWalked f Asked i b ends' ranges'
 walked_inst f Asked i b ends ends' ranges ranges' w long longs noted right stay defined = record {
-  ends_room = subst (HasRoom f) (sym long) w.ends_room;
-  ranges_room = subst (HasRoom f) (sym longs) w.ranges_room;
+  ends_room = subst (CoversDefinitions f) (sym long) w.ends_room;
+  ranges_room = subst (CoversDefinitions f) (sym longs) w.ranges_room;
   noted = noted;
   right = right;
   defined = λ v j le asked d. elim (here_or_later i j le) [
@@ -240,7 +240,7 @@ pub walked_block : (f : FunctionValue) (Asked : ℕ → Type 0) (i b : ℕ) (end
     AreRangesWalked f Asked i b ends ranges'
 walked_block f Asked i b ends ranges ranges' w long right stay taken = record {
   ends_room = w.ends_room;
-  ranges_room = subst (HasRoom f) (sym long) w.ranges_room;
+  ranges_room = subst (CoversDefinitions f) (sym long) w.ranges_room;
   noted = w.noted;
   right = right;
   defined = λ v j le asked d. stay v.number (w.defined v j le asked d);
@@ -285,7 +285,7 @@ pub param_within : (f : FunctionValue) (b : ℕ) (vs : List VirtualRegister) (k 
 param_within f b vs k v same lt is = subst (λ (ws : List VirtualRegister). Contains ws v) same (k, lt, sym is)
 
 -- the entry of the table of ends that was read at the number of a vreg
-pub record IsRead (ends : List (Option RangeEnd)) (v : VirtualRegister) (n : ℕ) (o : Option RangeEnd) : Type 0 where
+pub record IsEndEntry (ends : List (Option RangeEnd)) (v : VirtualRegister) (n : ℕ) (o : Option RangeEnd) : Type 0 where
   pub number : n ≡ v.number
   pub entry : o ≡ slice_index_or ends n None
 
@@ -299,7 +299,7 @@ pub record IsMade (i k : ℕ) (v a : VirtualRegister) (p q : ℕ) (o : Option Ra
 -- the range that is made at a definition
 pub defined_range : (f : FunctionValue) (ssa : IsSSA f) (Asked : ℕ → Type 0) (ends : List (Option RangeEnd)) (i k : ℕ) (v a : VirtualRegister)
     {n p q : ℕ} (o : Option RangeEnd) (d : RangeEnd) → IsDefiner f v (record { inst = i; index = k }) → AreNoted f Asked i ends → Asked v.number →
-    IsRead ends v n o → IsMade i k v a p q o d → IsLiveRange f (record { vreg = a; first = p; last = d.last; by = d.by })
+    IsEndEntry ends v n o → IsMade i k v a p q o d → IsLiveRange f (record { vreg = a; first = p; last = d.last; by = d.by })
 defined_range f ssa Asked ends i k v a {n = n} {p = p} {q = q} o d definer noted asked read made =
     let small = definer_small f ssa (length ends) noted.room v (record { inst = i; index = k }) definer in
     let entry : o ≡ end_at ends v.number = read.entry ∙ ap (end_at ends) read.number in

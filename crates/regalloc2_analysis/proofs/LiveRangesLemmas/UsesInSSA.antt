@@ -11,12 +11,11 @@ use Rattle.regalloc2_function.specs.FunctionValue.{FunctionValue, block_at, inst
 use Rattle.regalloc2_function.specs.Machine.{MachineValue}
 use Rattle.regalloc2_function.specs.WellFormed.{IsDefinedBy, IsWellFormed, last_of}
 use Rattle.regalloc2_function.specs.DebugPoints.{DefinesAt, PassesAt, ReadsAt, UsesAt}
-use Rattle.regalloc2_function.specs.TableLength.{HasRoom}
+use Rattle.regalloc2_function.specs.TableLength.{CoversDefinitions}
 use Rattle.regalloc2_function.specs.FunctionValue.{op_at}
-use Rattle.regalloc2_semantics.proofs.SingleDef.{DefinesAt as DefinesNumber, Made, TakesAt, is_made, made_before, made_behind, made_small, not_both, one_made}
+use Rattle.regalloc2_semantics.proofs.SingleDef.{IsDefOperand, Made, TakesAt, is_made, made_before, made_behind, made_small, not_both, one_made}
 use Rattle.regalloc2_semantics.proofs.SingleDef.{one_param, reads_defined}
 use Rattle.regalloc2_semantics.proofs.SingleDef.Made.{by_operand, by_param}
-use Rattle.regalloc2_semantics.proofs.SingleDef.{no_vreg as nowhere}
 use Rattle.regalloc2_semantics.proofs.Order.{ends_within, passes_later, reads_later}
 use Rattle.regalloc2_analysis.specs.declared.live_ranges.InstOperand.{InstOperand}
 use Rattle.regalloc2_analysis.specs.LiveRanges.LiveRanges.{IsDefiner, IsReader, IsSSA}
@@ -29,8 +28,8 @@ pub well_formed_ssa : (env : MachineValue) (f : FunctionValue) → IsWellFormed 
 well_formed_ssa env f w = record { some = let first = w.successors.0 in omega (arith, first); follow = w.follow; once = w.defined_once; uses = w.uses_defined }
 
 -- a definition, as an operand of that number
-pub defines_number : (f : FunctionValue) (v : VirtualRegister) (i : ℕ) (d : DefinesAt f v i) → DefinesNumber f v.number i d.1.0
-defines_number f v i d =
+pub IsDefOperand-from_DefinesAt : (f : FunctionValue) (v : VirtualRegister) (i : ℕ) (d : DefinesAt f v i) → IsDefOperand f v.number i d.1.0
+IsDefOperand-from_DefinesAt f v i d =
     let is = op_is (inst_at f i).operands d.1.0 d.1.1 d.1.2 d.1.3 in
     record {
       inst = d.0;
@@ -41,7 +40,7 @@ defines_number f v i d =
 
 -- a vreg that an instruction defines is defined in the function
 pub made_by_definition : (f : FunctionValue) (v : VirtualRegister) (i : ℕ) → DefinesAt f v i → Made f v
-made_by_definition f v i d = by_operand i d.1.0 (defines_number f v i d)
+made_by_definition f v i d = by_operand i d.1.0 (IsDefOperand-from_DefinesAt f v i d)
     (ap (λ (o : OperandValue). o.vreg) (op_is (inst_at f i).operands d.1.0 d.1.1 d.1.2 d.1.3) ∙ d.1.5)
 
 -- a parameter, by its number
@@ -49,12 +48,12 @@ pub takes_number : (f : FunctionValue) (v : VirtualRegister) (b : ℕ) → b < l
 takes_number f v b lt h = record {
   block = lt;
   param = h.1;
-  number = ap (λ (w : VirtualRegister). w.number) (get_or_default (block_at f b).params h.0 nowhere v h.1 ∙ h.2);
+  number = ap (λ (w : VirtualRegister). w.number) (get_or_default (block_at f b).params h.0 no_vreg v h.1 ∙ h.2);
 }
 
 -- a vreg that is a block's parameter is defined in the function
 pub made_by_parameter : (f : FunctionValue) (v : VirtualRegister) (b : ℕ) → b < length f.blocks → Contains (block_at f b).params v → Made f v
-made_by_parameter f v b lt h = by_param b h.0 (takes_number f v b lt h) (get_or_default (block_at f b).params h.0 nowhere v h.1 ∙ h.2)
+made_by_parameter f v b lt h = by_param b h.0 (takes_number f v b lt h) (get_or_default (block_at f b).params h.0 no_vreg v h.1 ∙ h.2)
 
 -- what is read is read by its number
 pub read_number : (f : FunctionValue) (v : VirtualRegister) (at : OperandPos) (i : ℕ) (r : ReadsAt f v at i) →
@@ -68,14 +67,14 @@ read_number f v at i r =
       number = ap (λ (o : OperandValue). o.vreg.number) is ∙ ap (λ (w : VirtualRegister). w.number) r.1.6;
     }
 
-has_number : (vs : List VirtualRegister) (v : VirtualRegister) → Contains vs v → HasNumber vs (length vs) v.number
-has_number vs v h = (h.0, h.1, h.1, ap (λ (w : VirtualRegister). w.number) (get_or_default vs h.0 no_vreg v h.1 ∙ h.2))
+HasNumber-from_Contains : (vs : List VirtualRegister) (v : VirtualRegister) → Contains vs v → HasNumber vs (length vs) v.number
+HasNumber-from_Contains vs v h = (h.0, h.1, h.1, ap (λ (w : VirtualRegister). w.number) (get_or_default vs h.0 no_vreg v h.1 ∙ h.2))
 
 -- an instruction that uses a vreg uses its number
 pub used_number : (f : FunctionValue) (v : VirtualRegister) (i : ℕ) → UsesAt f v i → UsesNumber f v.number i
 used_number f v i (inl r) = reads OperandPos.Early r.1.0 r.0 (read_number f v OperandPos.Early i r)
 used_number f v i (inr (inl r)) = reads OperandPos.Late r.1.0 r.0 (read_number f v OperandPos.Late i r)
-used_number f v i (inr (inr p)) = passes (p.0, p.2, p.3, (p.1, p.4, has_number (slice_index_or (block_at f p.0).arguments p.1 []) v p.5))
+used_number f v i (inr (inr p)) = passes (p.0, p.2, p.3, (p.1, p.4, HasNumber-from_Contains (slice_index_or (block_at f p.0).arguments p.1 []) v p.5))
 
 -- a reader reads
 pub reader_reads : (f : FunctionValue) (v : VirtualRegister) (at : OperandPos) (o : InstOperand) → IsReader f v at o → ReadsAt f v at o.inst
@@ -120,21 +119,21 @@ item_defines f i k ops o lt same less is def =
 
 module _ (f : FunctionValue) (ssa : IsSSA f) where
   -- what is defined has an entry in a table with room
-  pub definer_small : (n : ℕ) → HasRoom f n → (v : VirtualRegister) (o : InstOperand) → IsDefiner f v o → v.number < n
+  pub definer_small : (n : ℕ) → CoversDefinitions f n → (v : VirtualRegister) (o : InstOperand) → IsDefiner f v o → v.number < n
   definer_small n room v o d = room v (after o.inst) (inr (o.inst, o.index, no_operand, omega arith, d.index, d.definition, d.vreg))
       (made_small f ssa.once v (made_by_definition f v o.inst (definer_defines f v o d)))
 
   -- as an operand of an instruction
-  pub defined_small : (n : ℕ) → HasRoom f n → (v : VirtualRegister) (i : ℕ) → DefinesAt f v i → v.number < n
+  pub defined_small : (n : ℕ) → CoversDefinitions f n → (v : VirtualRegister) (i : ℕ) → DefinesAt f v i → v.number < n
   defined_small n room v i d = definer_small n room v (record { inst = i; index = d.1.0 }) (record {
     inst = d.0;
     index = d.1.2;
-    definition = (defines_number f v i d).definition;
+    definition = (IsDefOperand-from_DefinesAt f v i d).definition;
     vreg = ap (λ (o : OperandValue). o.vreg) (op_is (inst_at f i).operands d.1.0 d.1.1 d.1.2 d.1.3) ∙ d.1.5;
   })
 
   -- a block's parameter has a number within the room
-  pub parameter_small : (n : ℕ) → HasRoom f n → (v : VirtualRegister) (b : ℕ) → b < length f.blocks → Contains (block_at f b).params v → v.number < n
+  pub parameter_small : (n : ℕ) → CoversDefinitions f n → (v : VirtualRegister) (b : ℕ) → b < length f.blocks → Contains (block_at f b).params v → v.number < n
   parameter_small n room v b lt h = room v (before (block_at f b).range.first) (inl (b, lt, omega arith, h))
       (made_small f ssa.once v (made_by_parameter f v b lt h))
 
@@ -173,13 +172,13 @@ module _ (f : FunctionValue) (ssa : IsSSA f) where
   -- a use comes after the definition
   pub use_after : (v : VirtualRegister) (i j : ℕ) → DefinesAt f v i → UsesAt f v j → i < j
   use_after v i j d (inl r) = let n = read_number f v OperandPos.Early j r in
-      reads_later f ssa.once v.number i d.1.0 j r.1.0 (defines_number f v i d) r.0 (reads_defined f ssa.some ssa.follow ssa.uses j r.0) n.within n.reading
+      reads_later f ssa.once v.number i d.1.0 j r.1.0 (IsDefOperand-from_DefinesAt f v i d) r.0 (reads_defined f ssa.some ssa.follow ssa.uses j r.0) n.within n.reading
       n.number
   use_after v i j d (inr (inl r)) = let n = read_number f v OperandPos.Late j r in
-      reads_later f ssa.once v.number i d.1.0 j r.1.0 (defines_number f v i d) r.0 (reads_defined f ssa.some ssa.follow ssa.uses j r.0) n.within n.reading
+      reads_later f ssa.once v.number i d.1.0 j r.1.0 (IsDefOperand-from_DefinesAt f v i d) r.0 (reads_defined f ssa.some ssa.follow ssa.uses j r.0) n.within n.reading
       n.number
   use_after v i j d (inr (inr p)) =
-      let h = passes_later f ssa.once v.number i d.1.0 p.0 p.1 v (defines_number f v i d) ssa.follow ssa.uses p.2 p.4 p.5 refl in
+      let h = passes_later f ssa.once v.number i d.1.0 p.0 p.1 v (IsDefOperand-from_DefinesAt f v i d) ssa.follow ssa.uses p.2 p.4 p.5 refl in
       elim (cases_lt i j) [ inl less ↦ less | inr late ↦ absurd (p.6 (subst (DefinesAt f v) (omega (arith, h, late, p.3)) d)) ]
 
   -- what is defined by a point is so by a later one
@@ -228,7 +227,7 @@ module _ (f : FunctionValue) (ssa : IsSSA f) where
               o.6,
             ),
           ) in
-          absurd (not_both f ssa.once v.number o.0 o.1 b h.0 (defines_number f v o.0 d) (takes_number f v b lt h))
+          absurd (not_both f ssa.once v.number o.0 o.1 b h.0 (IsDefOperand-from_DefinesAt f v o.0 d) (takes_number f v b lt h))
         where
           inside : (v : VirtualRegister) (j : ℕ) → UsesAt f v j → j < length f.insts
           inside v j (inl r) = r.0

@@ -80,7 +80,7 @@ is_unread o at h r = let here : is_position at o.position ≡ true = ap (is_posi
     let test : reads_at at o ≡ true = rw (r.0, here) refl in cc
 
 -- the operand m of a list reads v at a position
-pub record IsReader (at : OperandPos) (ops : List OperandValue) (m : ℕ) (o : OperandValue) (v : VirtualRegister) : Type 0 where
+pub record IsReaderAmong (at : OperandPos) (ops : List OperandValue) (m : ℕ) (o : OperandValue) (v : VirtualRegister) : Type 0 where
   pub within : m < length ops
   pub is : o ≡ slice_index_or ops m o
   pub reads : (is_reading o ≡ true) × (o.position ≡ at)
@@ -96,7 +96,7 @@ pub record NotesEnd (Has : ℕ → Type 0) (at : OperandPos) (i m : ℕ) (v : Vi
 -- an operand that reads is noted
 pub reads_step : (Has : ℕ → Type 0) (at : OperandPos) (i : ℕ) (ops : List OperandValue) (m n : ℕ) (old : Option RangeEnd)
     (before after : List (Option RangeEnd))
-    (o : OperandValue) (v : VirtualRegister) (last : ℕ) → IsReader at ops m o v → NotesEnd Has at i m v last before after → Has n
+    (o : OperandValue) (v : VirtualRegister) (last : ℕ) → IsReaderAmong at ops m o v → NotesEnd Has at i m v last before after → Has n
     → NotesReads at i ops m n old (end_at before n) → NotesReads at i ops (m + 1) n old (end_at after n)
 reads_step Has at i ops m n old before after o v last by e has h =
     let less : m < length ops = by.within in

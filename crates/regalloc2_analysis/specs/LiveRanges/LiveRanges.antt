@@ -9,7 +9,7 @@ use Rattle.regalloc2_function.specs.FunctionValue.{FunctionValue, Label, inst_at
 use Rattle.regalloc2_names.specs.Operand.{is_def, is_reading}
 use Rattle.regalloc2_function.specs.WellFormed.{BlocksFollow, DefinedOnce, UsesAreDefined}
 use Rattle.regalloc2_function.specs.DebugPoints.{IsFirstPoint, IsKept, IsLastPoint, IsLastUse, ReadsAt, UsesAt}
-use Rattle.regalloc2_function.specs.TableLength.{HasRoom}
+use Rattle.regalloc2_function.specs.TableLength.{CoversDefinitions}
 use Rattle.regalloc2_function.specs.FunctionValue.{op_at}
 use Rattle.regalloc2_analysis.specs.declared.live_ranges.InstOperand.{InstOperand}
 use Rattle.regalloc2_analysis.specs.declared.live_ranges.LiveRange.{LiveRange}
@@ -71,13 +71,13 @@ IsLabelled f n = Any (λ l. l.vreg.number ≡ n) f.labels
 
 -- the labelled numbers are marked in a table, which has room for all that the function defines if there are labels
 pub record AreLabelsMarked (f : FunctionValue) (wanted : List Bool) : Type 0 where
-  pub room : 0 < length f.labels → HasRoom f (length wanted)
+  pub room : 0 < length f.labels → CoversDefinitions f (length wanted)
   pub marks : (n : ℕ) → n < length wanted → IsWanted wanted n ↔ IsLabelled f n
 
 -- A table by number of the live ranges of all requested numbers: it has room for all that the function defines, each entry is that of a vreg of the number, and
 -- each vreg of a requested number with a first and a last point has its entry.
 pub record AreLiveRanges (f : FunctionValue) (Asked : ℕ → Type 0) (t : List (Option LiveRange)) : Type 0 where
-  pub room : HasRoom f (length t)
+  pub room : CoversDefinitions f (length t)
   pub found : (n : ℕ) (r : LiveRange) → range_at t n ≡ Some r → (r.vreg.number ≡ n) × IsLiveRange f r
   pub all : (v : VirtualRegister) (start end : ℕ) → Asked v.number → IsFirstPoint f v start → IsLastPoint f v end →
       (r : LiveRange) × (range_at t v.number ≡ Some r) × (r.vreg ≡ v)

@@ -4,7 +4,7 @@ use Rattle.regalloc2_names.specs.declared.OperandPos.{OperandPos}
 use Rattle.regalloc2_names.specs.Register.{VirtualRegister}
 use Rattle.regalloc2_function.specs.FunctionValue.{FunctionValue, block_at, inst_at}
 use Rattle.regalloc2_function.specs.DebugPoints.{DefinesAt, UsesAt}
-use Rattle.regalloc2_function.specs.TableLength.{HasRoom}
+use Rattle.regalloc2_function.specs.TableLength.{CoversDefinitions}
 use Rattle.regalloc2_function.specs.FunctionValue.{op_at}
 use Rattle.regalloc2_analysis.specs.declared.live_ranges.ends.RangeEnd.{RangeEnd}
 use Rattle.regalloc2_analysis.specs.declared.live_ranges.LiveRange.{LiveRange}
@@ -25,8 +25,8 @@ AreEndsFrom f Asked i t = (n : ℕ) → n < length t → Asked n → EndsFrom f 
 
 -- the instructions from i on are walked, and the beginnings of the blocks from b on
 pub record AreRangesWalked (f : FunctionValue) (Asked : ℕ → Type 0) (i b : ℕ) (ends : List (Option RangeEnd)) (ranges : List (Option LiveRange)) : Type 0 where
-  pub ends_room : HasRoom f (length ends)
-  pub ranges_room : HasRoom f (length ranges)
+  pub ends_room : CoversDefinitions f (length ends)
+  pub ranges_room : CoversDefinitions f (length ranges)
   pub noted : AreEndsFrom f Asked i ends
   pub right : AreRight f ranges
   pub defined : (v : VirtualRegister) (j : ℕ) → i ≤ j → Asked v.number → DefinesAt f v j → range_at ranges v.number ≢ None

@@ -2,7 +2,7 @@
 
 ghost use Rattle.std.specs.Prelude.{◌≡◌, ◌<◌, ◌↔◌, ℕ, if◌then◌else◌, slice_set, slice_index_or, length, None, Some, IsTrue, IfOk};
 ghost use Rattle.regalloc2_names.specs.Operand.{is_def};
-ghost use Rattle.regalloc2_function.specs.TableLength.{HasRoom};
+ghost use Rattle.regalloc2_function.specs.TableLength.{CoversDefinitions};
 ghost use Rattle.regalloc2_analysis.specs.BranchDefs.BranchDefs.{MayHaveTables};
 ghost use Rattle.regalloc2_analysis.specs.BranchDefs.Notes.{NotesBranch, NotesSites, IsSiteAt};
 ghost use Rattle.regalloc2_analysis.specs.BranchDefs.Tables.{AreDefSites};
@@ -47,7 +47,7 @@ fn note_branch<F: Function>(sites: &mut [Option<DefSite>], f: &F, block: Block)
 /// Notes the operands of all blocks' branches.
 fn note_branches<F: Function>(sites: &mut [Option<DefSite>], f: &F)
     requires well_formed { MayHaveTables (F.function f.now) }
-    requires room { HasRoom (F.function f.now) (length sites.old) }
+    requires room { CoversDefinitions (F.function f.now) (length sites.old) }
     requires none { (n : ℕ) → slice_index_or sites.old n None ≡ None }
     ensures { AreDefSites (F.function f.now) sites.new }
 {
@@ -74,7 +74,7 @@ pub fn branch_sites<A: Allocator + Copy, F: Function>(
     vregs: usize,
 ) -> Result<Vec<Option<DefSite>, A>, AllocError>
     requires well_formed { MayHaveTables (F.function f.now) }
-    requires room { HasRoom (F.function f.now) vregs }
+    requires room { CoversDefinitions (F.function f.now) vregs }
     ensures { IfOk result (λ v. AreDefSites (F.function f.now) v.items) }
 {
     let mut sites = no_sites(alloc, vregs)?;

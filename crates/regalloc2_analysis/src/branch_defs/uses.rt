@@ -3,7 +3,7 @@
 ghost use Rattle.std.specs.Prelude.{◌≡◌, ◌<◌, ◌+◌, true, false, ℕ, length, slice_index_or, IfOk};
 ghost use Rattle.regalloc2_names.specs.Operand.{is_reading};
 ghost use Rattle.regalloc2_function.specs.FunctionValue.{block_at};
-ghost use Rattle.regalloc2_function.specs.TableLength.{HasRoom};
+ghost use Rattle.regalloc2_function.specs.TableLength.{CoversDefinitions};
 ghost use Rattle.regalloc2_function.specs.MarkedNumbers.{Marks};
 ghost use Rattle.regalloc2_analysis.specs.BranchDefs.BranchDefs.{MayHaveTables};
 ghost use Rattle.regalloc2_analysis.specs.BranchDefs.Notes.{AreUsed, IsSiteAt, PassesAmong, PassesIn, PassesOut, ReadsAmong, ReadsIn};
@@ -88,7 +88,7 @@ fn note_all_passed<F: Function>(used: &mut [bool], sites: &[Option<DefSite>], f:
 fn note_uses<F: Function>(used: &mut [bool], sites: &[Option<DefSite>], f: &F)
     requires well_formed { MayHaveTables (F.function f.now) }
     requires sites { AreDefSites (F.function f.now) sites.now }
-    requires room { HasRoom (F.function f.now) (length used.old) }
+    requires room { CoversDefinitions (F.function f.now) (length used.old) }
     requires none { (n : ℕ) → slice_index_or used.old n false ≡ false }
     ensures { AreUsed (F.function f.now) used.new }
 {
@@ -104,7 +104,7 @@ pub fn used_elsewhere<A: Allocator + Copy, F: Function>(
     sites: &[Option<DefSite>],
 ) -> Result<Vec<bool, A>, AllocError>
     requires well_formed { MayHaveTables (F.function f.now) }
-    requires room { HasRoom (F.function f.now) vregs }
+    requires room { CoversDefinitions (F.function f.now) vregs }
     requires sites { AreDefSites (F.function f.now) sites.now }
     ensures { IfOk result (λ v. AreUsed (F.function f.now) v.items) }
 {

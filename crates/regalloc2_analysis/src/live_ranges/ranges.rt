@@ -6,7 +6,7 @@ ghost use Rattle.regalloc2_function.specs.FunctionValue.{block_at};
 ghost use Rattle.regalloc2_names.specs.Operand.{is_def};
 ghost use Rattle.regalloc2_names.specs.Point.{inst_limit};
 ghost use Rattle.regalloc2_function.specs.DebugPoints.{DefinesAt, UsesAt};
-ghost use Rattle.regalloc2_function.specs.TableLength.{HasRoom};
+ghost use Rattle.regalloc2_function.specs.TableLength.{CoversDefinitions};
 ghost use Rattle.regalloc2_analysis.specs.LiveRanges.LastUses.{end_at, end_behind};
 ghost use Rattle.regalloc2_analysis.specs.LiveRanges.LiveRanges.{IsSSA, IsWanted, range_at};
 ghost use Rattle.regalloc2_analysis.specs.LiveRanges.Slots.{AreSlots, spread};
@@ -52,7 +52,7 @@ pub fn begin_at_defs<F: Function>(
 )
     requires ssa { IsSSA (F.function f.now) }
     requires inst { inst < length (F.function f.now).insts }
-    requires room { HasRoom (F.function f.now) (length slots.now) }
+    requires room { CoversDefinitions (F.function f.now) (length slots.now) }
     requires ends { AreEndsFrom (F.function f.now) (IsWanted wanted.now) inst (spread slots.now ends.now) }
     requires slots { AreSlots wanted.now slots.now (length ranges.old) }
     requires right { AreRight (F.function f.now) (spread slots.now ranges.old) }
@@ -109,7 +109,7 @@ pub fn begin_at_params<F: Function>(
 )
     requires ssa { IsSSA (F.function f.now) }
     requires block { block < length (F.function f.now).blocks }
-    requires room { HasRoom (F.function f.now) (length slots.now) }
+    requires room { CoversDefinitions (F.function f.now) (length slots.now) }
     requires ends { AreEndsFrom (F.function f.now) (IsWanted wanted.now) (block_at (F.function f.now) block).range.first (spread slots.now ends.now) }
     requires slots { AreSlots wanted.now slots.now (length ranges.old) }
     requires right { AreRight (F.function f.now) (spread slots.now ranges.old) }

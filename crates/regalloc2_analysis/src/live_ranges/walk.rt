@@ -2,7 +2,7 @@
 
 ghost use Rattle.std.specs.Prelude.{◌≡◌, ◌+◌, ◌-◌, ◌<◌, ◌≤◌, ◌↔◌, length, replicate, slice_index_or, IfErr, IfOk, IsTrue, None};
 ghost use Rattle.regalloc2_function.specs.FunctionValue.{block_at};
-ghost use Rattle.regalloc2_function.specs.TableLength.{HasRoom};
+ghost use Rattle.regalloc2_function.specs.TableLength.{CoversDefinitions};
 ghost use Rattle.regalloc2_analysis.specs.LiveRanges.LiveRanges.{AreLiveRanges, IsSSA, IsWanted};
 ghost use Rattle.regalloc2_analysis.specs.LiveRanges.Slots.{AreSlots, spread};
 ghost use Rattle.regalloc2_analysis.specs.LiveRanges.WalkInvariant.{AreRangesWalked, ListsAdding};
@@ -145,7 +145,7 @@ fn walk_blocks<F: Function>(
     listed: &[u32],
 )
     requires ssa { IsSSA (F.function f.now) }
-    requires room { HasRoom (F.function f.now) (length slots.now) }
+    requires room { CoversDefinitions (F.function f.now) (length slots.now) }
     requires slots { AreSlots wanted.now slots.now (length ends.old) }
     requires listed { ListsAdding (F.function f.now) (IsWanted wanted.now) listed.now (length listed.now) (length (F.function f.now).insts) }
     requires no_ends { ends.old ≡ replicate (length ends.old) None }

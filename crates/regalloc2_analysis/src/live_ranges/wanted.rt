@@ -2,7 +2,7 @@
 //! vregs, and the walk passes over instructions that name none of these.
 
 ghost use Rattle.std.specs.Prelude.{ℕ, ◌≡◌, ◌<◌, ◌↔◌, false, length, slice_index_or, IsTrue, IfOk};
-ghost use Rattle.regalloc2_function.specs.TableLength.{HasRoom};
+ghost use Rattle.regalloc2_function.specs.TableLength.{CoversDefinitions};
 ghost use Rattle.regalloc2_function.specs.MarkedNumbers.{Marks};
 ghost use Rattle.regalloc2_function.specs.FunctionValue.{op_at};
 ghost use Rattle.regalloc2_analysis.specs.LiveRanges.LiveRanges.{AreLabelsMarked, IsLabelled, IsWanted};
@@ -72,7 +72,7 @@ fn mark_labelled(wanted: &mut [bool], labels: &[(VReg, Inst, Inst, u32)])
 
 /// By number, whether a label names the vreg, for the numbers that the function defines.
 fn labelled<A: Allocator + Copy, F: Function>(alloc: A, f: &F) -> Result<Vec<bool, A>, AllocError>
-    ensures room { IfOk result (λ w. HasRoom (F.function f.now) (length w.items)) }
+    ensures room { IfOk result (λ w. CoversDefinitions (F.function f.now) (length w.items)) }
     ensures marks { IfOk result (λ w. (n : ℕ) → n < length w.items → IsWanted w.items n ↔ IsLabelled (F.function f.now) n) }
 {
     let vregs = table_length(f);

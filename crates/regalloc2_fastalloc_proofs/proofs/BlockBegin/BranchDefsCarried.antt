@@ -17,7 +17,7 @@ use Rattle.regalloc2_semantics.specs.Blocks.{target_at, StandsBefore, ComesIn}
 use Rattle.regalloc2_semantics.specs.Stores.{Store, store_moves, IsOneOf, Avoids}
 use Rattle.regalloc2_semantics.proofs.Cells.{cases_vreg}
 use Rattle.regalloc2_semantics.proofs.CarryRules.{carries_weaken}
-use Rattle.regalloc2_semantics.proofs.SingleDef.{DefinesAt, Made, one_made, one_operand, one_param, not_both}
+use Rattle.regalloc2_semantics.proofs.SingleDef.{IsDefOperand, Made, one_made, one_operand, one_param, not_both}
 use Rattle.regalloc2_semantics.proofs.SingleDef.Made.{by_operand}
 use Rattle.regalloc2_semantics.proofs.StoresInFront.{carries_stores, in_order}
 use Rattle.regalloc2_analysis.specs.BranchDefs.BranchDefs.{DefinesNumber, IsEdgeInto, IsUsedElsewhere, fixed_definition}
@@ -126,7 +126,7 @@ module _ (stored : StoredAtBegin) where
     Brought p = ((x : Store) × IsOneOf x s.stores × (x.to ≡ p) × (stand b v ≡ Some x.from)) ⊎ ((stand b v ≡ Some p) × ((t : Store) → IsOneOf t s.stores →
         Avoids t p))
 
-    at_last : (n j : ℕ) → DefinesNumber (branch_operands f e) n j → DefinesAt f n (last_of (block_at f e)) j
+    at_last : (n j : ℕ) → DefinesNumber (branch_operands f e) n j → IsDefOperand f n (last_of (block_at f e)) j
     at_last n j d = record { inst = lasts e edge.block; operand = d.operand; definition = d.definition; number = d.number }
 
     -- the vreg of an operand that defines v's number is v
@@ -161,7 +161,7 @@ module _ (stored : StoredAtBegin) where
         not_stored : IsAnyOrStack (op_at (branch_operands f e) j).constraint → (l : ℕ) → IsStoredFor f e k middle.slots l v → ⊥
         not_stored slot l (its_own st is) =
             let def : is_def (op_at (branch_operands f e) l).kind ≡ true = fixed_defines (op_at (branch_operands f e) l) st.fixed in
-            let x : DefinesAt f v.number (last_of (block_at f e)) l = record {
+            let x : IsDefOperand f v.number (last_of (block_at f e)) l = record {
               inst = lasts e edge.block;
               operand = st.operand;
               definition = def;

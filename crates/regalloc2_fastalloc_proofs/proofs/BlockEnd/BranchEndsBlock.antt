@@ -10,7 +10,7 @@ use Rattle.regalloc2_names.specs.Operand.{is_def, is_reading}
 use Rattle.regalloc2_semantics.specs.Listing.{Item}
 use Rattle.regalloc2_semantics.specs.Carry.{Carries}
 use Rattle.regalloc2_semantics.specs.BlockByPoints.{at_point, walked, listed}
-use Rattle.regalloc2_semantics.proofs.UnwrittenPlaces.{NoMoveTo, IsReadAt, Keeps, carries_kept_walked}
+use Rattle.regalloc2_semantics.proofs.UnwrittenPlaces.{NoMoveTo, IsReadInPlace, Keeps, carries_kept_walked}
 use Rattle.regalloc2_semantics.proofs.CarryRules.{carries_weaken}
 use Rattle.regalloc2_semantics.proofs.BlockBackward.{Relied}
 use Rattle.regalloc2_fastalloc_proofs.specs.InstSteps.{StateValue, AllocsInst, ends_block}
@@ -123,7 +123,7 @@ module _ (at_end : LastBranch) where
             (λ e is at. let x : e.0 ≡ before last = is.0 in omega (arith, x, at)) br.pushes))
             (none_below (InSlot n.0) (after last) (before (last + 1)) old.edits (omega arith) between.later);
         before_it = moved_or (IsUseMove last (inst_at f last).operands here) (InSlot n.0) (before last)
-            (IsReadAt (inst_at f last).operands (placesf last) v (InSlot n.0)) old.edits middle.edits
+            (IsReadInPlace (inst_at f last).operands (placesf last) v (InSlot n.0)) old.edits middle.edits
             (λ e is to. elim is.1 [
               | inl r ↦ (let x : InRegister r.0 ≡ InSlot n.0 = sym r.1 ∙ to in absurd cc)
               | inr j ↦ (j.0, j.1, j.2, reads_own h v known n.0 j.0 mine j.1 j.2 (sym to ∙ j.3), are_listed j.0 j.1 ∙ sym j.3 ∙ to)

@@ -9,7 +9,7 @@ use Rattle.regalloc2_function.specs.FunctionValue.{FunctionValue, block_at, op_a
 use Rattle.regalloc2_function.specs.OutputValue.{place_at}
 use Rattle.regalloc2_function.specs.SourceRun.{arguments_at}
 use Rattle.regalloc2_function.specs.WellFormed.{DefinedOnce, last_of}
-use Rattle.regalloc2_semantics.proofs.SingleDef.{DefinesAt, one_operand}
+use Rattle.regalloc2_semantics.proofs.SingleDef.{IsDefOperand, one_operand}
 use Rattle.regalloc2_analysis.specs.BranchDefs.BranchDefs.{DefinesNumber, IsUsedElsewhere, IsEdgeInto}
 use Rattle.regalloc2_fastalloc_proofs.specs.BranchSteps.{IsOwnDef}
 use Rattle.regalloc2_fastalloc_proofs.specs.StoreSteps.{branch_operands}
@@ -82,7 +82,7 @@ module _ (f : FunctionValue) (once : DefinedOnce f) (placesf : ℕ → List Plac
         let n : ℕ = (op_at (branch_operands f e) j).vreg.number in
         let t : F (op_at (branch_operands f e) k).vreg.number ≡ Some (InSlot s.0) = own_slot_of k lk dk s.0 (sym same ∙ s.1) in
         let number : (op_at (branch_operands f e) k).vreg.number ≡ n = own (op_at (branch_operands f e) k).vreg.number n s.0 t s.2 in
-        let x : DefinesAt f n (last_of (block_at f e)) j = record { inst = within; operand = lj; definition = dj; number = refl } in
-        let y : DefinesAt f n (last_of (block_at f e)) k = record { inst = within; operand = lk; definition = dk; number = number } in
+        let x : IsDefOperand f n (last_of (block_at f e)) j = record { inst = within; operand = lj; definition = dj; number = refl } in
+        let y : IsDefOperand f n (last_of (block_at f e)) k = record { inst = within; operand = lk; definition = dk; number = number } in
         (one_operand f once n (last_of (block_at f e)) (last_of (block_at f e)) j k x y).1)
   ]

@@ -20,7 +20,7 @@ use Rattle.regalloc2_semantics.specs.BlockByPoints.{at_point, walked, listed}
 use Rattle.regalloc2_semantics.specs.Blocks.{names, HasEdge, IsUnwritten, IsUsedIn, StandsAfter}
 use Rattle.regalloc2_semantics.proofs.CarryRules.{carries_weaken}
 use Rattle.regalloc2_semantics.proofs.UnwrittenPlaces.{unwritten_walked, untouched_walked}
-use Rattle.regalloc2_semantics.proofs.NotRead.{Unread, Silent, silent_walked, carries_silent}
+use Rattle.regalloc2_semantics.proofs.NotRead.{ReadsOthersOnly, Silent, silent_walked, carries_silent}
 use Rattle.regalloc2_semantics.proofs.Slots.{PassedTo, pass_arguments}
 use Rattle.regalloc2_semantics.proofs.BlockBackward.{Relied}
 use Rattle.regalloc2_fastalloc_state.specs.declared.inst_regs.InstRegs.{InstRegs}
@@ -127,7 +127,7 @@ pub record BlockBranch : Type 1 where
   pub known_params : (e j : ℕ) → HasEdge f b e → j < length (params_on f b e) → Known (argument_at (params_on f b e) j)
   pub classes : (e j : ℕ) → HasEdge f b e → j < length (params_on f b e) →
       (argument_at (arguments_at f b e) j).class ≡ (argument_at (params_on f b e) j).class
-  pub unread_params : (e : ℕ) (w : VirtualRegister) → HasEdge f b e → names w (params_on f b e) ≡ true → Unread (inst_at f last).operands w
+  pub unread_params : (e : ℕ) (w : VirtualRegister) → HasEdge f b e → names w (params_on f b e) ≡ true → ReadsOthersOnly (inst_at f last).operands w
   pub between : IsBetweenInsts (last + 1) old
   pub bare : IsOutside old
   pub a : AllocsInst last (inst_at f last) blank here old middle
@@ -350,7 +350,7 @@ module _ (branch : BlockBranch) where
         Carries v (with_moves moves L) (λ q. ⊥ ⊎ Slot q) (StandsAfter f (λ u. F u.number) b v)
     carries_param e edge named =
         let silent : Silent v L = silent_walked v (inst_at f) (at_point (listed p.gathered.edits)) placesf last 1
-        (λ j le lt. let same : last ≡ j = omega (arith, le, lt) in subst (λ k. Unread (inst_at f k).operands v) same (unread_params e v edge named)) in
+        (λ j le lt. let same : last ≡ j = omega (arith, le, lt) in subst (λ k. ReadsOthersOnly (inst_at f k).operands v) same (unread_params e v edge named)) in
         pass_arguments f (λ u. F u.number) b v moves L (λ q. ⊥) Slot (λ q. ⊥) (λ q h c. absurd h) moved (passed_untouched v) (unwritten v free)
         (λ q h. let x : names v (params_on f b e) ≡ false = h.0 e edge in cc) (carries_silent v L (λ q. ⊥) silent)
 

@@ -23,7 +23,7 @@ use Rattle.regalloc2_semantics.proofs.Cells.{is_vreg-true}
 use Rattle.regalloc2_semantics.proofs.CarryRules.{carries_weaken}
 use Rattle.regalloc2_semantics.proofs.BlockBackward.{Relied}
 use Rattle.regalloc2_semantics.proofs.Points.{at_point-none, all_from-less}
-use Rattle.regalloc2_semantics.proofs.SingleDef.{DefinesAt, Made, one_made, one_operand, one_param, not_both, reads_defined}
+use Rattle.regalloc2_semantics.proofs.SingleDef.{IsDefOperand, Made, one_made, one_operand, one_param, not_both, reads_defined}
 use Rattle.regalloc2_semantics.proofs.SingleDef.Made.{by_operand}
 use Rattle.regalloc2_semantics.proofs.Order.{ends_within, reads_later}
 use Rattle.regalloc2_analysis.specs.BranchDefs.BranchDefs.{DefinesNumber, IsEdgeInto}
@@ -77,7 +77,7 @@ module _ (env : MachineValue) (f : FunctionValue) (limited : IsLimited f) (ok : 
     last_lt : last_of (block_at f b) < length f.insts
     last_lt = (let h = ends_within f ok.follow b lb in let some = (ok.follow b lb).0 in omega (arith, h, some))
 
-    defines_last : (n j : ℕ) → DefinesNumber (branch_operands f b) n j → DefinesAt f n (last_of (block_at f b)) j
+    defines_last : (n j : ℕ) → DefinesNumber (branch_operands f b) n j → IsDefOperand f n (last_of (block_at f b)) j
     defines_last n j d = record { inst = last_lt; operand = d.operand; definition = d.definition; number = d.number }
 
     -- no branch defines a parameter
@@ -208,7 +208,7 @@ module _ (env : MachineValue) (f : FunctionValue) (limited : IsLimited f) (ok : 
         own_carries j d =
             let named : (op_at (inst_at f last).operands j).vreg ≡ v = one_made f ok.defined_once (op_at (inst_at f last).operands j).vreg v
             (by_operand last j (record { inst = within; operand = d.operand; definition = d.definition; number = refl }) refl) made d.number in
-            let mine : DefinesAt f v.number last j = defines_last b lb v.number j d in
+            let mine : IsDefOperand f v.number last j = defines_last b lb v.number j d in
             carries_weaken v L (λ p. ⊥) On (λ p. p ≡ left_at f placesf b j) (GoesOut f stand b v) (λ p h. absurd h)
             (own_out b lb placesf (slots_at final) stand arrive branch v (decide v used) j d)
             (made_walked v (inst_at f) (at_point (listed new.edits)) placesf last (left_at f placesf b j) (record {
@@ -219,7 +219,7 @@ module _ (env : MachineValue) (f : FunctionValue) (limited : IsLimited f) (ok : 
               place_is = refl;
               is_there = left_there f ok.defined_once placesf (slots_at final) e.own b within (placed b lb branch) j d.operand d.definition;
               last_of_vreg = λ k lk later def is.
-                  let x : DefinesAt f v.number last k = record {
+                  let x : IsDefOperand f v.number last k = record {
                     inst = within;
                     operand = lk;
                     definition = def;

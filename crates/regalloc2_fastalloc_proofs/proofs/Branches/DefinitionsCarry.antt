@@ -14,11 +14,11 @@ use Rattle.regalloc2_semantics.specs.BlockByPoints.{walked}
 use Rattle.regalloc2_semantics.proofs.CarryRules.{carries_nil, carries_moves, carries_exec}
 use Rattle.regalloc2_semantics.proofs.ListingParts.{walked-one}
 use Rattle.regalloc2_semantics.proofs.MoveInFront.{with_moves-none}
-use Rattle.regalloc2_semantics.proofs.NotRead.{Unread}
+use Rattle.regalloc2_semantics.proofs.NotRead.{ReadsOthersOnly}
 
 -- an instruction that defines v in a place, and doesn't read it
 pub made_carries : (v : VirtualRegister) (ms : List MoveValue) (ops : List OperandValue) (places : List Place) (clobbers : PRegSet) (q : Place) →
-    DefinesVRegAt ops places clobbers q v → Unread ops v → Carries v (with_moves ms (Exec ops places clobbers ∷ [])) (λ p. ⊥) (λ p. p ≡ q)
+    DefinesVRegAt ops places clobbers q v → ReadsOthersOnly ops v → Carries v (with_moves ms (Exec ops places clobbers ∷ [])) (λ p. ⊥) (λ p. p ≡ q)
 made_carries v ms ops places clobbers q makes unread =
     carries_moves v ms (Exec ops places clobbers ∷ []) (λ p. ⊥) (λ p. ⊥) (λ p. p ≡ q) (λ s c holds p h. absurd h)
     (carries_exec v ops places clobbers [] (λ p. p ≡ q) (λ p. ⊥) (λ p. p ≡ q)
@@ -29,7 +29,7 @@ made_carries v ms ops places clobbers q makes unread =
 
 -- a definition carries from nowhere to its place over an instruction after which no move is listed
 pub made_walked : (v : VirtualRegister) (insts : ℕ → InstValue) (at : ℕ → List MoveValue) (placesf : ℕ → List Place) (i : ℕ) (q : Place) →
-    DefinesVRegAt (insts i).operands (placesf i) (insts i).clobbers q v → Unread (insts i).operands v → at (after i) ≡ [] →
+    DefinesVRegAt (insts i).operands (placesf i) (insts i).clobbers q v → ReadsOthersOnly (insts i).operands v → at (after i) ≡ [] →
     Carries v (walked insts at placesf i 1) (λ p. ⊥) (λ p. p ≡ q)
 made_walked v insts at placesf i q makes unread quiet =
     let item : Item = exec_item (insts i) (placesf i) in

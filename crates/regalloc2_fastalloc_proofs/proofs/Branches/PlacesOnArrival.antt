@@ -15,7 +15,7 @@ use Rattle.regalloc2_function.specs.SourceRun.{arguments_at}
 use Rattle.regalloc2_function.specs.WellFormed.{IsWellFormed, last_of}
 use Rattle.regalloc2_semantics.specs.Blocks.{IsUsed, target_at}
 use Rattle.regalloc2_semantics.specs.Live.{IsLive, read_there, passed_there, later}
-use Rattle.regalloc2_semantics.proofs.SingleDef.{DefinesAt, not_both, one_operand, one_param}
+use Rattle.regalloc2_semantics.proofs.SingleDef.{IsDefOperand, not_both, one_operand, one_param}
 use Rattle.regalloc2_analysis.specs.BranchDefs.BranchDefs.{DefinesNumber, EndsInDefinitions, IsEdgeInto, IsUsedElsewhere}
 use Rattle.regalloc2_analysis.proofs.BranchDefsLemmas.UsedOrNot.{Decided, below, both, is_so, same_vreg, by_pass, by_read, used_or_not}
 use Rattle.regalloc2_fastalloc_proofs.specs.BranchSteps.{IsOwnDef}
@@ -191,7 +191,7 @@ module _ (env : MachineValue) (f : FunctionValue) (ok : IsWellFormed env f) wher
   stand_on placesf F b v = place_on f placesf F b v (arrival b v)
 
   -- a branch defines no parameter
-  defined_here : (e n j : ℕ) → e < length f.blocks → DefinesNumber (branch_operands f e) n j → DefinesAt f n (last_of (block_at f e)) j
+  defined_here : (e n j : ℕ) → e < length f.blocks → DefinesNumber (branch_operands f e) n j → IsDefOperand f n (last_of (block_at f e)) j
   defined_here e n j le d = record { inst = last_within f ok.follow e le; operand = d.operand; definition = d.definition; number = d.number }
 
   target_small : (b e k : ℕ) → IsEdgeInto f b e k → b < length f.blocks

@@ -9,7 +9,7 @@ use Rattle.regalloc2_function.specs.FunctionValue.{FunctionValue, block_at, inst
 use Rattle.regalloc2_function.specs.WellFormed.{ways_into, last_of, PredecessorsAgree, NoOperandsIntoJoins, ArgumentsCounted, ArgumentsFit}
 use Rattle.regalloc2_function.specs.SourceRun.{arguments_at}
 use Rattle.regalloc2_semantics.specs.Blocks.{names, HasEdge, target_at, ExcusedAreSilent}
-use Rattle.regalloc2_semantics.proofs.NotRead.{Unread}
+use Rattle.regalloc2_semantics.proofs.NotRead.{ReadsOthersOnly}
 use Rattle.regalloc2_semantics.proofs.Soundness.{entered_once}
 use Rattle.regalloc2_fastalloc_proofs.proofs.Branches.EdgeArgsGathered.{argument_at, params_on}
 
@@ -18,7 +18,7 @@ few_or_more zero = inl (omega arith)
 few_or_more (suc zero) = inl (omega arith)
 few_or_more (suc (suc n)) = inr (omega arith)
 
-unread_none : (ops : List OperandValue) (v : VirtualRegister) → ops ≡ [] → Unread ops v
+unread_none : (ops : List OperandValue) (v : VirtualRegister) → ops ≡ [] → ReadsOthersOnly ops v
 unread_none ops v none j lt reads is = (let n : length ops ≡ 0 = ap length none in omega (arith, lt, n))
 
 -- the last instruction of a block doesn't read the parameters of its successors: the branches into a block with several edges have no operands and
@@ -26,7 +26,7 @@ unread_none ops v none j lt reads is = (let n : length ops ≡ 0 = ap length non
 pub unread_parameters : (f : FunctionValue) (b last : ℕ) → PredecessorsAgree f → NoOperandsIntoJoins f → ExcusedAreSilent f b → b < length f.blocks →
     ((e : ℕ) → HasEdge f b e → target_at f b e < length f.blocks)
     → (block_at f b).range.first ≤ last → last + 1 ≡ (block_at f b).range.end → (e : ℕ) (w : VirtualRegister) → HasEdge f b e →
-    names w (params_on f b e) ≡ true → Unread (inst_at f last).operands w
+    names w (params_on f b e) ≡ true → ReadsOthersOnly (inst_at f last).operands w
 unread_parameters f b last agree joins silent within targets first end e w edge named = elim (few_or_more (ways_into f (target_at f b e))) [
   | inl few ↦ (λ j lt reads is. (silent w (e, edge, entered_once f agree b e edge (targets e edge) few, named)).0
       (last, j, first, omega (arith, end), lt, reads, is))

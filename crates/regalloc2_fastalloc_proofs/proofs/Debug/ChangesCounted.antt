@@ -12,7 +12,7 @@ use Rattle.regalloc2_function.specs.Machine.{MachineValue}
 use Rattle.regalloc2_function.specs.WellFormed.{IsWellFormed}
 use Rattle.regalloc2_analysis.specs.LiveRanges.LiveRanges.{IsWanted}
 use Rattle.regalloc2_analysis.specs.LiveRanges.WalkInvariant.{AddsNothing}
-use Rattle.regalloc2_analysis.proofs.LiveRangesLemmas.UsesInSSA.{defines_number}
+use Rattle.regalloc2_analysis.proofs.LiveRangesLemmas.UsesInSSA.{IsDefOperand-from_DefinesAt}
 use Rattle.regalloc2_semantics.proofs.Operands.{reads_use}
 use Rattle.regalloc2_fastalloc_state.specs.StateParts.{VRegAllocsValue, SetsAlloc, alloc_of, count_after}
 use Rattle.regalloc2_fastalloc_state.specs.declared.inst_regs.InstRegs.{InstRegs}
@@ -323,7 +323,7 @@ module _ (f : FunctionValue) (b i : ℕ) (before_it places : List Place) (old ne
       new.places.changes ≡ old.places.changes → old.places.changes < 2 ^ 64 - 1 → AddsNothing f (IsWanted old.places.watched) i
   unchanged_adds_nothing limited env ok inside used same few = record {
     defines = λ v asked d.
-        let n = defines_number f v i d in
+        let n = IsDefOperand-from_DefinesAt f v i d in
         not_up (inst_def d.1.0 n.operand n.definition ((orderly env f limited ok i inside).allocated d.1.0 n.operand n.definition)
         (ap (λ (x : ℕ). slice_index_or old.places.watched x false) n.number ∙ asked));
     reads = λ n at k asked r unused.

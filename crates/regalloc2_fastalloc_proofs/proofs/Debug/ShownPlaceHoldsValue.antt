@@ -23,7 +23,7 @@ use Rattle.regalloc2_semantics.proofs.Order.{ends_within, reads_later}
 use Rattle.regalloc2_semantics.proofs.Soundness.{well_formed_are_sound}
 use Rattle.regalloc2_analysis.specs.declared.live_ranges.InstOperand.{InstOperand}
 use Rattle.regalloc2_analysis.specs.LiveRanges.LiveRanges.{IsReader, IsShownBy}
-use Rattle.regalloc2_analysis.proofs.LiveRangesLemmas.UsesInSSA.{defines_number}
+use Rattle.regalloc2_analysis.proofs.LiveRangesLemmas.UsesInSSA.{IsDefOperand-from_DefinesAt}
 use Rattle.regalloc2_analysis.specs.LiveRanges.LiveRanges.IsShownBy.{by_late_use, by_early_use, by_argument, by_definition}
 use Rattle.regalloc2_fastalloc_state.specs.StateParts.{SlotsHaveOneOwner, IsSlotOrNone, slot_name}
 use Rattle.regalloc2_fastalloc_proofs.proofs.Walk.BlocksCarryFromFreshState.{at_walks_end, used_slots, passed_slots}
@@ -105,7 +105,7 @@ module _ (walk : WholeWalk) (m : IsOutputOfWalk walk.f walk.env (Made walk.f) (M
       -- a later branch doesn't define it
       other : (b : ℕ) → il < last_of (block_at f b) → DefinesAt f v (last_of (block_at f b)) → ⊥
       other b behind x =
-          let one = one_operand f ok.defined_once v.number id (last_of (block_at f b)) d x.1.0 at (defines_number f v (last_of (block_at f b)) x) in
+          let one = one_operand f ok.defined_once v.number id (last_of (block_at f b)) d x.1.0 at (IsDefOperand-from_DefinesAt f v (last_of (block_at f b)) x) in
           let early = sooner in
           omega (arith, behind, early, one.0)
 

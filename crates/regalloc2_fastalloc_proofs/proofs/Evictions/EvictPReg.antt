@@ -14,7 +14,7 @@ use Rattle.regalloc2_semantics.specs.Listing.Item.{Move}
 use Rattle.regalloc2_semantics.specs.BlockByPoints.{after_part, listed}
 use Rattle.regalloc2_semantics.specs.Instruction.{Claims}
 use Rattle.regalloc2_semantics.specs.OperandsPlaced.{What, Progress, Need, located, in_slot, made, Held}
-use Rattle.regalloc2_semantics.proofs.NeedsAcrossMoves.{need_slot, claims_through}
+use Rattle.regalloc2_semantics.proofs.NeedsAcrossMoves.{need_slot, claims_by_two_moves}
 use Rattle.regalloc2_fastalloc_state.specs.declared.inst_regs.InstRegs.{InstRegs}
 use Rattle.regalloc2_fastalloc_proofs.specs.InstSteps.{StateValue, is_stack_in, moved, direct, through, EvictsPReg, empty, cleared, EvictsOtherVRegs, own}
 use Rattle.regalloc2_fastalloc_proofs.specs.InstSteps.{others, a_move}
@@ -81,7 +81,7 @@ module _ (tail : BlockTail) where
       ⊥ = λ x q e. slot_no_register t.slots.count (slot_in t x) q (st.whole.below x) (opt_from (slot_in t x) (InRegister q) e) in
       let moves : Claims Known (Move (record { from = s; to = InRegister by }) ∷ (Move (record { from = InRegister by; to = InRegister r }) ∷ L))
       (Need far.lived far.out far.made_at (stands_at t) (slots_at t)) E =
-      claims_through Known E L (Need far.lived far.out far.made_at T (slots_at t)) (Need far.lived far.out far.made_at (stands_at t) (slots_at t)) s
+      claims_by_two_moves Known E L (Need far.lived far.out far.made_at T (slots_at t)) (Need far.lived far.out far.made_at (stands_at t) (slots_at t)) s
       (InRegister by) (InRegister r) (λ z. cc)
       (λ z. cc)
       (λ x z. elim z [

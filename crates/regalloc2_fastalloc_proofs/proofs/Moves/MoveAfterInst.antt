@@ -15,7 +15,7 @@ use Rattle.regalloc2_semantics.specs.Listing.Item.{Move}
 use Rattle.regalloc2_semantics.specs.Instruction.{Claims}
 use Rattle.regalloc2_semantics.specs.BlockByPoints.{after_part, listed}
 use Rattle.regalloc2_semantics.specs.OperandsPlaced.{what_of, Progress, Held, Counts, Need, located, in_slot, made}
-use Rattle.regalloc2_semantics.proofs.NeedsAcrossMoves.{claims_move, claims_through}
+use Rattle.regalloc2_semantics.proofs.NeedsAcrossMoves.{claims_move, claims_by_two_moves}
 use Rattle.regalloc2_semantics.proofs.PushedMoves.{after_part-more}
 use Rattle.regalloc2_fastalloc_state.specs.declared.inst_regs.InstRegs.{InstRegs}
 use Rattle.regalloc2_fastalloc_proofs.specs.InstSteps.{StateValue, AddsMove, direct, through, is_stack_in, a_move}
@@ -166,7 +166,7 @@ module _ (tail : BlockTail) where
         | made g ↦ (let y = sb.idle.clear x in cc)
       ] in
       let claims : Claims Known (Move (record { from = from; to = InRegister by }) ∷ (Move (record { from = InRegister by; to = to }) ∷ L)) M E =
-      claims_through Known E L N M from (InRegister by) to (λ z. cc) there nobody mv.moved mv.others sb.owes.claims in
+      claims_by_two_moves Known E L N M from (InRegister by) to (λ z. cc) there nobody mv.moved mv.others sb.owes.claims in
       let less : Less t u = allocs_scratch_reg_less (after i) class t u by old m scratches in
       let sent : Sent ops far need2 ends_block u old (record m { edits = es }) = record {
         steady = steady_push ops far ends_block u m es sb.located sb.held

@@ -20,7 +20,7 @@ use Rattle.regalloc2_semantics.proofs.Cells.{is_place-true}
 use Rattle.regalloc2_semantics.proofs.PushedMoves.{before_part-more}
 use Rattle.regalloc2_semantics.proofs.SharedPlace.{share_uses}
 use Rattle.regalloc2_semantics.proofs.Operands.{reads_use}
-use Rattle.regalloc2_semantics.proofs.NeedsAcrossMoves.{pend_move, pend_through, pend_stay, pend_pass, pend_evict, pend_slot}
+use Rattle.regalloc2_semantics.proofs.NeedsAcrossMoves.{pend_move, pending_by_two_moves, pend_stay, pend_pass, pend_evict, pend_slot}
 use Rattle.regalloc2_semantics.proofs.BoundaryToBoundary.{FreeAt, scratch_idle}
 use Rattle.regalloc2_fastalloc_state.specs.declared.inst_regs.InstRegs.{InstRegs}
 use Rattle.regalloc2_function.specs.FunctionValue.{op_at}
@@ -241,7 +241,7 @@ module _ (tail : BlockTail) (item : Item) where
       let L : List Item = before_part insts (listed m2.edits) placesf i n item in
       let c : Claims Known (Move (record { from = q; to = InRegister by }) ∷ (Move (record { from = InRegister by; to = far.here k }) ∷ L))
       (Pending what far.here far.done far.out (stands_at m2) (slots_at m2) (k + 1)) E =
-      pend_through what far (stands_at m2) (slots_at m2) k q
+      pending_by_two_moves what far (stands_at m2) (slots_at m2) k q
       (record { there = f.there; is_use = us; was_located = still_there; alone = f.alone; own = f.own; apart = f.apart }) (InRegister by) Known E L (λ z. cc)
       (λ x z. elim z [
         | still e ↦ s.idle.no_allocs x (opt_from (place_in m2 x) (InRegister by) e)

@@ -8,7 +8,7 @@ use Rattle.regalloc2_names.specs.RegisterSet.{has_register}
 use Rattle.regalloc2_names.specs.Operand.{OperandValue}
 use Rattle.regalloc2_names.specs.Place.{Place, NoPlace, InRegister, InSlot}
 use Rattle.regalloc2_semantics.specs.OperandsPlaced.{what_of, Counts, Progress, Puts}
-use Rattle.regalloc2_semantics.proofs.BoundaryToBoundary.{Covers, Holds as Keeps, held_more}
+use Rattle.regalloc2_semantics.proofs.BoundaryToBoundary.{Covers, IsHeldAsAsked as Keeps, held_more}
 use Rattle.regalloc2_semantics.proofs.Cells.{is_register-same}
 use Rattle.regalloc2_fastalloc_state.specs.declared.inst_regs.InstRegs.{InstRegs}
 use Rattle.regalloc2_fastalloc_state.specs.declared.positions.Positions.{Positions}

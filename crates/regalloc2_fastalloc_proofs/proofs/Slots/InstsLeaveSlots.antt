@@ -11,7 +11,7 @@ use Rattle.regalloc2_function.specs.OutputValue.{place_at}
 use Rattle.regalloc2_names.specs.Operand.{is_def}
 use Rattle.regalloc2_function.specs.WellFormed.{BlocksFollow, last_of}
 use Rattle.regalloc2_semantics.specs.BlockByPoints.{at_point, listed}
-use Rattle.regalloc2_semantics.proofs.UnwrittenPlaces.{IsReadAt, Keeps}
+use Rattle.regalloc2_semantics.proofs.UnwrittenPlaces.{IsReadInPlace, Keeps}
 use Rattle.regalloc2_semantics.proofs.Order.{ends_before, ends_within}
 use Rattle.regalloc2_fastalloc_state.specs.StateParts.{slot_name}
 use Rattle.regalloc2_fastalloc_proofs.specs.InstSteps.{StateValue}
@@ -29,7 +29,7 @@ use Rattle.regalloc2_fastalloc_proofs.proofs.Walk.FunctionLaws.{PlacedCode}
 
 -- The slots that may be written around an instruction: before it the slots in which it reads a vreg, after it the slots of the vregs that it defines.
 pub record WritesSound (f : FunctionValue) (placesf : ℕ → List Place) (Writes : ℕ → VirtualRegister → ℕ → Type 0) (i : ℕ) : Type 0 where
-  pub sooner : (v : VirtualRegister) (n : ℕ) → Writes (before i) v n → IsReadAt (inst_at f i).operands (placesf i) v (InSlot n)
+  pub sooner : (v : VirtualRegister) (n : ℕ) → Writes (before i) v n → IsReadInPlace (inst_at f i).operands (placesf i) v (InSlot n)
   pub later : (v : VirtualRegister) (n : ℕ) → Writes (after i) v n → (k : ℕ) × (k < length (inst_at f i).operands)
       × (is_def (op_at (inst_at f i).operands k).kind ≡ true) × ((op_at (inst_at f i).operands k).vreg ≡ v)
 
@@ -44,8 +44,8 @@ writes_sound f placesf places are_listed i plain = record {
       | inr r ↦ (
           let e : before i ≡ before o.0 = r.0 in
           let same : o.0 ≡ i = omega (arith, e) in
-          let read : IsReadAt (inst_at f o.0).operands (placesf o.0) v (InSlot n) = (o.1, o.3, r.1, o.4, are_listed o.0 (omega arith) o.2 o.1 o.3 ∙ r.2) in
-          subst (λ (j : ℕ). IsReadAt (inst_at f j).operands (placesf j) v (InSlot n)) same read)
+          let read : IsReadInPlace (inst_at f o.0).operands (placesf o.0) v (InSlot n) = (o.1, o.3, r.1, o.4, are_listed o.0 (omega arith) o.2 o.1 o.3 ∙ r.2) in
+          subst (λ (j : ℕ). IsReadInPlace (inst_at f j).operands (placesf j) v (InSlot n)) same read)
     ]
   ];
   later = λ v n w. elim w [
@@ -135,7 +135,7 @@ module _ (env : MachineValue) (code : PlacedCode) (final : StateValue) (Writes :
               | inl none ↦ none
               | inr r ↦ absurd r
             ];
-        before_it = no_move_or (InSlot n) (before i) (listed u.edits) (IsReadAt (inst_at f i).operands (placesf i) v (InSlot n))
+        before_it = no_move_or (InSlot n) (before i) (listed u.edits) (IsReadInPlace (inst_at f i).operands (placesf i) v (InSlot n))
             (λ k d few at to. (sound b i lb ge less).sooner v n (subst (λ q. Writes b q v n) at (so_far k d few to)));
       }
 

@@ -20,7 +20,7 @@ use Rattle.regalloc2_function.specs.Machine.{MachineValue}
 use Rattle.regalloc2_function.specs.SourceRun.{arguments_at}
 use Rattle.regalloc2_function.specs.WellFormed.{IsWellFormed, last_of}
 use Rattle.regalloc2_semantics.specs.Blocks.{HasEdge, target_at}
-use Rattle.regalloc2_semantics.proofs.SingleDef.{DefinesAt, MadeBefore, by_earlier, by_param, made_before, one_operand, reads_defined}
+use Rattle.regalloc2_semantics.proofs.SingleDef.{IsDefOperand, MadeBefore, by_earlier, by_param, made_before, one_operand, reads_defined}
 use Rattle.regalloc2_semantics.proofs.Soundness.{well_formed_are_sound}
 use Rattle.regalloc2_analysis.specs.BranchDefs.BranchDefs.{IsEdgeInto, fixed_definition}
 use Rattle.regalloc2_analysis.proofs.BranchDefsLemmas.BlockEnds.{last_within}
@@ -225,12 +225,12 @@ reads_reg o e reg = rw (e, reg) refl
 -- in a function of one block that requires only registers, each use reads what an earlier instruction defines
 pub defined_earlier : (f : FunctionValue) (env : MachineValue) (names : List VirtualRegister) → IsWellFormed env f → HasRegOperandsOnly names f → (i k : ℕ) →
     i < length f.insts → k < length (inst_at f i).operands → is_def (op_at (inst_at f i).operands k).kind ≡ false
-    → (j l : ℕ) × (j < i) × DefinesAt f (op_at (inst_at f i).operands k).vreg.number j l
+    → (j l : ℕ) × (j < i) × IsDefOperand f (op_at (inst_at f i).operands k).vreg.number j l
 defined_earlier f env names well asks i k lt less e =
     by (made_before f (op_at (inst_at f i).operands k).vreg i lt (reads_defined f (omega (arith, asks.one_block)) well.follow well.uses_defined i lt k less
     (reads_reg (op_at (inst_at f i).operands k) e (asks.under_reg i k lt less))))
   where
-    by : MadeBefore f (op_at (inst_at f i).operands k).vreg i → (j l : ℕ) × (j < i) × DefinesAt f (op_at (inst_at f i).operands k).vreg.number j l
+    by : MadeBefore f (op_at (inst_at f i).operands k).vreg i → (j l : ℕ) × (j < i) × IsDefOperand f (op_at (inst_at f i).operands k).vreg.number j l
     by (by_earlier j l before_it at same) = (j, l, before_it, at)
     by (by_param b l at same) =
         let zero_block : b ≡ 0 = omega (arith, at.block, asks.one_block) in
@@ -252,20 +252,20 @@ plain_at f env names i t well asks lt h late = record {
 }
   where
     earlier : (k : ℕ) → k < length (inst_at f i).operands → is_def (op_at (inst_at f i).operands k).kind ≡ false → (j l : ℕ) × (j < i)
-        × DefinesAt f (op_at (inst_at f i).operands k).vreg.number j l
+        × IsDefOperand f (op_at (inst_at f i).operands k).vreg.number j l
     earlier k less e = defined_earlier f env names well asks i k lt less e
 
     defined_at : (j k : ℕ) → j < length f.insts → k < length (inst_at f j).operands → is_def (op_at (inst_at f j).operands k).kind ≡ true →
-        DefinesAt f (op_at (inst_at f j).operands k).vreg.number j k
+        IsDefOperand f (op_at (inst_at f j).operands k).vreg.number j k
     defined_at j k a b c = record { inst = a; operand = b; definition = c; number = refl }
 
-    at_number : (n m j k : ℕ) → n ≡ m → DefinesAt f n j k → DefinesAt f m j k
-    at_number n m j k e x = subst (λ (y : ℕ). DefinesAt f y j k) e x
+    at_number : (n m j k : ℕ) → n ≡ m → IsDefOperand f n j k → IsDefOperand f m j k
+    at_number n m j k e x = subst (λ (y : ℕ). IsDefOperand f y j k) e x
 
     not_behind : (k : ℕ) → k < length (inst_at f i).operands → (j : ℕ) → i + 1 ≤ j → j < length f.insts →
         IsDefinedByOperand (inst_at f j).operands (op_at (inst_at f i).operands k).vreg.number → ⊥
     not_behind k less j past inside x =
-        let there : DefinesAt f (op_at (inst_at f i).operands k).vreg.number j x.0 = at_number (op_at (inst_at f j).operands x.0).vreg.number
+        let there : IsDefOperand f (op_at (inst_at f i).operands k).vreg.number j x.0 = at_number (op_at (inst_at f j).operands x.0).vreg.number
         (op_at (inst_at f i).operands k).vreg.number j x.0 x.3 (defined_at j x.0 inside x.1 x.2) in
         elim (cases_Bool (is_def (op_at (inst_at f i).operands k).kind)) [
           | inl def ↦ (let one = one_operand f well.defined_once (op_at (inst_at f i).operands k).vreg.number i j k x.0 (defined_at i k lt less def) there in
@@ -277,7 +277,7 @@ plain_at f env names i t well asks lt h late = record {
     apart : (j k : ℕ) → j < length (inst_at f i).operands → k < length (inst_at f i).operands → is_def (op_at (inst_at f i).operands j).kind ≡ true →
         (op_at (inst_at f i).operands j).vreg.number ≡ (op_at (inst_at f i).operands k).vreg.number → j ≡ k
     apart j k less more def same =
-        let there : DefinesAt f (op_at (inst_at f i).operands k).vreg.number i j = at_number (op_at (inst_at f i).operands j).vreg.number
+        let there : IsDefOperand f (op_at (inst_at f i).operands k).vreg.number i j = at_number (op_at (inst_at f i).operands j).vreg.number
         (op_at (inst_at f i).operands k).vreg.number i j same (defined_at i j lt less def) in
         elim (cases_Bool (is_def (op_at (inst_at f i).operands k).kind)) [
           | inl other ↦ (one_operand f well.defined_once (op_at (inst_at f i).operands k).vreg.number i i j k there (defined_at i k lt more other)).1

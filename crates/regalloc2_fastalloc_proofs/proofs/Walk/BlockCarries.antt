@@ -14,7 +14,7 @@ use Rattle.regalloc2_semantics.proofs.BlockBackward.{Relied}
 use Rattle.regalloc2_semantics.proofs.SingleDef.{Made, ReadsDefined, reads_defined, one_made, not_both}
 use Rattle.regalloc2_semantics.proofs.SingleDef.Made.{by_operand}
 use Rattle.regalloc2_semantics.proofs.CarryRules.{carries_weaken, carries_moves}
-use Rattle.regalloc2_semantics.proofs.NotRead.{Unread, silent_walked, carries_silent}
+use Rattle.regalloc2_semantics.proofs.NotRead.{ReadsOthersOnly, silent_walked, carries_silent}
 use Rattle.regalloc2_semantics.specs.Listing.{Item}
 use Rattle.regalloc2_semantics.specs.Stores.{store_moves}
 use Rattle.regalloc2_function.specs.DebugPoints.{UsesAt}
@@ -295,7 +295,7 @@ module _ (carrying : CarryingContext) where
               number = refl;
             }) refl) made d.1.number)
 
-        unread : (i : ℕ) → i < length f.insts → Unread (inst_at f i).operands v
+        unread : (i : ℕ) → i < length f.insts → ReadsOthersOnly (inst_at f i).operands v
         unread i lt j less reads is = un.5 (i, by_position (op_at (inst_at f i).operands j).position refl)
           where
             by_position : (q : OperandPos) → (op_at (inst_at f i).operands j).position ≡ q → UsesAt f v i

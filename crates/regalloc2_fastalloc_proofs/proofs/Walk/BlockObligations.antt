@@ -11,9 +11,9 @@ use Rattle.regalloc2_semantics.specs.Carry.{Carries}
 use Rattle.regalloc2_semantics.specs.BlockByPoints.{at_point, walked, listed}
 use Rattle.regalloc2_semantics.specs.Blocks.{IsUnwritten, StandsBefore}
 use Rattle.regalloc2_semantics.proofs.CarryRules.{carries_weaken}
-use Rattle.regalloc2_semantics.proofs.NotRead.{Unread}
+use Rattle.regalloc2_semantics.proofs.NotRead.{ReadsOthersOnly}
 use Rattle.regalloc2_semantics.proofs.BlockBackward.{Relied}
-use Rattle.regalloc2_semantics.proofs.SingleDef.{DefinesAt, ReadsDefined}
+use Rattle.regalloc2_semantics.proofs.SingleDef.{IsDefOperand, ReadsDefined}
 use Rattle.regalloc2_semantics.proofs.Order.{reads_later}
 use Rattle.regalloc2_fastalloc_proofs.specs.InstSteps.{StateValue, ends_block}
 use Rattle.regalloc2_fastalloc_proofs.specs.BlockStart.{ReloadsAtBegin}
@@ -48,12 +48,12 @@ defined_from-none f x i (suc n) h j le lt =
     ]
 
 -- what defines a number
-pub defines_at : (f : FunctionValue) (x i : ℕ) → i < length f.insts → defined_by (inst_at f i).operands x ≡ true → (k : ℕ) × DefinesAt f x i k
+pub defines_at : (f : FunctionValue) (x i : ℕ) → i < length f.insts → defined_by (inst_at f i).operands x ≡ true → (k : ℕ) × IsDefOperand f x i k
 defines_at f x i lt h = let d = defined_by-some (inst_at f i).operands x h in (d.0, record { inst = lt; operand = d.1; definition = d.2; number = d.3 })
 
 -- before its definition nothing reads a vreg
 pub unread_before : (f : FunctionValue) → DefinedOnce f → (v : VirtualRegister) (i n : ℕ) → i < length f.insts → i + 1 + n ≤ length f.insts → ReadsDefined f i →
-    defined_from f v.number (i + 1) n ≡ true → Unread (inst_at f i).operands v
+    defined_from f v.number (i + 1) n ≡ true → ReadsOthersOnly (inst_at f i).operands v
 unread_before f once v i n lt within reads h j less read is =
     let d = defined_from-some f v.number (i + 1) n h in
     let a = defines_at f v.number d.0 (omega (arith, d.2)) d.3 in

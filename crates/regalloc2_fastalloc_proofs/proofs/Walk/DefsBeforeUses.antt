@@ -10,7 +10,7 @@ use Rattle.regalloc2_names.specs.Operand.{OperandValue, is_def}
 use Rattle.regalloc2_names.specs.Point.{before, after}
 use Rattle.regalloc2_function.specs.WellFormed.{BlocksFollow, BlocksEnd, DefinedOnce, IsDefinedBy, UsesAreDefined, last_of}
 use Rattle.regalloc2_semantics.specs.Blocks.{IsUsedIn, IsUnwritten, IsUsed}
-use Rattle.regalloc2_semantics.proofs.SingleDef.{Made, DefinesAt, TakesAt, one_made, one_operand, one_param, not_both, reads_defined, made_before, is_made}
+use Rattle.regalloc2_semantics.proofs.SingleDef.{Made, IsDefOperand, TakesAt, one_made, one_operand, one_param, not_both, reads_defined, made_before, is_made}
 use Rattle.regalloc2_semantics.proofs.Order.{ends_before, ends_within, stands_later, reads_later, passes_later, passed_made}
 use Rattle.regalloc2_fastalloc_proofs.specs.InstSteps.{StateValue}
 use Rattle.regalloc2_fastalloc_proofs.specs.BlockSteps.{AllocsBlocks}
@@ -34,7 +34,7 @@ used_at f follow ends c v lc (inr p) =
 
 module _ (f : FunctionValue) (once : DefinedOnce f) (follow : BlocksFollow f) (uses : UsesAreDefined f) where
   -- a use is after the definition, or at the branch that defines and passes the vreg
-  use_later : (v : VirtualRegister) (i k : ℕ) → DefinesAt f v.number i k → (c : ℕ) → c < length f.blocks → IsUsedIn f c v → (l : ℕ) × (i ≤ l)
+  use_later : (v : VirtualRegister) (i k : ℕ) → IsDefOperand f v.number i k → (c : ℕ) → c < length f.blocks → IsUsedIn f c v → (l : ℕ) × (i ≤ l)
       × ((block_at f c).range.first ≤ l) × (l < (block_at f c).range.end)
   use_later v i k d c lc (inl r) =
       let within = ends_within f follow c lc in
@@ -63,7 +63,7 @@ module _ (laws : FunctionLaws) (b : ℕ) (lb : b < length laws.f.blocks) (v : Vi
   open laws.proper use {knows}
 
   -- the instruction or block that writes it
-  writer : (i k : ℕ) × ((block_at f b).range.first ≤ i) × (i < (block_at f b).range.end) × DefinesAt f v.number i k
+  writer : (i k : ℕ) × ((block_at f b).range.first ≤ i) × (i < (block_at f b).range.end) × IsDefOperand f v.number i k
   writer =
       let d = defined_from-some f v.number (block_at f b).range.first n written in
       let within = ends_within f follow b lb in

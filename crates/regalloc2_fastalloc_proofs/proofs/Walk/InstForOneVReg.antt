@@ -10,7 +10,7 @@ use Rattle.regalloc2_semantics.specs.Carry.{Carries, Undefined}
 use Rattle.regalloc2_semantics.specs.BlockByPoints.{at_point, walked, listed}
 use Rattle.regalloc2_semantics.specs.OperandsPlaced.{located, in_slot, made}
 use Rattle.regalloc2_semantics.proofs.CarryRules.{carries_weaken}
-use Rattle.regalloc2_semantics.proofs.NotRead.{Unread, silent_walked, carries_behind}
+use Rattle.regalloc2_semantics.proofs.NotRead.{ReadsOthersOnly, silent_walked, carries_behind}
 use Rattle.regalloc2_semantics.proofs.UnwrittenPlaces.{Keeps, carries_kept_walked}
 use Rattle.regalloc2_semantics.proofs.BlockBackward.{StepOf}
 use Rattle.regalloc2_fastalloc_proofs.specs.InstSteps.{StateValue}
@@ -52,7 +52,7 @@ module _ (f : FunctionValue) (placesf : ℕ → List Place) (F : ℕ → Option 
   pub step_of : (v : VirtualRegister) (i : ℕ) (old new : StateValue) (later : Bool) →
       Carries v (step_at i new) (Needed (defined_by (inst_at f i).operands) new v) (Needed (λ x. false) old v) →
       (defined_by (inst_at f i).operands v.number ≡ true → stands_at new v.number ≡ None) →
-      LeavesOwnSlot v i old new → (later ≡ true → Unread (inst_at f i).operands v) →
+      LeavesOwnSlot v i old new → (later ≡ true → ReadsOthersOnly (inst_at f i).operands v) →
       StepOf v (step_at i new) (defined_by (inst_at f i).operands v.number) later (stands_at new v.number) (slots_at new v.number) (stands_at old v.number)
       (slots_at old v.number) (F v.number)
   step_of v i old new later law gone leaves unread = record {
@@ -69,5 +69,5 @@ module _ (f : FunctionValue) (placesf : ℕ → List Place) (F : ℕ → Option 
         (at_point (listed new.edits) (after i)) v) (sym e) (leaves.keeps s unwritten none comes)) c;
     silent = λ is L E c. carries_behind v (step_at i new) L (λ p. ⊥) E
         (silent_walked v (inst_at f) (at_point (listed new.edits)) placesf i 1
-        (λ j le lt. (let same : i ≡ j = omega arith in subst (λ k. Unread (inst_at f k).operands v) same (unread is)))) c;
+        (λ j le lt. (let same : i ≡ j = omega arith in subst (λ k. ReadsOthersOnly (inst_at f k).operands v) same (unread is)))) c;
   }

@@ -9,7 +9,7 @@ use Rattle.regalloc2_semantics.specs.Listing.{Item}
 use Rattle.regalloc2_semantics.specs.Carry.{Carries}
 use Rattle.regalloc2_semantics.specs.BlockByPoints.{at_point, walked, listed}
 use Rattle.regalloc2_semantics.proofs.ListingParts.{walked_split}
-use Rattle.regalloc2_semantics.proofs.NotRead.{Unread}
+use Rattle.regalloc2_semantics.proofs.NotRead.{ReadsOthersOnly}
 use Rattle.regalloc2_semantics.proofs.BlockBackward.{Relied, step_carried}
 use Rattle.regalloc2_fastalloc_proofs.specs.InstSteps.{StateValue, AllocsInst, ends_block}
 use Rattle.regalloc2_fastalloc_proofs.proofs.Operands.RecordOverState.{stands_at, slots_at}
@@ -48,7 +48,7 @@ pub record VRegGoes (code : ProperCode) (L : ℕ → StateValue → StateValue �
   pub returns : (i : ℕ) → first ≤ i → i < stop → ends_block (inst_at code.f i) ≡ false
   pub writes : (i : ℕ) → first ≤ i → i < stop → block ≡ false → defined_by (inst_at code.f i).operands v.number ≡ false
   pub leaves : (i : ℕ) (t u : StateValue) → first ≤ i → i < stop → L i t u → LeavesOwnSlot code.f code.placesf F v i t u
-  pub unread : (i n : ℕ) → first ≤ i → i < stop → i + 1 + n ≡ stop + m → defined_from code.f v.number (i + 1) n ≡ true → Unread (inst_at code.f i).operands v
+  pub unread : (i n : ℕ) → first ≤ i → i < stop → i + 1 + n ≡ stop + m → defined_from code.f v.number (i + 1) n ≡ true → ReadsOthersOnly (inst_at code.f i).operands v
 
 module _ (code : ProperCode) (L : ℕ → StateValue → StateValue → Type 0) (begin : StateValue) (first stop : ℕ) (within : stop ≤ length code.f.insts)
     (start : IsBetweenInsts stop begin) where

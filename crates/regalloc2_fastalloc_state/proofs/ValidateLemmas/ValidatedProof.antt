@@ -6,13 +6,13 @@ use Rattle.regalloc2_names.specs.declared.RegAllocError.{RegAllocError}
 use Rattle.regalloc2_names.specs.declared.RegAllocError.TheVariants.{Memory}
 use Rattle.regalloc2_function.specs.FunctionValue.{FunctionValue, inst_at, no_inst}
 use Rattle.regalloc2_function.specs.Machine.{MachineValue}
-use Rattle.regalloc2_function.specs.Reasons.{HasShape, IsShapeFault, IsSound, IsSoundnessFault}
+use Rattle.regalloc2_function.specs.Reasons.{HasShape, IsShapeFault, HasSoundness, IsSoundnessFault}
 use Rattle.regalloc2_function.specs.WellFormed.{ReusesAreSound, FixedAvoidClobbers, IsWellFormed}
 use Rattle.regalloc2_fastalloc_state.specs.Validate.Validated.{IsFunctionFault}
 use Rattle.regalloc2_fastalloc_state.specs.Validate.Validated.IsFunctionFault.{memory, misshapen, unsound}
 
 -- what the tests test is what a well-formed function has
-pub tested_well_formed : (f : FunctionValue) (env : MachineValue) → HasShape f → IsSound f → ((i : ℕ) → i < length f.insts → ReusesAreSound env (inst_at f i)) →
+pub tested_well_formed : (f : FunctionValue) (env : MachineValue) → HasShape f → HasSoundness f → ((i : ℕ) → i < length f.insts → ReusesAreSound env (inst_at f i)) →
     ((i : ℕ) → i < length f.insts → FixedAvoidClobbers (inst_at f i)) → IsWellFormed env f
 tested_well_formed f env shape sound reuses fixed = record {
   successors = shape.successors;
@@ -31,7 +31,7 @@ tested_well_formed f env shape sound reuses fixed = record {
 }
 
 -- a function passes where the last of the tests returns the result for the instructions
-pub tested_on_ok : {T E : Type 0} (f : FunctionValue) (env : MachineValue) (r : Result T E) → HasShape f → IsSound f →
+pub tested_on_ok : {T E : Type 0} (f : FunctionValue) (env : MachineValue) (r : Result T E) → HasShape f → HasSoundness f →
     OnOk r ((i : ℕ) → i < length f.insts → ReusesAreSound env (inst_at f i))
     → OnOk r ((i : ℕ) → i < length f.insts → FixedAvoidClobbers (inst_at f i)) → OnOk r (IsWellFormed env f)
 tested_on_ok f env (Ok x) shape sound reuses fixed = tested_well_formed f env shape sound reuses fixed

@@ -3,7 +3,7 @@ use Rattle.regalloc2_names.specs.declared.RegAllocError.{RegAllocError}
 use Rattle.regalloc2_names.specs.declared.RegAllocError.TheVariants.{Memory}
 use Rattle.regalloc2_function.specs.FunctionValue.{FunctionValue}
 use Rattle.regalloc2_function.specs.Machine.{MachineValue}
-use Rattle.regalloc2_function.specs.Reasons.{HasShape, IsShapeFault, IsSound, IsSoundnessFault}
+use Rattle.regalloc2_function.specs.Reasons.{HasShape, IsShapeFault, HasSoundness, IsSoundnessFault}
 use Rattle.regalloc2_fastalloc_state.specs.Validate.Constraints.{IsFixedFault}
 
 -- memory ran out, or a test failed: of blocks and edges; else of the entry, terminators, arguments, definitions and uses; else of
@@ -12,4 +12,4 @@ pub data IsFunctionFault (f : FunctionValue) (env : MachineValue) : RegAllocErro
   memory : IsFunctionFault f env Memory
   misshapen : {e : RegAllocError} → IsShapeFault f e → IsFunctionFault f env e
   unsound : {e : RegAllocError} → HasShape f → IsSoundnessFault f e → IsFunctionFault f env e
-  clashing : {e : RegAllocError} → HasShape f → IsSound f → IsFixedFault f env e → IsFunctionFault f env e
+  clashing : {e : RegAllocError} → HasShape f → HasSoundness f → IsFixedFault f env e → IsFunctionFault f env e

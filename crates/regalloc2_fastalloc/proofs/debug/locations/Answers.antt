@@ -8,7 +8,7 @@ use Rattle.regalloc2_function.specs.FunctionValue.{FunctionValue}
 use Rattle.regalloc2_function.specs.OutputValue.{DebugLocation}
 use Rattle.regalloc2_function.specs.Stored.{location_of}
 use Rattle.regalloc2_analysis.specs.declared.live_ranges.KeptLabel.{KeptLabel}
-use Rattle.regalloc2_analysis.proofs.LiveRangesLemmas.KeptLabels.{IsOneOf, kept_from}
+use Rattle.regalloc2_analysis.proofs.LiveRangesLemmas.KeptLabels.{IsKeptLabelOf, kept_from}
 use Rattle.regalloc2_fastalloc.specs.DebugLocations.{HasPlace, location_shown}
 use Rattle.regalloc2_fastalloc.proofs.DebugLocationsFound.{LocationParts, has_place, rising_located, stable_located}
 use Rattle.regalloc2_fastalloc.proofs.debug.locations.Goals as goal
@@ -17,7 +17,7 @@ pub locate-requires : goal.locate-requires
 locate-requires g c =
     let f : FunctionValue = g.F.Function.function c.args.f.now in
     subst (All (λ (k : KeptLabel). HasPlace c.args.slots.now c.args.offsets.now c.args.allocs.now k.range)) (sym c.deref.ensures.value)
-    (All-weaker (IsOneOf f f.labels) (λ (k : KeptLabel). HasPlace c.args.slots.now c.args.offsets.now c.args.allocs.now k.range)
+    (All-weaker (IsKeptLabelOf f f.labels) (λ (k : KeptLabel). HasPlace c.args.slots.now c.args.offsets.now c.args.allocs.now k.range)
     (λ k one. has_place f c.requires.ssa c.args.slots.now c.args.offsets.now c.args.allocs.now c.requires.room c.requires.offsets_long
     (λ i lt. c.requires.offsets i lt) c.requires.allocs_long one.1 k one.4.1)
     c.in_ok-kept.kept.items (kept_from c.in_ok-kept.ensures.ok))

@@ -3,7 +3,7 @@ use Rattle.std.proofs.lemmas.Result.{IfErr-weaker}
 use Rattle.regalloc2_names.specs.declared.RegAllocError.TheVariants.{Memory}
 use Rattle.regalloc2_function.specs.FunctionValue.{FunctionValue}
 use Rattle.regalloc2_function.specs.Reasons.{IsDefinitionFault}
-use Rattle.regalloc2_function.specs.TableLength.{HasRoom}
+use Rattle.regalloc2_function.specs.TableLength.{CoversDefinitions}
 use Rattle.regalloc2_function.proofs.TableDecidesSSA.{only_memory}
 use Rattle.std.specs.Prelude.{Some}
 use Rattle.regalloc2_function.proofs.ssa.test_definitions.Goals as goal
@@ -16,7 +16,7 @@ only_none H none (Some x) h = absurd (none x h)
 pub test_over-requires-clause-room : goal.test_over-requires-clause-room
 test_over-requires-clause-room g c =
     let same : length c.as_mut_slice.result.now ≡ c.table_length.result = omega (arith, c.as_mut_slice.ensures.len, c.in_ok-defined.ensures.len) in
-    subst (HasRoom (g.F.Function.function c.args.f.now)) (sym same) c.table_length.ensures.room
+    subst (CoversDefinitions (g.F.Function.function c.args.f.now)) (sym same) c.table_length.ensures.room
 
 pub returns-clause-accepted : goal.returns-clause-accepted
 returns-clause-accepted g c once uses =

@@ -1,12 +1,12 @@
 use Rattle.std.proofs.Common.{◌≡◌, ◌∙◌, length, sym, subst, arith}
 use Rattle.std.proofs.lemmas.List.{with_items_is}
-use Rattle.regalloc2_function.specs.TableLength.{HasRoom}
+use Rattle.regalloc2_function.specs.TableLength.{CoversDefinitions}
 use Rattle.regalloc2_analysis.proofs.branch_defs.uses.used_elsewhere.Goals as goal
 
 pub note_uses-requires-clause-room : goal.note_uses-requires-clause-room
 note_uses-requires-clause-room g c =
     let same : length c.as_mut_slice.result.now ≡ c.args.vregs = omega (arith, c.as_mut_slice.ensures.len, c.in_ok-used.ensures.len) in
-    subst (HasRoom (g.F.Function.function c.args.f.now)) (sym same) c.requires.room
+    subst (CoversDefinitions (g.F.Function.function c.args.f.now)) (sym same) c.requires.room
 
 pub note_uses-requires-clause-well_formed : goal.note_uses-requires-clause-well_formed
 note_uses-requires-clause-well_formed g c = c.requires.well_formed

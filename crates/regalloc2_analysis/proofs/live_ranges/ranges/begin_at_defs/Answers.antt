@@ -4,7 +4,7 @@ use Rattle.regalloc2_names.specs.Operand.{is_def}
 use Rattle.regalloc2_names.specs.Register.{VirtualRegister}
 use Rattle.regalloc2_names.specs.Point.{before, after}
 use Rattle.regalloc2_function.specs.FunctionValue.{FunctionValue}
-use Rattle.regalloc2_function.specs.TableLength.{HasRoom}
+use Rattle.regalloc2_function.specs.TableLength.{CoversDefinitions}
 use Rattle.regalloc2_analysis.specs.declared.live_ranges.LiveRange.{LiveRange}
 use Rattle.regalloc2_analysis.specs.LiveRanges.LiveRanges.{IsDefiner, IsWanted}
 use Rattle.regalloc2_analysis.specs.LiveRanges.Slots.{HasSlot, IsApart, spread}
@@ -46,7 +46,7 @@ loop-index-preserved g c =
           (λ e. absurd (omega (arith, lt, limit, e, w.next.ensures))) ∙ ap before w.next.ensures in
           let range = defined_range f c.requires.ssa W (spread slots c.args.ends.now) i k v w.vreg-vreg.result {n = w.vreg.result} {p = w.after.result}
           {q = w.before-then-defines_wanted.result} w.entry.result w.end_of_defined-end.result d
-          (record { room = subst (HasRoom f) (sym (spread_length slots c.args.ends.now)) c.requires.room; noted = c.requires.ends }) two.1
+          (record { room = subst (CoversDefinitions f) (sym (spread_length slots c.args.ends.now)) c.requires.room; noted = c.requires.ends }) two.1
           (record { number = one; entry = w.entry.ensures })
           (record { same = w.vreg-vreg.ensures; first = first; point = last; end = w.end_of_defined-end.ensures }) in
           rw (w.ranges-is, set_is) (record {

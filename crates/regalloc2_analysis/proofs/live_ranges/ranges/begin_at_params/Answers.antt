@@ -4,7 +4,7 @@ use Rattle.regalloc2_names.specs.Point.{before}
 use Rattle.regalloc2_names.specs.Register.{VirtualRegister}
 use Rattle.regalloc2_function.specs.FunctionValue.{FunctionValue, block_at}
 use Rattle.regalloc2_semantics.proofs.Order.{ends_within}
-use Rattle.regalloc2_function.specs.TableLength.{HasRoom}
+use Rattle.regalloc2_function.specs.TableLength.{CoversDefinitions}
 use Rattle.regalloc2_analysis.specs.declared.live_ranges.LiveRange.{LiveRange}
 use Rattle.regalloc2_analysis.specs.LiveRanges.LiveRanges.{IsWanted}
 use Rattle.regalloc2_analysis.specs.LiveRanges.Slots.{HasSlot, IsApart, spread}
@@ -49,7 +49,7 @@ loop-param-preserved g c =
           let set_is = w.set_entry.ensures.here (subst (λ (n : ℕ). HasSlot slots n (length c.loop-param.ranges)) (sym w.vreg.ensures.number) slot) in
           let range = taken_range f c.requires.ssa W (spread slots c.args.ends.now) c.args.block c.param-item.result c.before-first.result w.in-Some.end
           c.requires.block
-          has (record { room = subst (HasRoom f) (sym (spread_length c.args.slots.now c.args.ends.now)) c.requires.room; noted = c.requires.ends })
+          has (record { room = subst (CoversDefinitions f) (sym (spread_length c.args.slots.now c.args.ends.now)) c.requires.room; noted = c.requires.ends })
           w.in-Some.ensures.some.0 point w.in-Some.ensures.some.1 in
           rw (w.ranges-is, set_is) (record {
             right = right_set f old w.vreg.result _ room (sym w.vreg.ensures.number) range c.loop-param.invariant.right;
@@ -71,7 +71,7 @@ returns-clause-taken g c =
     taken_all f c.requires.ssa (IsWanted c.args.wanted.now) c.args.block c.block_params-param-items.result.now c.loop-param.param-index
     (spread c.args.slots.now c.args.ends.now) (spread c.args.slots.now c.loop-param.ranges)
     (record { block = c.requires.block; same = c.block_params-param-items.ensures; all = c.loop-param-test.false })
-    (record { room = subst (HasRoom f) (sym (spread_length c.args.slots.now c.args.ends.now)) c.requires.room; noted = c.requires.ends })
+    (record { room = subst (CoversDefinitions f) (sym (spread_length c.args.slots.now c.args.ends.now)) c.requires.room; noted = c.requires.ends })
     c.loop-param.invariant.so_far
 
 pub block_insns-requires : goal.block_insns-requires

@@ -1,7 +1,7 @@
 use Rattle.std.proofs.Common.{List, Option, ℕ, ◌≡◌, ◌∙◌, length, sym, ap, subst, arith}
 use Rattle.std.proofs.lemmas.List.{with_items_is}
 use Rattle.regalloc2_function.specs.FunctionValue.{FunctionValue}
-use Rattle.regalloc2_function.specs.TableLength.{HasRoom}
+use Rattle.regalloc2_function.specs.TableLength.{CoversDefinitions}
 use Rattle.regalloc2_analysis.specs.declared.live_ranges.LiveRange.{LiveRange}
 use Rattle.regalloc2_analysis.specs.LiveRanges.LiveRanges.{AreLiveRanges, IsWanted}
 use Rattle.regalloc2_analysis.specs.LiveRanges.Slots.{AreSlots, spread}
@@ -12,7 +12,7 @@ pub walk_blocks-requires-clause-room : goal.walk_blocks-requires-clause-room
 walk_blocks-requires-clause-room g c =
     let long : length c.as_slice.result.now ≡ c.table_length.result = ap (λ (ss : List ℕ). length ss) c.as_slice.ensures.value
     ∙ c.in_ok-slots.ensures.len in
-    subst (HasRoom (g.F.Function.function c.args.f.now)) (sym long) c.table_length.ensures.room
+    subst (CoversDefinitions (g.F.Function.function c.args.f.now)) (sym long) c.table_length.ensures.room
 
 pub slots_of-requires : goal.slots_of-requires
 slots_of-requires g c = let limit = (g.met.F.Function.limited c.args.f.now).vregs in omega (arith, limit, c.table_length.ensures.few)

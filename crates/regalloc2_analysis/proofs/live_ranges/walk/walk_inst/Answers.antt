@@ -1,7 +1,7 @@
 use Rattle.std.proofs.Common.{ℕ, ◌≡◌, ◌+◌, ◌∙◌, List, length, sym, subst, arith}
 use Rattle.regalloc2_function.specs.FunctionValue.{FunctionValue}
 use Rattle.regalloc2_semantics.proofs.Order.{ends_within}
-use Rattle.regalloc2_function.specs.TableLength.{HasRoom}
+use Rattle.regalloc2_function.specs.TableLength.{CoversDefinitions}
 use Rattle.regalloc2_analysis.specs.LiveRanges.LiveRanges.{IsWanted}
 use Rattle.regalloc2_analysis.specs.LiveRanges.Slots.{spread}
 use Rattle.regalloc2_analysis.specs.LiveRanges.WalkInvariant.{AreEndsFrom}
@@ -20,7 +20,7 @@ begin_at_defs-requires-clause-inst g c =
     omega (arith, within, c.requires.end)
 
 pub begin_at_defs-requires-clause-room : goal.begin_at_defs-requires-clause-room
-begin_at_defs-requires-clause-room g c = subst (HasRoom (g.F.Function.function c.args.f.now)) (spread_length c.args.slots.now c.args.ends.now)
+begin_at_defs-requires-clause-room g c = subst (CoversDefinitions (g.F.Function.function c.args.f.now)) (spread_length c.args.slots.now c.args.ends.now)
     c.requires.walked.ends_room
 
 pub begin_at_defs-requires-clause-ends : goal.begin_at_defs-requires-clause-ends

@@ -2,7 +2,7 @@ use Rattle.std.proofs.Common.{ℕ, Bool, List, ◌≡◌, ◌<◌, false, length
 use Rattle.std.specs.Prelude.{◌↔◌}
 use Rattle.std.proofs.lemmas.List.{with_items_is}
 use Rattle.regalloc2_function.specs.FunctionValue.{FunctionValue}
-use Rattle.regalloc2_function.specs.TableLength.{HasRoom}
+use Rattle.regalloc2_function.specs.TableLength.{CoversDefinitions}
 use Rattle.regalloc2_analysis.specs.LiveRanges.LiveRanges.{IsLabelled, IsWanted}
 use Rattle.regalloc2_analysis.proofs.LiveRangesLemmas.Labelled.{labelled_are}
 use Rattle.regalloc2_analysis.proofs.live_ranges.wanted.labelled.Goals as goal
@@ -13,9 +13,9 @@ returns-clause-room g c =
     let f : FunctionValue = g.F.Function.function c.args.f.now in
     let long : length c.mark_labelled.new.wanted ≡ c.table_length-vregs.result = c.mark_labelled.auto.wanted
     ∙ ap (λ (xs : List Bool). length xs) c.as_mut_slice.ensures.value ∙ c.in_ok-wanted.ensures.len in
-    subst (λ (ws : List Bool). HasRoom f (length ws))
+    subst (λ (ws : List Bool). CoversDefinitions f (length ws))
     (sym (with_items_is c.in_ok-wanted.wanted c.mark_labelled.new.wanted (c.mark_labelled.auto.wanted ∙ c.as_mut_slice.ensures.len)))
-    (subst (HasRoom f) (sym long) c.table_length-vregs.ensures.room)
+    (subst (CoversDefinitions f) (sym long) c.table_length-vregs.ensures.room)
 
 pub returns-clause-marks : goal.returns-clause-marks
 returns-clause-marks g c =

@@ -7,12 +7,12 @@ use Rattle.regalloc2_fastalloc_state.specs.StateParts.{alloc_of, SetsAlloc}
 use Rattle.regalloc2_fastalloc_proofs.specs.InstSteps.{StateValue, AddMoveIf, AddsMoveIf, no_register}
 use Rattle.regalloc2_fastalloc_walk.specs.StateView.{tables_of}
 use Rattle.regalloc2_fastalloc_proofs.specs.BlockStart.{nowhere, comes}
-use Rattle.regalloc2_semantics.proofs.Forms.{nothing, something_there}
+use Rattle.regalloc2_semantics.proofs.Forms.{NoPlace-from_test, NoPlace-not_false}
 use Rattle.regalloc2_fastalloc_walk.proofs.state.State.reload_param.Goals as goal
 
 pub returns-then-is_none-clause-outcome : goal.returns-then-is_none-clause-outcome
 returns-then-is_none-clause-outcome g c =
-    nowhere (sym c.current_alloc-current.ensures.place ∙ nothing c.current_alloc-current.result (sym c.is_none.ensures ∙ c.if-is_none.true)) refl refl
+    nowhere (sym c.current_alloc-current.ensures.place ∙ NoPlace-from_test c.current_alloc-current.result (sym c.is_none.ensures ∙ c.if-is_none.true)) refl refl
 
 pub returns-clause-outcome : goal.returns-clause-outcome
 returns-clause-outcome g c =
@@ -20,7 +20,7 @@ returns-clause-outcome g c =
     let m : StateValue = record t { places = c.set_alloc.new.self; slots = c.get_spillslot.new.self } in
     let q : Place = alloc_of c.args.self.now.places c.args.param.number in
     let s : Place = c.in_ok-slot.slot in
-    let there : q ≢ NoPlace = λ e. something_there c.current_alloc-current.result (c.current_alloc-current.ensures.place ∙ e)
+    let there : q ≢ NoPlace = λ e. NoPlace-not_false c.current_alloc-current.result (c.current_alloc-current.ensures.place ∙ e)
     (sym c.is_none.ensures ∙ c.if-is_none.false) in
     MatchResult-weaker c.add_move_if.result c.add_move_if.ensures.outcome
     (λ v made.
