@@ -5,4 +5,4 @@ pub mod LiveRanges
 pub mod LastUses
 pub mod WalkInvariant
 pub mod Marks
-pub mod Slots
+pub mod Entries

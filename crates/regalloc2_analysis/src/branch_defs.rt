@@ -1,8 +1,9 @@
 //! What the branches of a function define, and which blocks they lead to.
 //!
-//! The tables are made once, before a walk, which then looks up and never searches: by which branch a vreg is
-//! defined, on which edge a block is entered whose predecessor's branch defines, and which definitions are stored. The tables
-//! are empty if no branch defines. Upstream has nothing of the kind: it stores what a branch defines after the branch.
+//! The tables are made once, before a walk, which then looks up and never searches: by which branch a
+//! vreg is defined, on which edge a block is entered whose predecessor's branch defines, and which
+//! definitions are stored. The tables are empty if no branch defines. Upstream has none: it stores what a
+//! branch defines after the branch.
 
 mod edges;
 mod sites;
@@ -51,15 +52,15 @@ pub struct EdgeInto {
 /// What branches define.
 #[derive(Drop)]
 pub struct BranchDefs<A: Allocator> {
-    /// by vreg number: the operand of a branch that defines it
+    /// By vreg number, the operand of a branch that defines it.
     sites: Vec<Option<DefSite>, A>,
-    /// by block
+    /// By block, the edge into it from a branch that defines.
     edges: Vec<Option<EdgeInto>, A>,
-    /// the operands, by index and branch after branch, that are fixed and define what is used
+    /// The indexes of the definitions in fixed registers whose vregs are used, branch after branch.
     stored: Vec<usize, A>,
 }
 
-/// The register to which a definition is fixed.
+/// Returns the register to which `operand` is fixed, if it is a definition.
 pub fn fixed_definition(operand: Operand) -> Option<PReg>
     ensures { result ≡ fixed_definition_of operand }
 {
@@ -73,10 +74,10 @@ pub fn fixed_definition(operand: Operand) -> Option<PReg>
 }
 
 impl<A: Allocator + Copy> BranchDefs<A> {
-    /// The tables of a function.
+    /// Returns the tables of `f`.
     ///
-    /// Linear in the function's instructions, operands and arguments. The only error is `Memory`;
-    /// if no branch defines, nothing is allocated. It isn't inlined, as `State::new` of the walk isn't.
+    /// Linear in the function's instructions, operands and arguments. The only error is `Memory`; if no
+    /// branch defines, nothing is allocated. Not inlined, as `State::new` of the walk isn't.
     #[inline(never)]
     pub fn of<F: Function>(alloc: A, f: &F) -> Result<Self, RegAllocError>
         requires well_formed { MayHaveTables (F.function f.now) }
@@ -104,14 +105,14 @@ impl<A: Allocator + Copy> BranchDefs<A> {
 }
 
 impl<A: Allocator> BranchDefs<A> {
-    /// The operand of a branch that defines a vreg.
+    /// Returns the operand of a branch that defines `vreg`.
     pub fn site(&self, vreg: VReg) -> Option<DefSite>
         ensures { result ≡ site_of self.now vreg.number }
     {
         site_in(&self.sites, vreg)
     }
 
-    /// Whether `branch` defines `vreg`.
+    /// Returns `true` if `branch` defines `vreg`.
     pub fn is_defined_by(&self, vreg: VReg, branch: Inst) -> bool
         ensures { IsTrue result ↔ ((k : ℕ) × (site_of self.now vreg.number ≡ Some (record { branch = branch; index = k }))) }
     {
@@ -121,7 +122,7 @@ impl<A: Allocator> BranchDefs<A> {
         }
     }
 
-    /// The edge into a block from a branch that defines.
+    /// Returns the edge into `block` from a branch that defines.
     pub fn edge_into(&self, block: Block) -> Option<EdgeInto>
         ensures { result ≡ edge_of self.now block }
     {
@@ -131,7 +132,8 @@ impl<A: Allocator> BranchDefs<A> {
         self.edges[block.index()]
     }
 
-    /// The operands of the branch of an edge, by index, that are fixed and define what another instruction reads or passes.
+    /// Returns the indexes of the definitions of the branch of `edge` that are in fixed registers and whose
+    /// vregs another instruction reads or passes.
     pub fn stored_on(&self, edge: &EdgeInto) -> &[usize]
         requires within { (edge.now.first ≤ edge.now.end) × (edge.now.end ≤ length self.now.stored.items) }
         ensures { result.now ≡ stored_of self.now edge.now }

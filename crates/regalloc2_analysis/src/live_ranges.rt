@@ -1,4 +1,5 @@
-//! From where to where the value of each vreg can be shown to a debugger, and which operand's place shows it.
+//! From where to where the value of each vreg can be shown to a debugger, and which operand's place
+//! shows it.
 //!
 //! [`live_ranges`] returns these for each requested vreg, [`kept_labels`] for each label that a
 //! client put on a vreg. Nothing here depends on the allocator: its walk selects the places, and
@@ -9,9 +10,9 @@ use regalloc2_index::Inst;
 use regalloc2_names::{ProgPoint, VReg};
 
 mod ends;
+mod entries;
 mod labels;
 mod ranges;
-mod slots;
 mod walk;
 mod wanted;
 
@@ -35,13 +36,15 @@ pub struct LiveRange {
     pub vreg: VReg,
     /// The point after its definition, or before the block of which it is a parameter.
     pub first: ProgPoint,
-    /// The point at which its last use ends: before the next instruction for a late use, after the instruction for an early
-    /// one, before it for an argument that it passes. Where nothing uses it, but for the branch that defines and passes it,
-    /// the point before the instruction that follows its definition.
+    /// The point at which the vreg's last use ends: before the next instruction for a late use, after
+    /// the instruction for an early use, before the instruction for an argument that it passes. If
+    /// nothing uses the vreg, except that the branch that defines it passes it, the point before the
+    /// instruction that follows its definition.
     pub last: ProgPoint,
-    /// The operand whose place shows the value up to the last point: the first of the last use's instruction that reads it
-    /// late, or where none does the first that reads it early. None where that instruction passes it as an argument and
-    /// doesn't read it. Where nothing uses it, the operand that defines it.
+    /// The operand whose place shows the value up to the last point: in the instruction of the last
+    /// use, the first operand that reads the vreg late, or else the first that reads it early. `None`
+    /// if that instruction passes the vreg as an argument and doesn't read it. If nothing uses the
+    /// vreg, the operand that defines it.
     pub by: Option<InstOperand>,
 }
 

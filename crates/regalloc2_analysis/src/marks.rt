@@ -5,7 +5,7 @@ ghost use Rattle.regalloc2_function.specs.MarkedNumbers.{Marks};
 
 use std::alloc::{AllocError, Allocator};
 
-/// A table of `len` numbers, none marked.
+/// Returns a table of `len` numbers, none marked.
 pub fn no_marks<A: Allocator + Copy>(alloc: A, len: usize) -> Result<Vec<bool, A>, AllocError>
     ensures len { IfOk result (λ v. length v.items ≡ len) }
     ensures none { IfOk result (λ v. (n : ℕ) → slice_index_or v.items n false ≡ false) }
@@ -23,7 +23,7 @@ pub fn mark(marks: &mut [bool], number: usize)
     }
 }
 
-/// Whether `number` is marked. No number past the table's end is.
+/// Returns `true` if `number` is marked. No number past the table's end is marked.
 #[inline(always)]
 pub fn is_marked(marks: &[bool], number: usize) -> bool
     ensures { result ≡ slice_index_or marks.now number false }

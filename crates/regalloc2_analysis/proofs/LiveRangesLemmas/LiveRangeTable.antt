@@ -23,7 +23,7 @@ use Rattle.regalloc2_analysis.specs.declared.live_ranges.ends.RangeEnd.{RangeEnd
 use Rattle.regalloc2_analysis.specs.LiveRanges.LiveRanges.{AreLiveRanges, IsDefiner, IsLiveRange, IsSSA, range_at}
 use Rattle.regalloc2_analysis.specs.LiveRanges.LastUses.{EndsFrom, NotesPassed, NotesUses, ReadsNumber, UsesNumber, end_at, end_behind}
 use Rattle.regalloc2_analysis.specs.LiveRanges.LastUses.UsesNumber.{reads, passes}
-use Rattle.regalloc2_analysis.specs.LiveRanges.Slots.{spread}
+use Rattle.regalloc2_analysis.specs.LiveRanges.Entries.{spread}
 use Rattle.regalloc2_analysis.specs.LiveRanges.WalkInvariant.{AddsNothing, AreEndsFrom, AreRight, AreRangesWalked, Stay, begin_of}
 use Rattle.regalloc2_analysis.proofs.LiveRangesLemmas.ItemsPastEnd.{op_is}
 use Rattle.regalloc2_analysis.proofs.LiveRangesLemmas.Spread.{spread_length, spread_nothing}
@@ -154,13 +154,13 @@ taken_all f ssa Asked b vs m ends t params noted h v j asked has used =
     (subst (λ (w : VirtualRegister). Asked w.number) (sym at) asked) (subst (λ (w : VirtualRegister). end_at ends w.number ≢ None) (sym at) some))
 
 -- before the walk
-pub walked_none : (f : FunctionValue) → IsSSA f → (Asked : ℕ → Type 0) (slots : List ℕ) (m : ℕ) → CoversDefinitions f (length slots) →
-    AreRangesWalked f Asked (length f.insts) (length f.blocks) (spread slots (replicate m None)) (spread slots (replicate m None))
-walked_none f ssa Asked slots m room = record {
-  ends_room = subst (CoversDefinitions f) (sym (spread_length slots (replicate m None))) room;
-  ranges_room = subst (CoversDefinitions f) (sym (spread_length slots (replicate m None))) room;
-  noted = λ n lt asked. subst (EndsFrom f (length f.insts) n) (sym (spread_nothing slots m n)) (λ j le u. none_past j le n u);
-  right = λ n r h. absurd (let e : Some r ≡ None = sym h ∙ spread_nothing slots m n in cc);
+pub walked_none : (f : FunctionValue) → IsSSA f → (Asked : ℕ → Type 0) (indexes : List ℕ) (m : ℕ) → CoversDefinitions f (length indexes) →
+    AreRangesWalked f Asked (length f.insts) (length f.blocks) (spread indexes (replicate m None)) (spread indexes (replicate m None))
+walked_none f ssa Asked indexes m room = record {
+  ends_room = subst (CoversDefinitions f) (sym (spread_length indexes (replicate m None))) room;
+  ranges_room = subst (CoversDefinitions f) (sym (spread_length indexes (replicate m None))) room;
+  noted = λ n lt asked. subst (EndsFrom f (length f.insts) n) (sym (spread_nothing indexes m n)) (λ j le u. none_past j le n u);
+  right = λ n r h. absurd (let e : Some r ≡ None = sym h ∙ spread_nothing indexes m n in cc);
   defined = λ v j le asked d. absurd (omega (arith, le, d.0));
   taken = λ v c j le lt. absurd (omega (arith, le, lt));
 }

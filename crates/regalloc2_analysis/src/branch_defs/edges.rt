@@ -11,10 +11,10 @@ use super::{EdgeInto, fixed_definition};
 use crate::marks::is_marked;
 use regalloc2_function::Function;
 use regalloc2_index::Block;
-use regalloc2_names::{Operand, PRegSet, RegClass};
+use regalloc2_names::{Operand, PRegSet};
 use std::alloc::{AllocError, Allocator};
 
-/// Whether some operand defines.
+/// Returns `true` if one of `operands` defines a vreg.
 fn some_defines(operands: &[Operand]) -> bool
     ensures { IsTrue result ↔ ((n k : ℕ) × DefinesNumber operands.now n k) }
 {
@@ -26,7 +26,7 @@ fn some_defines(operands: &[Operand]) -> bool
     false
 }
 
-/// Whether a block ends in a branch that defines.
+/// Returns `true` if `block` ends in a branch that defines a vreg.
 fn ends_in_definitions<F: Function>(f: &F, block: Block) -> bool
     requires block { block < length (F.function f.now).blocks }
     requires well_formed { MayHaveTables (F.function f.now) }
@@ -36,7 +36,7 @@ fn ends_in_definitions<F: Function>(f: &F, block: Block) -> bool
     f.is_branch(last) && some_defines(f.inst_operands(last))
 }
 
-/// Whether some branch defines.
+/// Returns `true` if some branch defines a vreg.
 pub fn some_branch_defines<F: Function>(f: &F) -> bool
     requires well_formed { MayHaveTables (F.function f.now) }
     ensures { IsTrue result ↔ HasDefinitions (F.function f.now) }
@@ -49,7 +49,7 @@ pub fn some_branch_defines<F: Function>(f: &F) -> bool
     false
 }
 
-/// The registers to which definitions are fixed.
+/// Returns the registers to which definitions among `operands` are fixed.
 fn held_by(operands: &[Operand]) -> PRegSet
     ensures { (r : Register) → (has_register result r ≡ true) ↔ IsHeld operands.now r }
 {
@@ -62,14 +62,15 @@ fn held_by(operands: &[Operand]) -> PRegSet
     held
 }
 
-/// Whether an operand is fixed and defines what is used.
+/// Returns `true` if `operand` is a definition in a fixed register of a vreg that `used` marks.
 fn is_stored(used: &[bool], operand: Operand) -> bool
     ensures { IsTrue result ↔ IsMarkedDefinition used.now operand }
 {
     fixed_definition(operand).is_some() && is_marked(used, operand.vreg().vreg())
 }
 
-/// Lists the operands that are fixed and define what is used, by index.
+/// Adds to `stored` the indexes of the definitions among `operands` that are in fixed registers and
+/// whose vregs `used` marks.
 fn list_stored<A: Allocator>(
     stored: &mut Vec<usize, A>,
     used: &[bool],
@@ -85,17 +86,8 @@ fn list_stored<A: Allocator>(
     Ok(())
 }
 
-/// Whether a set holds no register.
-fn is_none_held(held: PRegSet) -> bool
-    ensures { IsTrue result ↔ ((r : Register) → has_register held r ≡ false) }
-{
-    held.is_empty(RegClass::Int)
-        && held.is_empty(RegClass::Float)
-        && held.is_empty(RegClass::Vector)
-}
-
-/// Lists the operands that are fixed and define what is used, where `held` has the registers to which definitions are fixed. If
-/// `held` is empty, no operand is read.
+/// Does what [`list_stored`] does, where `held` has the registers to which definitions are fixed: if
+/// there are none, no operand is read.
 fn list_held<A: Allocator>(
     stored: &mut Vec<usize, A>,
     used: &[bool],
@@ -105,13 +97,13 @@ fn list_held<A: Allocator>(
     requires held { (r : Register) → (has_register held r ≡ true) ↔ IsHeld operands.now r }
     ensures { OnOk result (ListsStored used.now operands.now (length operands.now) stored.old.items stored.new.items) }
 {
-    if is_none_held(held) {
+    if held == PRegSet::empty() {
         return Ok(());
     }
     list_stored(stored, used, operands)
 }
 
-/// Notes an edge for each successor, with its position.
+/// Notes `edge` for each of `succs`, with the successor's position.
 #[inline(always)]
 fn note_positions(edges: &mut [Option<EdgeInto>], succs: &[Block], edge: EdgeInto)
     requires { All (λ s. s < length edges.old) succs.now }
@@ -124,7 +116,7 @@ fn note_positions(edges: &mut [Option<EdgeInto>], succs: &[Block], edge: EdgeInt
     }
 }
 
-/// Notes the edges out of a block, if its branch defines.
+/// Notes the edges out of `from`, if its branch defines a vreg.
 fn note_edges_of<A: Allocator, F: Function>(
     edges: &mut [Option<EdgeInto>],
     stored: &mut Vec<usize, A>,
@@ -158,7 +150,7 @@ fn note_edges_of<A: Allocator, F: Function>(
     Ok(())
 }
 
-/// Notes the edges out of all blocks whose branches define.
+/// Notes the edges out of all blocks whose branches define a vreg.
 fn note_edges<A: Allocator, F: Function>(
     edges: &mut [Option<EdgeInto>],
     stored: &mut Vec<usize, A>,
@@ -176,7 +168,7 @@ fn note_edges<A: Allocator, F: Function>(
     Ok(())
 }
 
-/// A table of `num` blocks, with no edge into any.
+/// Returns a table of `num` blocks, with no edge into any.
 fn no_edges<A: Allocator + Copy>(
     alloc: A,
     num: usize,
@@ -187,7 +179,7 @@ fn no_edges<A: Allocator + Copy>(
     Vec::from_elem(alloc, None, num)
 }
 
-/// By block, the edge into it from a branch that defines; and the operands that are listed as stored.
+/// Returns, by block, the edge into it from a branch that defines; and the list of stored operands.
 pub fn edges_into<A: Allocator + Copy, F: Function>(
     alloc: A,
     f: &F,

@@ -13,7 +13,7 @@ use regalloc2_index::{Block, Inst};
 use regalloc2_names::{Operand, VReg};
 use std::alloc::{AllocError, Allocator};
 
-/// Notes an operand as the site of the number that it defines, if it is a definition.
+/// Notes `site` for the number that `operand` defines, if it is a definition.
 fn note_site(sites: &mut [Option<DefSite>], operand: Operand, site: DefSite)
     ensures { sites.new ≡ (if is_def operand.kind then slice_set sites.old operand.vreg.number (Some site) else sites.old) }
 {
@@ -23,7 +23,7 @@ fn note_site(sites: &mut [Option<DefSite>], operand: Operand, site: DefSite)
     }
 }
 
-/// Notes the operands of a branch as the sites of what they define.
+/// Notes `operands` of `branch` as the sites of the vregs that they define.
 fn note_sites(sites: &mut [Option<DefSite>], operands: &[Operand], branch: Inst)
     ensures { NotesSites operands.now branch (length operands.now) sites.old sites.new }
 {
@@ -32,7 +32,7 @@ fn note_sites(sites: &mut [Option<DefSite>], operands: &[Operand], branch: Inst)
     }
 }
 
-/// Notes the operands of the branch that ends a block, if one does.
+/// Notes the operands of the branch that ends `block`, if a branch does.
 fn note_branch<F: Function>(sites: &mut [Option<DefSite>], f: &F, block: Block)
     requires block { block < length (F.function f.now).blocks }
     requires well_formed { MayHaveTables (F.function f.now) }
@@ -56,7 +56,7 @@ fn note_branches<F: Function>(sites: &mut [Option<DefSite>], f: &F)
     }
 }
 
-/// A table of `num` numbers, none with a site.
+/// Returns a table of `num` numbers, none with a site.
 fn no_sites<A: Allocator + Copy>(
     alloc: A,
     num: usize,
@@ -67,7 +67,7 @@ fn no_sites<A: Allocator + Copy>(
     Vec::from_elem(alloc, None, num)
 }
 
-/// By vreg number, up to a bound, the operand of a branch that defines it.
+/// Returns, for each vreg number below `vregs`, the operand of a branch that defines it.
 pub fn branch_sites<A: Allocator + Copy, F: Function>(
     alloc: A,
     f: &F,
@@ -82,7 +82,7 @@ pub fn branch_sites<A: Allocator + Copy, F: Function>(
     Ok(sites)
 }
 
-/// The operand of a branch that defines a vreg.
+/// Returns the operand of a branch that defines `vreg`.
 pub fn site_in(sites: &[Option<DefSite>], vreg: VReg) -> Option<DefSite>
     ensures { result ≡ slice_index_or sites.now vreg.number None }
 {
@@ -93,7 +93,7 @@ pub fn site_in(sites: &[Option<DefSite>], vreg: VReg) -> Option<DefSite>
     sites[number]
 }
 
-/// Whether `branch` defines `vreg`.
+/// Returns `true` if `branch` defines `vreg`.
 pub fn is_site_at(sites: &[Option<DefSite>], vreg: VReg, branch: Inst) -> bool
     ensures { IsTrue result ↔ IsSiteAt sites.now vreg.number branch }
 {

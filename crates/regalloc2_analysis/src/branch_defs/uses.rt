@@ -17,7 +17,7 @@ use regalloc2_index::{Block, Inst};
 use regalloc2_names::{Operand, VReg};
 use std::alloc::{AllocError, Allocator};
 
-/// Marks what an operand reads.
+/// Marks the vreg that `operand` reads.
 fn note_read(used: &mut [bool], operand: Operand)
     ensures { Marks (λ n. (is_reading operand ≡ true) × (operand.vreg.number ≡ n)) used.old used.new }
 {
@@ -26,7 +26,7 @@ fn note_read(used: &mut [bool], operand: Operand)
     }
 }
 
-/// Marks what operands read.
+/// Marks the vregs that `operands` read.
 fn note_reads(used: &mut [bool], operands: &[Operand])
     ensures { Marks (ReadsAmong operands.now (length operands.now)) used.old used.new }
 {
@@ -35,7 +35,7 @@ fn note_reads(used: &mut [bool], operands: &[Operand])
     }
 }
 
-/// Marks what instructions read.
+/// Marks the vregs that instructions read.
 fn note_all_reads<F: Function>(used: &mut [bool], f: &F)
     ensures { Marks (ReadsIn (F.function f.now) (length (F.function f.now).insts)) used.old used.new }
 {
@@ -44,7 +44,7 @@ fn note_all_reads<F: Function>(used: &mut [bool], f: &F)
     }
 }
 
-/// Marks an argument, unless the instruction that passes it defines it.
+/// Marks `argument`, unless `inst`, which passes it, defines it.
 fn note_argument(used: &mut [bool], sites: &[Option<DefSite>], argument: VReg, inst: Inst)
     ensures { Marks (λ n. (argument.number ≡ n) × (IsSiteAt sites.now n inst → ⊥)) used.old used.new }
 {
@@ -53,7 +53,7 @@ fn note_argument(used: &mut [bool], sites: &[Option<DefSite>], argument: VReg, i
     }
 }
 
-/// Marks what an instruction passes to one successor and doesn't define.
+/// Marks each of `arguments` that `inst`, which passes them to one successor, doesn't define.
 fn note_arguments(used: &mut [bool], sites: &[Option<DefSite>], arguments: &[VReg], inst: Inst)
     ensures { Marks (PassesAmong sites.now inst arguments.now (length arguments.now)) used.old used.new }
 {
@@ -62,7 +62,7 @@ fn note_arguments(used: &mut [bool], sites: &[Option<DefSite>], arguments: &[VRe
     }
 }
 
-/// Marks what a block passes to its successors and its last instruction doesn't define.
+/// Marks each vreg that `block` passes to a successor and its last instruction doesn't define.
 fn note_passed<F: Function>(used: &mut [bool], sites: &[Option<DefSite>], f: &F, block: Block)
     requires block { block < length (F.function f.now).blocks }
     requires well_formed { MayHaveTables (F.function f.now) }
@@ -74,7 +74,7 @@ fn note_passed<F: Function>(used: &mut [bool], sites: &[Option<DefSite>], f: &F,
     }
 }
 
-/// Marks what blocks pass and their last instructions don't define.
+/// Marks each vreg that some block passes and its last instruction doesn't define.
 fn note_all_passed<F: Function>(used: &mut [bool], sites: &[Option<DefSite>], f: &F)
     requires well_formed { MayHaveTables (F.function f.now) }
     ensures { Marks (PassesIn (F.function f.now) sites.now (length (F.function f.now).blocks)) used.old used.new }
@@ -84,7 +84,7 @@ fn note_all_passed<F: Function>(used: &mut [bool], sites: &[Option<DefSite>], f:
     }
 }
 
-/// Marks what is used elsewhere.
+/// Marks each vreg that an instruction uses and doesn't define.
 fn note_uses<F: Function>(used: &mut [bool], sites: &[Option<DefSite>], f: &F)
     requires well_formed { MayHaveTables (F.function f.now) }
     requires sites { AreDefSites (F.function f.now) sites.now }
@@ -96,7 +96,8 @@ fn note_uses<F: Function>(used: &mut [bool], sites: &[Option<DefSite>], f: &F)
     note_all_passed(used, sites, f);
 }
 
-/// By vreg number, up to a bound, whether an instruction reads it, or passes it and doesn't define it.
+/// Returns, for each vreg number below `vregs`, whether an instruction reads it, or passes it and doesn't
+/// define it.
 pub fn used_elsewhere<A: Allocator + Copy, F: Function>(
     alloc: A,
     f: &F,

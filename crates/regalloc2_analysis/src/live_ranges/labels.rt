@@ -4,10 +4,10 @@ ghost use Rattle.std.specs.Prelude.{◌≡◌, ℕ, [], length, IfErr, IfOk, IsO
 ghost use Rattle.regalloc2_function.specs.FunctionValue.{label_of};
 ghost use Rattle.regalloc2_function.specs.DebugPoints.{IsKept};
 ghost use Rattle.regalloc2_analysis.specs.LiveRanges.LiveRanges.{AreKeptLabels, AreLabelsMarked, AreLiveRanges, IsKeptRange, IsLabelled, IsSSA, IsWanted};
-ghost use Rattle.regalloc2_analysis.specs.LiveRanges.Slots.{spread};
+ghost use Rattle.regalloc2_analysis.specs.LiveRanges.Entries.{spread};
 ghost use Rattle.regalloc2_analysis.specs.LiveRanges.WalkInvariant.{ListsAdding};
 
-use super::slots::entry;
+use super::entries::entry;
 use super::walk::few_ranges;
 use super::wanted::{marked_labels, naming};
 use super::{KeptLabel, LiveRange};
@@ -16,22 +16,22 @@ use regalloc2_index::Inst;
 use regalloc2_names::{RegAllocError, VReg};
 use std::alloc::Allocator;
 
-/// The live range of the vreg of `label`, if the label is kept: if it starts at or after the first point's instruction, and ends
-/// at most one past the last point's.
+/// Returns the live range of the vreg of `label`, if the label is kept: if it starts at or after the
+/// instruction of the first point, and ends at most one past the instruction of the last point.
 fn kept_range<F: Function>(
     f: &F,
-    slots: &[u32],
+    indexes: &[u32],
     ranges: &[Option<LiveRange>],
     label: (VReg, Inst, Inst, u32),
 ) -> Option<LiveRange>
     requires ssa { IsSSA (F.function f.now) }
-    requires ranges { AreLiveRanges (F.function f.now) (IsLabelled (F.function f.now)) (spread slots.now ranges.now) }
+    requires ranges { AreLiveRanges (F.function f.now) (IsLabelled (F.function f.now)) (spread indexes.now ranges.now) }
     requires labelled { IsLabelled (F.function f.now) (label_of label).vreg.number }
     ensures { MatchOption result ((start end : ℕ) → IsKept (F.function f.now) (label_of label) start end → ⊥)
         (IsKeptRange (F.function f.now) (label_of label)) }
 {
     let (vreg, start, end, _) = label;
-    let range = entry(ranges, slots, vreg.vreg())?;
+    let range = entry(ranges, indexes, vreg.vreg())?;
     let first = range.first.inst().index();
     let last = range.last.inst().index();
     if range.vreg == vreg && first <= start.index() && end.index() <= last + 1 {
@@ -41,21 +41,21 @@ fn kept_range<F: Function>(
     }
 }
 
-/// The labels of a function that are kept, as listed.
+/// Returns the kept labels of `f`, in listed order.
 fn keep_labels<A: Allocator + Copy, F: Function>(
     alloc: A,
     f: &F,
-    slots: &[u32],
+    indexes: &[u32],
     ranges: &[Option<LiveRange>],
 ) -> Result<Vec<KeptLabel, A>, RegAllocError>
     requires ssa { IsSSA (F.function f.now) }
-    requires ranges { AreLiveRanges (F.function f.now) (IsLabelled (F.function f.now)) (spread slots.now ranges.now) }
+    requires ranges { AreLiveRanges (F.function f.now) (IsLabelled (F.function f.now)) (spread indexes.now ranges.now) }
     ensures ok { IfOk result (λ ks. AreKeptLabels (F.function f.now) (F.function f.now).labels ks.items) }
     ensures err { IfErr result (λ e. e ≡ RegAllocError.Memory) }
 {
     let mut kept = Vec::new(alloc);
     for label in f.debug_value_labels() {
-        if let Some(range) = kept_range(f, slots, ranges, *label) {
+        if let Some(range) = kept_range(f, indexes, ranges, *label) {
             let (_, _, _, label) = *label;
             kept.push(KeptLabel { label, range })?;
         }
@@ -66,10 +66,10 @@ fn keep_labels<A: Allocator + Copy, F: Function>(
 /// Returns what [`kept_labels`] returns, from a table of the labelled vregs and a list of the
 /// instructions that may add something to their live ranges, in order.
 ///
-/// For callers that pass over all operands anyway. `wanted` is the table that [`marked_labels`] returns. `listed`
-/// has each instruction that defines a labelled vreg, and each whose operands read one that no
-/// later instruction reads or passes as an argument. It may have more. Only the listed instructions and
-/// the last one of each block are read.
+/// For callers that pass over all operands anyway. `wanted` is the table that [`marked_labels`]
+/// returns. `listed` has each instruction that defines a labelled vreg, and each instruction whose
+/// operands read a labelled vreg that no later instruction reads or passes as an argument. It may have
+/// more. Only the listed instructions and the last instruction of each block are read.
 ///
 /// [`marked_labels`]: super::marked_labels
 pub fn kept_labels_by<A: Allocator + Copy, F: Function>(
@@ -89,10 +89,10 @@ pub fn kept_labels_by<A: Allocator + Copy, F: Function>(
         return Ok(Vec::new(alloc));
     }
     let few = few_ranges(alloc, f, wanted, listed)?;
-    keep_labels(alloc, f, few.slots.as_slice(), few.entries.as_slice())
+    keep_labels(alloc, f, few.indexes.as_slice(), few.entries.as_slice())
 }
 
-/// The debug labels of a function that are kept, as listed, each with the live range of its vreg.
+/// Returns the debug labels of `f` that are kept, in listed order, each with the live range of its vreg.
 ///
 /// A label is kept where its vreg has a first and a last point, and the label starts at or after
 /// the first point's instruction and ends at most one past the last point's, as upstream's

@@ -9,19 +9,20 @@ ghost use Rattle.regalloc2_function.specs.DebugPoints.{DefinesAt, UsesAt};
 ghost use Rattle.regalloc2_function.specs.TableLength.{CoversDefinitions};
 ghost use Rattle.regalloc2_analysis.specs.LiveRanges.LastUses.{end_at, end_behind};
 ghost use Rattle.regalloc2_analysis.specs.LiveRanges.LiveRanges.{IsSSA, IsWanted, range_at};
-ghost use Rattle.regalloc2_analysis.specs.LiveRanges.Slots.{AreSlots, spread};
+ghost use Rattle.regalloc2_analysis.specs.LiveRanges.Entries.{AreEntryIndexes, spread};
 ghost use Rattle.regalloc2_analysis.specs.LiveRanges.WalkInvariant.{AreEndsFrom, AreRight, Stay};
 
 use super::ends::RangeEnd;
-use super::slots::{entry, set_entry};
+use super::entries::{entry, set_entry};
 use super::wanted::is_wanted;
 use super::{InstOperand, LiveRange};
 use regalloc2_function::Function;
 use regalloc2_index::{Block, Inst};
 use regalloc2_names::{Operand, ProgPoint, VReg};
 
-/// The end of what `inst` defines, where `noted` is its last use from the instruction on. An end right
-/// before the instruction is an argument that the instruction itself passes, which doesn't count.
+/// Returns the end of the live range of a vreg that `inst` defines and whose last use from `inst` on is
+/// `noted`, or `unused` if nothing uses it. An end right before `inst` is an argument that `inst` itself
+/// passes, which doesn't count.
 fn end_of_defined(noted: Option<RangeEnd>, inst: Inst, unused: RangeEnd) -> RangeEnd
     requires { inst < inst_limit }
     ensures { result ≡ end_behind inst noted unused }
@@ -33,33 +34,33 @@ fn end_of_defined(noted: Option<RangeEnd>, inst: Inst, unused: RangeEnd) -> Rang
     }
 }
 
-/// Whether an operand defines a requested vreg.
+/// Returns `true` if `operand` defines a requested vreg.
 fn defines_wanted(wanted: &[bool], operand: Operand) -> bool
     ensures { result ≡ is_def operand.kind && slice_index_or wanted.now operand.vreg.number false }
 {
     operand.is_def() && is_wanted(wanted, operand.vreg())
 }
 
-/// Completes the live ranges of the requested vregs that an instruction defines. If nothing uses a
-/// vreg, the operand of its last point is its definition.
+/// Completes the live ranges of the requested vregs that `inst` defines. If nothing uses a vreg, the
+/// operand of its last point is its definition.
 pub fn begin_at_defs<F: Function>(
     ranges: &mut [Option<LiveRange>],
     ends: &[Option<RangeEnd>],
-    slots: &[u32],
+    indexes: &[u32],
     f: &F,
     wanted: &[bool],
     inst: Inst,
 )
     requires ssa { IsSSA (F.function f.now) }
     requires inst { inst < length (F.function f.now).insts }
-    requires room { CoversDefinitions (F.function f.now) (length slots.now) }
-    requires ends { AreEndsFrom (F.function f.now) (IsWanted wanted.now) inst (spread slots.now ends.now) }
-    requires slots { AreSlots wanted.now slots.now (length ranges.old) }
-    requires right { AreRight (F.function f.now) (spread slots.now ranges.old) }
-    ensures right { AreRight (F.function f.now) (spread slots.now ranges.new) }
-    ensures stay { Stay (spread slots.now ranges.old) (spread slots.now ranges.new) }
+    requires room { CoversDefinitions (F.function f.now) (length indexes.now) }
+    requires ends { AreEndsFrom (F.function f.now) (IsWanted wanted.now) inst (spread indexes.now ends.now) }
+    requires indexes { AreEntryIndexes wanted.now indexes.now (length ranges.old) }
+    requires right { AreRight (F.function f.now) (spread indexes.now ranges.old) }
+    ensures right { AreRight (F.function f.now) (spread indexes.now ranges.new) }
+    ensures stay { Stay (spread indexes.now ranges.old) (spread indexes.now ranges.new) }
     ensures defined { (v : VirtualRegister) → IsWanted wanted.now v.number → DefinesAt (F.function f.now) v inst →
-        range_at (spread slots.now ranges.new) v.number ≢ None }
+        range_at (spread indexes.now ranges.new) v.number ≢ None }
 {
     for (index, operand) in f.inst_operands(inst).iter().enumerate() {
         if defines_wanted(wanted, *operand) {
@@ -68,30 +69,30 @@ pub fn begin_at_defs<F: Function>(
                 last: ProgPoint::before(inst.next()),
                 by: Some(InstOperand { inst, index }),
             };
-            let end = end_of_defined(entry(ends, slots, vreg.vreg()), inst, unused);
+            let end = end_of_defined(entry(ends, indexes, vreg.vreg()), inst, unused);
             let range = LiveRange {
                 vreg,
                 first: ProgPoint::after(inst),
                 last: end.last,
                 by: end.by,
             };
-            set_entry(ranges, slots, vreg.vreg(), range);
+            set_entry(ranges, indexes, vreg.vreg(), range);
         }
     }
 }
 
-/// The end that is noted for a vreg, if the vreg is requested.
+/// Returns the end that is noted for `vreg`, if the vreg is requested.
 fn wanted_end(
     wanted: &[bool],
     ends: &[Option<RangeEnd>],
-    slots: &[u32],
+    indexes: &[u32],
     vreg: VReg,
 ) -> Option<RangeEnd>
-    ensures some { IfSome result (λ e. IsWanted wanted.now vreg.number × (end_at (spread slots.now ends.now) vreg.number ≡ Some e)) }
-    ensures none { IfNone result (IsWanted wanted.now vreg.number → end_at (spread slots.now ends.now) vreg.number ≡ None) }
+    ensures some { IfSome result (λ e. IsWanted wanted.now vreg.number × (end_at (spread indexes.now ends.now) vreg.number ≡ Some e)) }
+    ensures none { IfNone result (IsWanted wanted.now vreg.number → end_at (spread indexes.now ends.now) vreg.number ≡ None) }
 {
     if is_wanted(wanted, vreg) {
-        entry(ends, slots, vreg.vreg())
+        entry(ends, indexes, vreg.vreg())
     } else {
         None
     }
@@ -102,32 +103,32 @@ fn wanted_end(
 pub fn begin_at_params<F: Function>(
     ranges: &mut [Option<LiveRange>],
     ends: &[Option<RangeEnd>],
-    slots: &[u32],
+    indexes: &[u32],
     f: &F,
     wanted: &[bool],
     block: Block,
 )
     requires ssa { IsSSA (F.function f.now) }
     requires block { block < length (F.function f.now).blocks }
-    requires room { CoversDefinitions (F.function f.now) (length slots.now) }
-    requires ends { AreEndsFrom (F.function f.now) (IsWanted wanted.now) (block_at (F.function f.now) block).range.first (spread slots.now ends.now) }
-    requires slots { AreSlots wanted.now slots.now (length ranges.old) }
-    requires right { AreRight (F.function f.now) (spread slots.now ranges.old) }
-    ensures right { AreRight (F.function f.now) (spread slots.now ranges.new) }
-    ensures stay { Stay (spread slots.now ranges.old) (spread slots.now ranges.new) }
+    requires room { CoversDefinitions (F.function f.now) (length indexes.now) }
+    requires ends { AreEndsFrom (F.function f.now) (IsWanted wanted.now) (block_at (F.function f.now) block).range.first (spread indexes.now ends.now) }
+    requires indexes { AreEntryIndexes wanted.now indexes.now (length ranges.old) }
+    requires right { AreRight (F.function f.now) (spread indexes.now ranges.old) }
+    ensures right { AreRight (F.function f.now) (spread indexes.now ranges.new) }
+    ensures stay { Stay (spread indexes.now ranges.old) (spread indexes.now ranges.new) }
     ensures taken { (v : VirtualRegister) (j : ℕ) → IsWanted wanted.now v.number → Contains (block_at (F.function f.now) block).params v →
-        UsesAt (F.function f.now) v j → range_at (spread slots.now ranges.new) v.number ≢ None }
+        UsesAt (F.function f.now) v j → range_at (spread indexes.now ranges.new) v.number ≢ None }
 {
     let first = ProgPoint::before(f.block_insns(block).first());
     for param in f.block_params(block) {
-        if let Some(end) = wanted_end(wanted, ends, slots, *param) {
+        if let Some(end) = wanted_end(wanted, ends, indexes, *param) {
             let range = LiveRange {
                 vreg: *param,
                 first,
                 last: end.last,
                 by: end.by,
             };
-            set_entry(ranges, slots, param.vreg(), range);
+            set_entry(ranges, indexes, param.vreg(), range);
         }
     }
 }

@@ -4,13 +4,13 @@ ghost use Rattle.std.specs.Prelude.{◌≡◌, ◌+◌, ◌-◌, ◌<◌, ◌≤
 ghost use Rattle.regalloc2_function.specs.FunctionValue.{block_at};
 ghost use Rattle.regalloc2_function.specs.TableLength.{CoversDefinitions};
 ghost use Rattle.regalloc2_analysis.specs.LiveRanges.LiveRanges.{AreLiveRanges, IsSSA, IsWanted};
-ghost use Rattle.regalloc2_analysis.specs.LiveRanges.Slots.{AreSlots, spread};
+ghost use Rattle.regalloc2_analysis.specs.LiveRanges.Entries.{AreEntryIndexes, spread};
 ghost use Rattle.regalloc2_analysis.specs.LiveRanges.WalkInvariant.{AreRangesWalked, ListsAdding};
 
 use super::LiveRange;
 use super::ends::{RangeEnd, note_passed, note_uses};
+use super::entries::{entry, indexes_of};
 use super::ranges::{begin_at_defs, begin_at_params};
-use super::slots::{entry, slots_of};
 use super::wanted::naming;
 use regalloc2_function::Function;
 use regalloc2_function::table_length::table_length;
@@ -18,15 +18,15 @@ use regalloc2_index::{Block, Inst};
 use regalloc2_names::RegAllocError;
 use std::alloc::{AllocError, Allocator};
 
-/// The requested live ranges. `slots` has by number the index of the number's entry, which is past
+/// The requested live ranges. `indexes` has by number the index of the number's entry, which is past
 /// the end if the number has none.
 #[derive(Drop)]
 pub struct FewRanges<A: Allocator> {
-    pub slots: Vec<u32, A>,
+    pub indexes: Vec<u32, A>,
     pub entries: Vec<Option<LiveRange>, A>,
 }
 
-/// Whether `inst` is the last of the first `many` listed instructions.
+/// Returns `true` if `inst` is the last of the first `many` instructions of `listed`.
 fn is_next(listed: &[u32], many: usize, inst: Inst) -> bool
     requires { many ≤ length listed.now }
     ensures { IsTrue result ↔ ((0 < many) × (slice_index_or listed.now (many - 1) 0 ≡ inst)) }
@@ -34,7 +34,7 @@ fn is_next(listed: &[u32], many: usize, inst: Inst) -> bool
     many > 0 && listed[many - 1] as usize == inst.index()
 }
 
-/// Whether the last of the first `many` listed instructions is `inst` or comes after it.
+/// Returns `true` if the last of the first `many` instructions of `listed` is `inst` or comes after it.
 fn is_left(listed: &[u32], many: usize, inst: Inst) -> bool
     requires { many ≤ length listed.now }
     ensures { IsTrue result ↔ ((0 < many) × (inst ≤ slice_index_or listed.now (many - 1) 0)) }
@@ -42,11 +42,11 @@ fn is_left(listed: &[u32], many: usize, inst: Inst) -> bool
     many > 0 && listed[many - 1] as usize >= inst.index()
 }
 
-/// Walks an instruction of a block: what it uses, then what it defines.
+/// Walks `inst` of `block`: its uses, then its definitions.
 fn walk_inst<F: Function>(
     ends: &mut [Option<RangeEnd>],
     ranges: &mut [Option<LiveRange>],
-    slots: &[u32],
+    indexes: &[u32],
     f: &F,
     wanted: &[bool],
     block: Block,
@@ -56,23 +56,23 @@ fn walk_inst<F: Function>(
     requires block { block < length (F.function f.now).blocks }
     requires first { (block_at (F.function f.now) block).range.first ≤ inst }
     requires end { inst < (block_at (F.function f.now) block).range.end }
-    requires ends_slots { AreSlots wanted.now slots.now (length ends.old) }
-    requires ranges_slots { AreSlots wanted.now slots.now (length ranges.old) }
+    requires ends_indexes { AreEntryIndexes wanted.now indexes.now (length ends.old) }
+    requires ranges_indexes { AreEntryIndexes wanted.now indexes.now (length ranges.old) }
     requires walked { AreRangesWalked (F.function f.now) (IsWanted wanted.now) (inst + 1) (block + 1)
-        (spread slots.now ends.old) (spread slots.now ranges.old) }
+        (spread indexes.now ends.old) (spread indexes.now ranges.old) }
     ensures { AreRangesWalked (F.function f.now) (IsWanted wanted.now) inst (block + 1)
-        (spread slots.now ends.new) (spread slots.now ranges.new) }
+        (spread indexes.now ends.new) (spread indexes.now ranges.new) }
 {
-    note_uses(ends, slots, f, block, inst);
-    begin_at_defs(ranges, ends, slots, f, wanted, inst);
+    note_uses(ends, indexes, f, block, inst);
+    begin_at_defs(ranges, ends, indexes, f, wanted, inst);
 }
 
-/// Walks the last instruction of a block. If it isn't listed, only the arguments that it passes are
-/// noted. Returns how many listed instructions are left.
+/// Walks `last`, the last instruction of `block`. If it isn't listed, only the arguments that it passes
+/// are noted. Of the first `many` listed instructions, returns how many are left.
 fn walk_last<F: Function>(
     ends: &mut [Option<RangeEnd>],
     ranges: &mut [Option<LiveRange>],
-    slots: &[u32],
+    indexes: &[u32],
     f: &F,
     wanted: &[bool],
     listed: &[u32],
@@ -83,29 +83,29 @@ fn walk_last<F: Function>(
     requires ssa { IsSSA (F.function f.now) }
     requires block { block < length (F.function f.now).blocks }
     requires last { last + 1 ≡ (block_at (F.function f.now) block).range.end }
-    requires ends_slots { AreSlots wanted.now slots.now (length ends.old) }
-    requires ranges_slots { AreSlots wanted.now slots.now (length ranges.old) }
+    requires ends_indexes { AreEntryIndexes wanted.now indexes.now (length ends.old) }
+    requires ranges_indexes { AreEntryIndexes wanted.now indexes.now (length ranges.old) }
     requires listed { ListsAdding (F.function f.now) (IsWanted wanted.now) listed.now many (last + 1) }
     requires walked { AreRangesWalked (F.function f.now) (IsWanted wanted.now) (last + 1) (block + 1)
-        (spread slots.now ends.old) (spread slots.now ranges.old) }
+        (spread indexes.now ends.old) (spread indexes.now ranges.old) }
     ensures listed { ListsAdding (F.function f.now) (IsWanted wanted.now) listed.now result last }
     ensures walked { AreRangesWalked (F.function f.now) (IsWanted wanted.now) last (block + 1)
-        (spread slots.now ends.new) (spread slots.now ranges.new) }
+        (spread indexes.now ends.new) (spread indexes.now ranges.new) }
 {
     if is_next(listed, many, last) {
-        walk_inst(ends, ranges, slots, f, wanted, block, last);
+        walk_inst(ends, ranges, indexes, f, wanted, block, last);
         return many - 1;
     }
-    note_passed(ends, slots, f, block, last);
+    note_passed(ends, indexes, f, block, last);
     many
 }
 
-/// Walks the listed instructions of a block, and the last one. Returns how many listed instructions
-/// are left.
+/// Walks the listed instructions of `block`, and its last instruction. Of the first `many` listed
+/// instructions, returns how many are left.
 fn walk_insts<F: Function>(
     ends: &mut [Option<RangeEnd>],
     ranges: &mut [Option<LiveRange>],
-    slots: &[u32],
+    indexes: &[u32],
     f: &F,
     wanted: &[bool],
     listed: &[u32],
@@ -114,23 +114,23 @@ fn walk_insts<F: Function>(
 ) -> usize
     requires ssa { IsSSA (F.function f.now) }
     requires block { block < length (F.function f.now).blocks }
-    requires ends_slots { AreSlots wanted.now slots.now (length ends.old) }
-    requires ranges_slots { AreSlots wanted.now slots.now (length ranges.old) }
+    requires ends_indexes { AreEntryIndexes wanted.now indexes.now (length ends.old) }
+    requires ranges_indexes { AreEntryIndexes wanted.now indexes.now (length ranges.old) }
     requires listed { ListsAdding (F.function f.now) (IsWanted wanted.now) listed.now many (block_at (F.function f.now) block).range.end }
     requires walked { AreRangesWalked (F.function f.now) (IsWanted wanted.now) (block_at (F.function f.now) block).range.end (block + 1)
-        (spread slots.now ends.old) (spread slots.now ranges.old) }
+        (spread indexes.now ends.old) (spread indexes.now ranges.old) }
     ensures listed { ListsAdding (F.function f.now) (IsWanted wanted.now) listed.now result (block_at (F.function f.now) block).range.first }
     ensures walked { AreRangesWalked (F.function f.now) (IsWanted wanted.now) (block_at (F.function f.now) block).range.first (block + 1)
-        (spread slots.now ends.new) (spread slots.now ranges.new) }
+        (spread indexes.now ends.new) (spread indexes.now ranges.new) }
 {
     let range = f.block_insns(block);
     let first = range.first();
-    let last = Inst::new(range.end().index() - 1);
-    let mut left = walk_last(ends, ranges, slots, f, wanted, listed, many, block, last);
+    let last = range.last();
+    let mut left = walk_last(ends, ranges, indexes, f, wanted, listed, many, block, last);
     while is_left(listed, left, first) {
         left -= 1;
         let inst = Inst::new(listed[left] as usize);
-        walk_inst(ends, ranges, slots, f, wanted, block, inst);
+        walk_inst(ends, ranges, indexes, f, wanted, block, inst);
     }
     left
 }
@@ -139,34 +139,34 @@ fn walk_insts<F: Function>(
 fn walk_blocks<F: Function>(
     ends: &mut [Option<RangeEnd>],
     ranges: &mut [Option<LiveRange>],
-    slots: &[u32],
+    indexes: &[u32],
     f: &F,
     wanted: &[bool],
     listed: &[u32],
 )
     requires ssa { IsSSA (F.function f.now) }
-    requires room { CoversDefinitions (F.function f.now) (length slots.now) }
-    requires slots { AreSlots wanted.now slots.now (length ends.old) }
+    requires room { CoversDefinitions (F.function f.now) (length indexes.now) }
+    requires indexes { AreEntryIndexes wanted.now indexes.now (length ends.old) }
     requires listed { ListsAdding (F.function f.now) (IsWanted wanted.now) listed.now (length listed.now) (length (F.function f.now).insts) }
     requires no_ends { ends.old ≡ replicate (length ends.old) None }
     requires no_ranges { ranges.old ≡ replicate (length ends.old) None }
-    ensures { AreLiveRanges (F.function f.now) (IsWanted wanted.now) (spread slots.now ranges.new) }
+    ensures { AreLiveRanges (F.function f.now) (IsWanted wanted.now) (spread indexes.now ranges.new) }
 {
     let mut b = f.num_blocks();
     let mut many = listed.len();
     while b > 0 {
         b -= 1;
         let block = Block::new(b);
-        many = walk_insts(ends, ranges, slots, f, wanted, listed, many, block);
-        begin_at_params(ranges, ends, slots, f, wanted, block);
+        many = walk_insts(ends, ranges, indexes, f, wanted, listed, many, block);
+        begin_at_params(ranges, ends, indexes, f, wanted, block);
     }
 }
 
-/// The live ranges of the requested vregs, in tables as long as the number of these vregs.
+/// Returns the live ranges of the requested vregs, in tables with an entry for each of these vregs.
 ///
-/// Only the listed instructions and the last one of each block are read. An instruction that isn't
-/// listed adds nothing: it defines no requested vreg, and each requested vreg that its operands read is used
-/// later, too.
+/// Only the listed instructions and the last instruction of each block are read. An instruction that
+/// isn't listed adds nothing: it defines no requested vreg, and each requested vreg that its operands
+/// read is used later, too.
 pub fn few_ranges<A: Allocator + Copy, F: Function>(
     alloc: A,
     f: &F,
@@ -175,43 +175,43 @@ pub fn few_ranges<A: Allocator + Copy, F: Function>(
 ) -> Result<FewRanges<A>, AllocError>
     requires ssa { IsSSA (F.function f.now) }
     requires listed { ListsAdding (F.function f.now) (IsWanted wanted.now) listed.now (length listed.now) (length (F.function f.now).insts) }
-    ensures ok { IfOk result (λ r. AreLiveRanges (F.function f.now) (IsWanted wanted.now) (spread r.slots.items r.entries.items)) }
-    ensures few { IfOk result (λ r. length r.slots.items ≤ (F.function f.now).num_vregs) }
+    ensures ok { IfOk result (λ r. AreLiveRanges (F.function f.now) (IsWanted wanted.now) (spread r.indexes.items r.entries.items)) }
+    ensures few { IfOk result (λ r. length r.indexes.items ≤ (F.function f.now).num_vregs) }
 {
-    let (slots, count) = slots_of(alloc, wanted, table_length(f))?;
+    let (indexes, count) = indexes_of(alloc, wanted, table_length(f))?;
     let mut ends: Vec<Option<RangeEnd>, A> = Vec::from_elem(alloc, None, count)?;
     let mut entries = Vec::from_elem(alloc, None, count)?;
     walk_blocks(
         ends.as_mut_slice(),
         entries.as_mut_slice(),
-        slots.as_slice(),
+        indexes.as_slice(),
         f,
         wanted,
         listed,
     );
-    Ok(FewRanges { slots, entries })
+    Ok(FewRanges { indexes, entries })
 }
 
-/// The table `entries` by number.
+/// Returns the table `entries` by number.
 fn spread_out<A: Allocator + Copy>(
     alloc: A,
-    slots: &[u32],
+    indexes: &[u32],
     entries: &[Option<LiveRange>],
 ) -> Result<Vec<Option<LiveRange>, A>, AllocError>
-    ensures { IfOk result (λ t. t.items ≡ spread slots.now entries.now) }
+    ensures { IfOk result (λ t. t.items ≡ spread indexes.now entries.now) }
 {
-    let mut ranges = Vec::with_capacity(alloc, slots.len())?;
-    for number in 0..slots.len() {
-        ranges.push(entry(entries, slots, number))?;
+    let mut ranges = Vec::with_capacity(alloc, indexes.len())?;
+    for number in 0..indexes.len() {
+        ranges.push(entry(entries, indexes, number))?;
     }
     Ok(ranges)
 }
 
-/// The live ranges of the requested vregs, by number: none for a number that isn't defined, or that
-/// is a parameter's and never used. If all are requested, each is there.
+/// Returns the live ranges of the requested vregs, by number: none for a number that isn't defined, or
+/// that is a parameter's and never used.
 ///
-/// Each range is the one of upstream's `vreg_to_live_inst_range`. Requires what each well-formed function
-/// meets (`IsSSA`): its blocks follow one another, each number is defined once, and each use comes
+/// Each range is the one of upstream's `vreg_to_live_inst_range`. Requires what each well-formed
+/// function meets (`IsSSA`): its blocks follow one another, each number is defined once, and each use comes
 /// after its definition. The time is linear in the operands, the arguments, the parameters and what
 /// `table_length` returns. The only error is `Memory`, if an allocation for two tables of that
 /// length, or for two of the requested vregs, fails.
@@ -227,5 +227,5 @@ pub fn live_ranges<A: Allocator + Copy, F: Function>(
 {
     let named = naming(alloc, f, wanted)?;
     let few = few_ranges(alloc, f, wanted, named.as_slice())?;
-    Ok(spread_out(alloc, few.slots.as_slice(), few.entries.as_slice())?)
+    Ok(spread_out(alloc, few.indexes.as_slice(), few.entries.as_slice())?)
 }

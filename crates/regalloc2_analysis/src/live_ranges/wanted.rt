@@ -16,14 +16,14 @@ use regalloc2_index::Inst;
 use regalloc2_names::{Operand, VReg};
 use std::alloc::{AllocError, Allocator};
 
-/// Whether a vreg is requested.
+/// Returns `true` if `vreg` is requested.
 pub fn is_wanted(wanted: &[bool], vreg: VReg) -> bool
     ensures { result ≡ slice_index_or wanted.now vreg.number false }
 {
     is_marked(wanted, vreg.vreg())
 }
 
-/// Whether an operand names a requested vreg.
+/// Returns `true` if one of `operands` names a requested vreg.
 fn some_is_wanted(wanted: &[bool], operands: &[Operand]) -> bool
     ensures { IsTrue result ↔ ((k : ℕ) × (k < length operands.now) × IsWanted wanted.now (op_at operands.now k).vreg.number) }
 {
@@ -35,7 +35,7 @@ fn some_is_wanted(wanted: &[bool], operands: &[Operand]) -> bool
     false
 }
 
-/// Whether no operand of an instruction names a requested vreg.
+/// Returns `true` if no operand of `inst` names a requested vreg.
 pub fn names_none<F: Function>(f: &F, wanted: &[bool], inst: Inst) -> bool
     requires { inst < length (F.function f.now).insts }
     ensures { IsTrue result ↔ NamesNoAsked (F.function f.now) (IsWanted wanted.now) inst }
@@ -43,7 +43,7 @@ pub fn names_none<F: Function>(f: &F, wanted: &[bool], inst: Inst) -> bool
     !some_is_wanted(wanted, f.inst_operands(inst))
 }
 
-/// The instructions that name a requested vreg, in order.
+/// Returns the numbers of the instructions that name a requested vreg, in order.
 pub fn naming<A: Allocator + Copy, F: Function>(
     alloc: A,
     f: &F,
@@ -61,7 +61,7 @@ pub fn naming<A: Allocator + Copy, F: Function>(
     Ok(named)
 }
 
-/// Marks the numbers of the vregs that labels name.
+/// Marks the numbers of the vregs that `labels` name.
 fn mark_labelled(wanted: &mut [bool], labels: &[(VReg, Inst, Inst, u32)])
     ensures { Marks (NamedAmong labels.now (length labels.now)) wanted.old wanted.new }
 {
@@ -70,7 +70,7 @@ fn mark_labelled(wanted: &mut [bool], labels: &[(VReg, Inst, Inst, u32)])
     }
 }
 
-/// By number, whether a label names the vreg, for the numbers that the function defines.
+/// Marks the numbers that `f` defines and labels name.
 fn labelled<A: Allocator + Copy, F: Function>(alloc: A, f: &F) -> Result<Vec<bool, A>, AllocError>
     ensures room { IfOk result (λ w. CoversDefinitions (F.function f.now) (length w.items)) }
     ensures marks { IfOk result (λ w. (n : ℕ) → n < length w.items → IsWanted w.items n ↔ IsLabelled (F.function f.now) n) }

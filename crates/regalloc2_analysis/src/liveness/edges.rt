@@ -9,7 +9,7 @@ use regalloc2_function::Function;
 use regalloc2_index::Block;
 use std::alloc::{AllocError, Allocator};
 
-/// `num` empty lists.
+/// Returns `num` empty lists.
 fn no_edges<A: Allocator + Copy>(alloc: A, num: usize) -> Result<Vec<Vec<Block, A>, A>, AllocError>
     ensures len { IfOk result (λ w. length w.items ≡ num) }
     ensures none { IfOk result (λ w. (n : ℕ) → blocks_of w.items n ≡ []) }
@@ -21,7 +21,7 @@ fn no_edges<A: Allocator + Copy>(alloc: A, num: usize) -> Result<Vec<Vec<Block, 
     Ok(edges)
 }
 
-/// Adds a block to the lists of its successors, once for each position.
+/// Adds `block` to the lists of its successors `succs`, once for each position.
 fn add_edges<A: Allocator + Copy>(
     edges: &mut [Vec<Block, A>],
     succs: &[Block],
@@ -54,8 +54,8 @@ fn add_all_edges<A: Allocator + Copy, F: Function>(
     Ok(())
 }
 
-/// For each block the blocks with an edge to it, found by successors: the predecessors that a
-/// function names needn't be right. Linear in the blocks and edges.
+/// Returns, for each block, the blocks with an edge to it, found by successors: the predecessors that
+/// `f` names needn't be right. Linear in the blocks and edges.
 pub fn edges_into<A: Allocator + Copy, F: Function>(
     alloc: A,
     f: &F,

@@ -10,8 +10,8 @@ use regalloc2_names::VReg;
 use std::alloc::{AllocError, Allocator};
 use std::marker::Model;
 
-/// The vregs that blocks are found to need at their beginnings: pairs in the order in which they were found,
-/// each once.
+/// The vregs that blocks are found to need at their beginnings: pairs in the order in which they were
+/// found, each once.
 #[derive(Drop)]
 pub struct Needs<A: Allocator> {
     found: Vec<(Block, VReg), A>,
@@ -31,7 +31,7 @@ impl<A: Allocator> Model for Needs<A> {
 }
 
 impl<A: Allocator + Copy> Needs<A> {
-    /// No need.
+    /// Returns no needs.
     pub fn new(alloc: A) -> Self
         ensures { result ≡ [] }
     {
@@ -41,14 +41,14 @@ impl<A: Allocator + Copy> Needs<A> {
         }
     }
 
-    /// How many pairs were found.
+    /// Returns the number of pairs that were found.
     pub fn len(&self) -> usize
         ensures { result ≡ length self.now }
     {
         self.found.len()
     }
 
-    /// The pair at `index`, in the order in which pairs were found.
+    /// Returns the pair at `index`, in the order in which pairs were found.
     pub fn at(&self, index: usize) -> (Block, VReg)
         requires { index < length self.now }
         ensures { result ≡ slice_index_or self.now index result }
@@ -56,7 +56,8 @@ impl<A: Allocator + Copy> Needs<A> {
         self.found[index]
     }
 
-    /// Adds a pair, if it wasn't found yet. If an allocation fails, nothing changes.
+    /// Adds the pair of `block` and `vreg`, if it wasn't found yet. If an allocation fails, nothing
+    /// changes.
     pub fn add(&mut self, block: Block, vreg: VReg) -> Result<(), AllocError>
         ensures ok { OnOk result (self.new ≡ (if lists self.old (block, vreg) then self.old else self.old ++ (block, vreg) ∷ [])) }
         ensures err { OnErr result (self.new ≡ self.old) }
@@ -72,7 +73,8 @@ impl<A: Allocator + Copy> Needs<A> {
         Ok(())
     }
 
-    /// Adds what a block reads or passes, if it wasn't found yet and the block hasn't written it.
+    /// Adds the pair of `block` and `vreg`, which the block reads or passes, if the pair wasn't found yet
+    /// and the block hasn't written the vreg.
     pub fn ask(
         &mut self,
         written: &BlockVRegs<A>,
@@ -90,7 +92,7 @@ impl<A: Allocator + Copy> Needs<A> {
         self.add(block, vreg)
     }
 
-    /// Whether no pair is of `block`.
+    /// Returns `true` if no pair is of `block`.
     pub fn none_at(&self, block: Block) -> bool
         ensures { IsTrue result ↔ All (λ p. p.0 ≢ block) self.now }
     {

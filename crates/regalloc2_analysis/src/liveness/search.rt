@@ -1,4 +1,5 @@
-//! Whether a path from the entry comes to a block that reads or passes a vreg, without a write of that vreg before.
+//! The search for a path from the entry to a block that reads or passes a vreg, without a write of the
+//! vreg before.
 
 ghost use Rattle.std.specs.Prelude.{◌≡◌, ◌<◌, ◌↔◌, ℕ, All, Any, length, true, Contains, IfOk, IfSome, IsTrue, OnOk};
 ghost use Rattle.regalloc2_function.specs.FunctionValue.{FunctionValue, block_at};
@@ -17,14 +18,14 @@ use regalloc2_index::{Block, Inst};
 use regalloc2_names::{Operand, OperandPos, VReg};
 use std::alloc::{AllocError, Allocator};
 
-/// Whether an operand reads a vreg at a position.
+/// Returns `true` if `operand` reads `vreg` at `pos`.
 fn reads(operand: Operand, pos: OperandPos, vreg: VReg) -> bool
     ensures { IsTrue result ↔ ((reads_at pos operand ≡ true) × (operand.vreg ≡ vreg)) }
 {
     operand.reads_at(pos) && operand.vreg() == vreg
 }
 
-/// Whether some operand reads a vreg at a position.
+/// Returns `true` if one of `operands` reads `vreg` at `pos`.
 fn is_read(operands: &[Operand], pos: OperandPos, vreg: VReg) -> bool
     ensures { result ≡ true → Any (λ o. (reads_at pos o ≡ true) × (o.vreg ≡ vreg)) operands.now }
 {
@@ -36,7 +37,7 @@ fn is_read(operands: &[Operand], pos: OperandPos, vreg: VReg) -> bool
     false
 }
 
-/// Whether some operand defines a vreg.
+/// Returns `true` if one of `operands` defines `vreg`.
 #[inline]
 fn is_defined(operands: &[Operand], vreg: VReg) -> bool
     ensures { IsTrue result ↔ Any (λ o. (is_def o.kind ≡ true) × (o.vreg ≡ vreg)) operands.now }
@@ -46,14 +47,14 @@ fn is_defined(operands: &[Operand], vreg: VReg) -> bool
         .any(|operand| operand.is_def() && operand.vreg() == vreg)
 }
 
-/// Whether a list names a vreg.
+/// Returns `true` if `vreg` is one of `vregs`.
 fn is_named(vregs: &[VReg], vreg: VReg) -> bool
     ensures { IsTrue result ↔ Contains vregs.now vreg }
 {
     vregs.contains(&vreg)
 }
 
-/// Whether no instruction of a block defines a vreg.
+/// Returns `true` if no instruction of `block` defines `vreg`.
 fn is_unwritten<F: Function>(f: &F, block: Block, vreg: VReg) -> bool
     requires framed { IsFramed (F.function f.now) }
     requires block { block < length (F.function f.now).blocks }
@@ -68,7 +69,7 @@ fn is_unwritten<F: Function>(f: &F, block: Block, vreg: VReg) -> bool
     true
 }
 
-/// Whether a block passes a vreg on an edge.
+/// Returns `true` if `block` passes `vreg` on an edge.
 fn is_passed<F: Function>(f: &F, block: Block, vreg: VReg) -> bool
     requires framed { IsFramed (F.function f.now) }
     requires block { block < length (F.function f.now).blocks }
@@ -83,7 +84,7 @@ fn is_passed<F: Function>(f: &F, block: Block, vreg: VReg) -> bool
     false
 }
 
-/// Whether a block reads or passes a vreg without a definition before.
+/// Returns `true` if `block` reads or passes `vreg` without a definition before.
 fn is_asked<F: Function>(f: &F, block: Block, vreg: VReg) -> bool
     requires framed { IsFramed (F.function f.now) }
     requires block { block < length (F.function f.now).blocks }
@@ -105,8 +106,9 @@ fn is_asked<F: Function>(f: &F, block: Block, vreg: VReg) -> bool
     is_passed(f, block, vreg)
 }
 
-/// Marks the unmarked successors of `block` that don't have `vreg` as a parameter, and adds them to the work: to `near` if their
-/// numbers are below the number of `sought`, else to `far`. Returns `true` as soon as one of them is `sought`.
+/// Marks the unmarked successors of `block` that don't have `vreg` as a parameter, and adds them to the
+/// work: to `near` if their numbers are below the number of `sought`, else to `far`. Returns `true` as
+/// soon as one of them is `sought`.
 fn add_succs<A: Allocator, F: Function>(
     f: &F,
     block: Block,
@@ -143,7 +145,7 @@ fn add_succs<A: Allocator, F: Function>(
     Ok(false)
 }
 
-/// Takes a block from the work, a near one if there is one.
+/// Takes a block from `near`, or from `far` if `near` is empty.
 fn take<A: Allocator>(near: &mut Vec<Block, A>, far: &mut Vec<Block, A>) -> Option<Block>
     ensures { (f : FunctionValue) (v : VirtualRegister) → All (LeadsBack f v) near.old.items → All (LeadsBack f v) far.old.items →
         All (LeadsBack f v) near.new.items × All (LeadsBack f v) far.new.items × IfSome result (LeadsBack f v) }
@@ -154,7 +156,8 @@ fn take<A: Allocator>(near: &mut Vec<Block, A>, far: &mut Vec<Block, A>) -> Opti
     }
 }
 
-/// Whether a path over blocks that don't define the vreg comes from the work to the block looked for.
+/// Returns `true` if a path over blocks that don't define `vreg` comes from a block of `near` or `far` to
+/// `sought`. Each block is marked once, so there are at most as many turns as blocks.
 fn leads_on<A: Allocator, F: Function>(
     f: &F,
     vreg: VReg,
@@ -182,14 +185,14 @@ fn leads_on<A: Allocator, F: Function>(
     Ok(false)
 }
 
-/// Whether a block reads or passes a vreg without a definition before, and a path from the entry comes there over blocks
-/// that don't define the vreg and edges that don't give it a value.
+/// Returns `true` if `block` reads or passes `vreg` without a definition before, and a path from the
+/// entry comes to `block` over blocks that don't define the vreg and edges that don't give it a value.
 ///
-/// The search visits a block numbered above `block` only if no other waits: in the usual order of blocks, a path to `block`
-/// passes lower numbers alone.
+/// The search visits a block numbered above `block` only if no other block waits: in the usual order of
+/// blocks, a path to `block` passes lower numbers alone.
 ///
-/// Linear in the blocks, instructions, operands, parameters, arguments and edges. Takes a byte for each block, and a word
-/// for each block that waits for its turn.
+/// Linear in the blocks, instructions, operands, parameters, arguments and edges. Takes a byte for each
+/// block, and a word for each block that waits for its turn.
 pub fn reads_early<A: Allocator + Copy, F: Function>(
     alloc: A,
     f: &F,

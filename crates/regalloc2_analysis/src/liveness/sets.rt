@@ -26,7 +26,7 @@ impl<A: Allocator> Model for BlockVRegs<A> {
 }
 
 impl<A: Allocator + Copy> BlockVRegs<A> {
-    /// No vreg for any block.
+    /// Returns an empty set for each block.
     pub fn new(alloc: A) -> Self
         ensures { result ≡ [] }
     {
@@ -36,7 +36,7 @@ impl<A: Allocator + Copy> BlockVRegs<A> {
         }
     }
 
-    /// Whether a block's set has a vreg.
+    /// Returns `true` if the set of `block` has `vreg`.
     pub fn has(&self, block: Block, vreg: VReg) -> bool
         ensures { result ≡ holds self.now (block, vreg) }
     {
@@ -46,7 +46,7 @@ impl<A: Allocator + Copy> BlockVRegs<A> {
         self.sets[block.index()].get(vreg.bits())
     }
 
-    /// Makes empty sets up to a block's.
+    /// Makes empty sets up to the set of `block`.
     fn reach(&mut self, block: Block) -> Result<(), AllocError>
         ensures reached { OnOk result (block < length self.new) }
         ensures same { (p : Pair) → holds self.new p ≡ holds self.old p }
@@ -57,7 +57,7 @@ impl<A: Allocator + Copy> BlockVRegs<A> {
         Ok(())
     }
 
-    /// Adds a vreg to a block's set. If an allocation fails, no set gains or loses one.
+    /// Adds `vreg` to the set of `block`. If an allocation fails, no set gains or loses a vreg.
     pub fn add(&mut self, block: Block, vreg: VReg) -> Result<(), AllocError>
         ensures ok { OnOk result (Gains block (is_vreg vreg) (holds self.old) (holds self.new)) }
         ensures err { OnErr result ((p : Pair) → holds self.new p ≡ holds self.old p) }

@@ -17,7 +17,7 @@ use regalloc2_index::{Block, Inst};
 use regalloc2_names::{Operand, OperandPos, VReg};
 use std::alloc::{AllocError, Allocator};
 
-/// Lists what operands read at a position and the block hasn't written before.
+/// Adds to `needs` each vreg that `operands` read at `pos` and `block` hasn't written before.
 fn ask_reads<A: Allocator + Copy>(
     operands: &[Operand],
     pos: OperandPos,
@@ -35,7 +35,7 @@ fn ask_reads<A: Allocator + Copy>(
     Ok(())
 }
 
-/// Notes what operands define as written by a block.
+/// Notes the vregs that `operands` define as written by `block`.
 fn write_definitions<A: Allocator + Copy>(
     operands: &[Operand],
     block: Block,
@@ -51,8 +51,8 @@ fn write_definitions<A: Allocator + Copy>(
     Ok(())
 }
 
-/// Lists the upward-exposed uses of an instruction of a block, and notes what it writes: late reads
-/// find what it defines.
+/// Adds to `needs` the upward-exposed uses of the instruction of `operands`, and notes what it writes:
+/// late reads find what it defines.
 fn walk_inst<A: Allocator + Copy>(
     operands: &[Operand],
     block: Block,
@@ -67,7 +67,7 @@ fn walk_inst<A: Allocator + Copy>(
     ask_reads(operands, OperandPos::Late, block, written, needs)
 }
 
-/// Walks over a block's instructions.
+/// Walks over the instructions of `block`.
 fn walk_insts<A: Allocator + Copy, F: Function>(
     f: &F,
     block: Block,
@@ -86,7 +86,7 @@ fn walk_insts<A: Allocator + Copy, F: Function>(
     Ok(())
 }
 
-/// Lists the arguments that a block passes and hasn't written.
+/// Adds to `needs` each of `arguments`, which `block` passes, that the block hasn't written.
 fn ask_arguments<A: Allocator + Copy>(
     arguments: &[VReg],
     block: Block,
@@ -101,7 +101,7 @@ fn ask_arguments<A: Allocator + Copy>(
     Ok(())
 }
 
-/// Lists what a block passes to its successors and hasn't written.
+/// Adds to `needs` each vreg that `block` passes to a successor and hasn't written.
 fn ask_passed<A: Allocator + Copy, F: Function>(
     f: &F,
     block: Block,
@@ -119,7 +119,7 @@ fn ask_passed<A: Allocator + Copy, F: Function>(
     Ok(())
 }
 
-/// Walks over a block: over its instructions, and then what it passes.
+/// Walks over the instructions of `block`, and then over what it passes.
 fn walk_block<A: Allocator + Copy, F: Function>(
     f: &F,
     block: Block,
@@ -153,7 +153,7 @@ pub fn walk_blocks<A: Allocator + Copy, F: Function>(
     Ok(())
 }
 
-/// Notes a block's parameters.
+/// Notes `params`, the parameters of `block`.
 fn note_params<A: Allocator + Copy>(
     params: &[VReg],
     block: Block,
@@ -167,7 +167,7 @@ fn note_params<A: Allocator + Copy>(
     Ok(())
 }
 
-/// The parameters of all blocks.
+/// Returns the parameters of all blocks.
 pub fn all_params<A: Allocator + Copy, F: Function>(
     alloc: A,
     f: &F,

@@ -2,7 +2,7 @@ use Rattle.std.proofs.Common.{ℕ, ◌≡◌, ◌<◌, List, length, ◌∙◌, 
 use Rattle.std.specs.Prelude.{Option}
 use Rattle.regalloc2_function.specs.FunctionValue.{FunctionValue, Label, label_of}
 use Rattle.regalloc2_analysis.specs.declared.live_ranges.LiveRange.{LiveRange}
-use Rattle.regalloc2_analysis.specs.LiveRanges.Slots.{spread}
+use Rattle.regalloc2_analysis.specs.LiveRanges.Entries.{spread}
 use Rattle.regalloc2_analysis.specs.LiveRanges.LiveRanges.{AreLiveRanges, IsLabelled}
 use Rattle.regalloc2_analysis.specs.LiveRanges.LiveRanges.AreKeptLabels.{none}
 use Rattle.regalloc2_analysis.proofs.LiveRangesLemmas.KeptLabels.{nothing_mapped}
@@ -20,11 +20,11 @@ returns-then-is_empty-clause-ok g c =
 pub keep_labels-requires-clause-ranges : goal.keep_labels-requires-clause-ranges
 keep_labels-requires-clause-ranges g c =
     let f : FunctionValue = g.F.Function.function c.args.f.now in
-    let slots : List ℕ = c.in_ok-few.few.slots.items in
+    let indexes : List ℕ = c.in_ok-few.few.indexes.items in
     let entries : List (Option LiveRange) = c.in_ok-few.few.entries.items in
     subst (λ (ss : List ℕ). AreLiveRanges f (IsLabelled f) (spread ss c.as_slice-2.result.now)) (sym c.as_slice.ensures.value)
-    (subst (λ (t : List (Option LiveRange)). AreLiveRanges f (IsLabelled f) (spread slots t)) (sym c.as_slice-2.ensures.value)
-    (ranges_of_labelled f c.requires.ssa c.args.wanted.now (spread slots entries) (c.requires.marked.room
+    (subst (λ (t : List (Option LiveRange)). AreLiveRanges f (IsLabelled f) (spread indexes t)) (sym c.as_slice-2.ensures.value)
+    (ranges_of_labelled f c.requires.ssa c.args.wanted.now (spread indexes entries) (c.requires.marked.room
     (subst (λ (ls : List Label). 0 < length ls) c.debug_value_labels.ensures
     (some_given c.debug_value_labels.result.now (sym c.is_empty.ensures ∙ c.if-is_empty.false))))
     c.requires.marked.marks c.in_ok-few.ensures.ok))

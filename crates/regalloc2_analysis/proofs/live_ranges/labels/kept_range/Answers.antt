@@ -3,7 +3,7 @@ use Rattle.regalloc2_names.specs.Point.{inst_of_point}
 use Rattle.regalloc2_function.specs.FunctionValue.{FunctionValue, Label, label_of}
 use Rattle.regalloc2_analysis.specs.declared.live_ranges.LiveRange.{LiveRange}
 use Rattle.regalloc2_analysis.specs.LiveRanges.LiveRanges.{range_at}
-use Rattle.regalloc2_analysis.specs.LiveRanges.Slots.{spread}
+use Rattle.regalloc2_analysis.specs.LiveRanges.Entries.{spread}
 use Rattle.regalloc2_analysis.proofs.LiveRangesLemmas.KeptLabels.{kept_right, kept_within, one_word, same_word}
 use Rattle.regalloc2_analysis.proofs.live_ranges.labels.kept_range.Goals as goal
 use Rattle.regalloc2_analysis.proofs.live_ranges.labels.kept_range.Goals.{else-eq-via-then-eq+then-first-index+else-index-last}
@@ -14,7 +14,7 @@ returns-then-index-last g c =
     let f : FunctionValue = g.F.Function.function c.args.f.now in
     let l : Label = label_of c.args.label in
     let limited = g.met.F.Function.limited c.args.f.now in
-    let t : List (Option LiveRange) = spread c.args.slots.now c.args.ranges.now in
+    let t : List (Option LiveRange) = spread c.args.indexes.now c.args.ranges.now in
     let entry : range_at t l.vreg.number ≡ Some c.in_ok-range.range = sym (ap (range_at t) c.vreg.ensures.number) ∙ sym c.entry.ensures ∙ c.in_ok-range.was in
     let number = (c.requires.ranges.found l.vreg.number c.in_ok-range.range entry).0 in
     let same = same_word c.in_ok-range.range.vreg l.vreg number (sym c.eq.ensures ∙ c.if-eq.true) in
@@ -28,7 +28,7 @@ returns-else-eq g c start end kept =
     let f : FunctionValue = g.F.Function.function c.args.f.now in
     let l : Label = label_of c.args.label in
     let limited = g.met.F.Function.limited c.args.f.now in
-    let t : List (Option LiveRange) = spread c.args.slots.now c.args.ranges.now in
+    let t : List (Option LiveRange) = spread c.args.indexes.now c.args.ranges.now in
     let entry : range_at t l.vreg.number ≡ Some c.in_ok-range.range = sym (ap (range_at t) c.vreg.ensures.number) ∙ sym c.entry.ensures ∙ c.in_ok-range.was in
     let within = kept_within f limited c.requires.ssa t c.requires.ranges l c.requires.labelled c.in_ok-range.range entry start end kept in
     let first : c.index-first.result ≡ inst_of_point c.in_ok-range.range.first = c.index-first.ensures ∙ c.inst.ensures.inst in

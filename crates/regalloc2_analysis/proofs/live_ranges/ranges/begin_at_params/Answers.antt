@@ -7,7 +7,7 @@ use Rattle.regalloc2_semantics.proofs.Order.{ends_within}
 use Rattle.regalloc2_function.specs.TableLength.{CoversDefinitions}
 use Rattle.regalloc2_analysis.specs.declared.live_ranges.LiveRange.{LiveRange}
 use Rattle.regalloc2_analysis.specs.LiveRanges.LiveRanges.{IsWanted}
-use Rattle.regalloc2_analysis.specs.LiveRanges.Slots.{HasSlot, IsApart, spread}
+use Rattle.regalloc2_analysis.specs.LiveRanges.Entries.{HasEntry, IsApart, spread}
 use Rattle.regalloc2_analysis.proofs.LiveRangesLemmas.Spread.{spread_length}
 use Rattle.regalloc2_analysis.proofs.LiveRangesLemmas.UsesInSSA.{parameter_small}
 use Rattle.regalloc2_analysis.proofs.LiveRangesLemmas.LiveRangeTable.{param_within, right_set, stay_set, taken_all, taken_more, taken_range, taken_same}
@@ -27,13 +27,13 @@ pub loop-param-preserved : goal.loop-param-preserved
 loop-param-preserved g c =
     let f : FunctionValue = g.F.Function.function c.args.f.now in
     let W : ℕ → Type 0 = IsWanted c.args.wanted.now in
-    let slots : List ℕ = c.args.slots.now in
-    let old : List (Option LiveRange) = spread slots c.loop-param.ranges in
+    let indexes : List ℕ = c.args.indexes.now in
+    let old : List (Option LiveRange) = spread indexes c.loop-param.ranges in
     let vs : List VirtualRegister = c.block_params-param-items.result.now in
     let has = param_within f c.args.block vs c.loop-param.param-index c.param-item.result c.block_params-param-items.ensures c.loop-param-test.true
     c.param-item.is in
-    let small = parameter_small f c.requires.ssa (length slots) c.requires.room c.param-item.result c.args.block c.requires.block has in
-    let now = spread_length slots c.loop-param.ranges in
+    let small = parameter_small f c.requires.ssa (length indexes) c.requires.room c.param-item.result c.args.block c.requires.block has in
+    let now = spread_length indexes c.loop-param.ranges in
     let first : c.first.result ≡ (block_at f c.args.block).range.first = c.first.ensures ∙ ap (λ (r : Span). r.first) c.block_insns.ensures in
     let some = (c.requires.ssa.follow c.args.block c.requires.block).0 in
     let within = ends_within f c.requires.ssa.follow c.args.block c.requires.block in
@@ -42,25 +42,25 @@ loop-param-preserved g c =
     (λ e. absurd (omega (arith, first, some, within, limit, e))) ∙ ap before first in
     elim c.match-wanted_end.branch [
       | in-Some w ↦ (
-          let slot : HasSlot slots c.param-item.result.number (length c.loop-param.ranges) = subst (HasSlot slots c.param-item.result.number)
+          let entered : HasEntry indexes c.param-item.result.number (length c.loop-param.ranges) = subst (HasEntry indexes c.param-item.result.number)
           (sym c.loop-param.auto.ranges)
-          (c.requires.slots.theirs c.param-item.result.number small w.in-Some.ensures.some.0) in
-          let room : w.vreg.result < length old = let lt = slot.0 in omega (arith, w.vreg.ensures.number, lt, now) in
-          let set_is = w.set_entry.ensures.here (subst (λ (n : ℕ). HasSlot slots n (length c.loop-param.ranges)) (sym w.vreg.ensures.number) slot) in
-          let range = taken_range f c.requires.ssa W (spread slots c.args.ends.now) c.args.block c.param-item.result c.before-first.result w.in-Some.end
+          (c.requires.indexes.theirs c.param-item.result.number small w.in-Some.ensures.some.0) in
+          let room : w.vreg.result < length old = let lt = entered.0 in omega (arith, w.vreg.ensures.number, lt, now) in
+          let set_is = w.set_entry.ensures.here (subst (λ (n : ℕ). HasEntry indexes n (length c.loop-param.ranges)) (sym w.vreg.ensures.number) entered) in
+          let range = taken_range f c.requires.ssa W (spread indexes c.args.ends.now) c.args.block c.param-item.result c.before-first.result w.in-Some.end
           c.requires.block
-          has (record { room = subst (CoversDefinitions f) (sym (spread_length c.args.slots.now c.args.ends.now)) c.requires.room; noted = c.requires.ends })
+          has (record { room = subst (CoversDefinitions f) (sym (spread_length c.args.indexes.now c.args.ends.now)) c.requires.room; noted = c.requires.ends })
           w.in-Some.ensures.some.0 point w.in-Some.ensures.some.1 in
           rw (w.ranges-is, set_is) (record {
             right = right_set f old w.vreg.result _ room (sym w.vreg.ensures.number) range c.loop-param.invariant.right;
             stay = λ n some. stay_set old w.vreg.result _ room n (c.loop-param.invariant.stay n some);
-            so_far = taken_more W vs c.loop-param.param-index w.vreg.result (spread slots c.args.ends.now) old c.param-item.result _
+            so_far = taken_more W vs c.loop-param.param-index w.vreg.result (spread indexes c.args.ends.now) old c.param-item.result _
                 c.loop-param-test.true c.param-item.is w.vreg.ensures.number room c.loop-param.invariant.so_far;
           }))
       | in_default w ↦ rw w.ranges-is (record {
         right = c.loop-param.invariant.right;
         stay = c.loop-param.invariant.stay;
-        so_far = taken_same W vs c.loop-param.param-index (spread slots c.args.ends.now) old c.param-item.result c.loop-param-test.true c.param-item.is
+        so_far = taken_same W vs c.loop-param.param-index (spread indexes c.args.ends.now) old c.param-item.result c.loop-param-test.true c.param-item.is
             w.in_default.ensures.none c.loop-param.invariant.so_far;
       })
     ]
@@ -69,9 +69,9 @@ pub returns-clause-taken : goal.returns-clause-taken
 returns-clause-taken g c =
     let f : FunctionValue = g.F.Function.function c.args.f.now in
     taken_all f c.requires.ssa (IsWanted c.args.wanted.now) c.args.block c.block_params-param-items.result.now c.loop-param.param-index
-    (spread c.args.slots.now c.args.ends.now) (spread c.args.slots.now c.loop-param.ranges)
+    (spread c.args.indexes.now c.args.ends.now) (spread c.args.indexes.now c.loop-param.ranges)
     (record { block = c.requires.block; same = c.block_params-param-items.ensures; all = c.loop-param-test.false })
-    (record { room = subst (CoversDefinitions f) (sym (spread_length c.args.slots.now c.args.ends.now)) c.requires.room; noted = c.requires.ends })
+    (record { room = subst (CoversDefinitions f) (sym (spread_length c.args.indexes.now c.args.ends.now)) c.requires.room; noted = c.requires.ends })
     c.loop-param.invariant.so_far
 
 pub block_insns-requires : goal.block_insns-requires
@@ -92,7 +92,7 @@ bounds-param-items-param-index g c = c.loop-param-test.true
 
 pub set_entry-requires : goal.set_entry-requires
 set_entry-requires g c =
-    subst (λ (n : ℕ). IsApart c.args.slots.now n) (sym c.loop-param.auto.ranges) c.requires.slots.apart
+    subst (λ (n : ℕ). IsApart c.args.indexes.now n) (sym c.loop-param.auto.ranges) c.requires.indexes.apart
 
 pub returns-clause-right : goal.returns-clause-right
 returns-clause-right g c = c.loop-param.invariant.right

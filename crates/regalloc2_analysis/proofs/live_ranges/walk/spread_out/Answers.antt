@@ -11,7 +11,7 @@ pushed t n x old new lt so_far is at = is ∙ ap (λ xs. xs ++ x ∷ []) so_far 
 
 pub loop-number-preserved : goal.loop-number-preserved
 loop-number-preserved g c = pushed _ c.loop-number.number c.entry.result c.loop-number.ranges.items c.push.new.self.items
-    (omega (arith, spread_length c.args.slots.now c.args.entries.now, c.loop-number-test.true)) c.loop-number.invariant
+    (omega (arith, spread_length c.args.indexes.now c.args.entries.now, c.loop-number-test.true)) c.loop-number.invariant
     c.in_ok-push.ensures.items c.entry.ensures
 
 pub loop-number-init : goal.loop-number-init
@@ -20,4 +20,4 @@ loop-number-init g c = c.in_ok-ranges.ensures.items
 pub returns : goal.returns
 returns g c =
     c.loop-number.invariant
-    ∙ take_all c.loop-number.number _ (omega (arith, spread_length c.args.slots.now c.args.entries.now, c.loop-number-test.false))
+    ∙ take_all c.loop-number.number _ (omega (arith, spread_length c.args.indexes.now c.args.entries.now, c.loop-number-test.false))

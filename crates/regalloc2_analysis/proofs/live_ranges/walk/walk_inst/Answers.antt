@@ -3,7 +3,7 @@ use Rattle.regalloc2_function.specs.FunctionValue.{FunctionValue}
 use Rattle.regalloc2_semantics.proofs.Order.{ends_within}
 use Rattle.regalloc2_function.specs.TableLength.{CoversDefinitions}
 use Rattle.regalloc2_analysis.specs.LiveRanges.LiveRanges.{IsWanted}
-use Rattle.regalloc2_analysis.specs.LiveRanges.Slots.{spread}
+use Rattle.regalloc2_analysis.specs.LiveRanges.Entries.{spread}
 use Rattle.regalloc2_analysis.specs.LiveRanges.WalkInvariant.{AreEndsFrom}
 use Rattle.regalloc2_analysis.proofs.LiveRangesLemmas.LiveRangeTable.{noted_more, walked_inst}
 use Rattle.regalloc2_analysis.proofs.LiveRangesLemmas.Spread.{spread_length}
@@ -20,30 +20,30 @@ begin_at_defs-requires-clause-inst g c =
     omega (arith, within, c.requires.end)
 
 pub begin_at_defs-requires-clause-room : goal.begin_at_defs-requires-clause-room
-begin_at_defs-requires-clause-room g c = subst (CoversDefinitions (g.F.Function.function c.args.f.now)) (spread_length c.args.slots.now c.args.ends.now)
+begin_at_defs-requires-clause-room g c = subst (CoversDefinitions (g.F.Function.function c.args.f.now)) (spread_length c.args.indexes.now c.args.ends.now)
     c.requires.walked.ends_room
 
 pub begin_at_defs-requires-clause-ends : goal.begin_at_defs-requires-clause-ends
 begin_at_defs-requires-clause-ends g c =
     let f : FunctionValue = g.F.Function.function c.args.f.now in
-    let slots : List ℕ = c.args.slots.now in
+    let indexes : List ℕ = c.args.indexes.now in
     let W : ℕ → Type 0 = IsWanted c.args.wanted.now in
-    let same : length (spread slots c.args.ends.now) ≡ length slots = spread_length slots c.args.ends.now in
-    let long : length (spread slots c.note_uses.new.ends) ≡ length (spread slots c.args.ends.now) = spread_length slots c.note_uses.new.ends ∙ sym same in
-    noted_more f W c.args.inst (spread slots c.args.ends.now) (spread slots c.note_uses.new.ends) c.requires.walked.noted long
-    (λ n lt asked. c.note_uses.ensures n (c.requires.ends_slots.theirs n (omega (arith, lt, same)) asked))
+    let same : length (spread indexes c.args.ends.now) ≡ length indexes = spread_length indexes c.args.ends.now in
+    let long : length (spread indexes c.note_uses.new.ends) ≡ length (spread indexes c.args.ends.now) = spread_length indexes c.note_uses.new.ends ∙ sym same in
+    noted_more f W c.args.inst (spread indexes c.args.ends.now) (spread indexes c.note_uses.new.ends) c.requires.walked.noted long
+    (λ n lt asked. c.note_uses.ensures n (c.requires.ends_indexes.theirs n (omega (arith, lt, same)) asked))
 
 pub returns : goal.returns
 returns g c =
     let f : FunctionValue = g.F.Function.function c.args.f.now in
-    let slots : List ℕ = c.args.slots.now in
+    let indexes : List ℕ = c.args.indexes.now in
     let W : ℕ → Type 0 = IsWanted c.args.wanted.now in
-    let same : length (spread slots c.args.ends.now) ≡ length slots = spread_length slots c.args.ends.now in
-    let long : length (spread slots c.note_uses.new.ends) ≡ length (spread slots c.args.ends.now) = spread_length slots c.note_uses.new.ends ∙ sym same in
-    let noted : AreEndsFrom f W c.args.inst (spread slots c.note_uses.new.ends) =
-    noted_more f W c.args.inst (spread slots c.args.ends.now) (spread slots c.note_uses.new.ends) c.requires.walked.noted long
-    (λ n lt asked. c.note_uses.ensures n (c.requires.ends_slots.theirs n (omega (arith, lt, same)) asked)) in
-    walked_inst f W c.args.inst (c.args.block + 1) (spread slots c.args.ends.now) (spread slots c.note_uses.new.ends) (spread slots c.args.ranges.now)
-    (spread slots c.begin_at_defs.new.ranges) c.requires.walked long
-    (spread_length slots c.begin_at_defs.new.ranges ∙ sym (spread_length slots c.args.ranges.now)) noted c.begin_at_defs.ensures.right
+    let same : length (spread indexes c.args.ends.now) ≡ length indexes = spread_length indexes c.args.ends.now in
+    let long : length (spread indexes c.note_uses.new.ends) ≡ length (spread indexes c.args.ends.now) = spread_length indexes c.note_uses.new.ends ∙ sym same in
+    let noted : AreEndsFrom f W c.args.inst (spread indexes c.note_uses.new.ends) =
+    noted_more f W c.args.inst (spread indexes c.args.ends.now) (spread indexes c.note_uses.new.ends) c.requires.walked.noted long
+    (λ n lt asked. c.note_uses.ensures n (c.requires.ends_indexes.theirs n (omega (arith, lt, same)) asked)) in
+    walked_inst f W c.args.inst (c.args.block + 1) (spread indexes c.args.ends.now) (spread indexes c.note_uses.new.ends) (spread indexes c.args.ranges.now)
+    (spread indexes c.begin_at_defs.new.ranges) c.requires.walked long
+    (spread_length indexes c.begin_at_defs.new.ranges ∙ sym (spread_length indexes c.args.ranges.now)) noted c.begin_at_defs.ensures.right
     c.begin_at_defs.ensures.stay c.begin_at_defs.ensures.defined

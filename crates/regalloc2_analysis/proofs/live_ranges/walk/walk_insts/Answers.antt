@@ -3,9 +3,8 @@ use Rattle.std.proofs.lemmas.Bool.{cases_lt}
 use Rattle.regalloc2_index.proofs.Bools.{not_both}
 use Rattle.regalloc2_index.specs.Range.{Span}
 use Rattle.regalloc2_function.specs.FunctionValue.{FunctionValue, block_at}
-use Rattle.regalloc2_semantics.proofs.Order.{ends_within}
 use Rattle.regalloc2_analysis.specs.LiveRanges.LiveRanges.{IsWanted}
-use Rattle.regalloc2_analysis.specs.LiveRanges.Slots.{AreSlots, spread}
+use Rattle.regalloc2_analysis.specs.LiveRanges.Entries.{AreEntryIndexes, spread}
 use Rattle.regalloc2_analysis.specs.LiveRanges.WalkInvariant.{AreRangesWalked, ListsAdding}
 use Rattle.regalloc2_analysis.proofs.LiveRangesLemmas.Listed.{listed_fewer, listed_to, walked_to}
 use Rattle.regalloc2_analysis.proofs.live_ranges.walk.walk_insts.Goals as goal
@@ -18,24 +17,16 @@ first-first-requires g c =
     let some = (c.requires.ssa.follow c.args.block c.requires.block).0 in
     subst (λ (r : Span). r.first < r.end) (sym c.block_insns-range.ensures) some
 
-pub overflow_sub-index : goal.overflow_sub-index
-overflow_sub-index g c =
+pub last-last-requires : goal.last-last-requires
+last-last-requires g c =
     let some = (c.requires.ssa.follow c.args.block c.requires.block).0 in
-    let end = c.index.ensures ∙ c.end.ensures ∙ ap (λ (r : Span). r.end) c.block_insns-range.ensures in
-    omega (arith, some, end)
-
-pub new-last-requires : goal.new-last-requires
-new-last-requires g c =
-    let within = ends_within (g.F.Function.function c.args.f.now) c.requires.ssa.follow c.args.block c.requires.block in
-    let limit = (g.met.F.Function.limited c.args.f.now).insts in
-    let end = c.index.ensures ∙ c.end.ensures ∙ ap (λ (r : Span). r.end) c.block_insns-range.ensures in
-    omega (arith, within, limit, end)
+    subst (λ (r : Span). r.first < r.end) (sym c.block_insns-range.ensures) some
 
 pub walk_last-left-requires-clause-last : goal.walk_last-left-requires-clause-last
 walk_last-left-requires-clause-last g c =
     let some = (c.requires.ssa.follow c.args.block c.requires.block).0 in
-    let end = c.index.ensures ∙ c.end.ensures ∙ ap (λ (r : Span). r.end) c.block_insns-range.ensures in
-    omega (arith, some, end, c.new-last.ensures)
+    let end = ap (λ (r : Span). r.end) c.block_insns-range.ensures in
+    omega (arith, some, end, c.last-last.ensures)
 
 pub walk_last-left-requires-clause-ssa : goal.walk_last-left-requires-clause-ssa
 walk_last-left-requires-clause-ssa g c = c.requires.ssa
@@ -43,41 +34,41 @@ walk_last-left-requires-clause-ssa g c = c.requires.ssa
 pub walk_last-left-requires-clause-block : goal.walk_last-left-requires-clause-block
 walk_last-left-requires-clause-block g c = c.requires.block
 
-pub walk_last-left-requires-clause-ends_slots : goal.walk_last-left-requires-clause-ends_slots
-walk_last-left-requires-clause-ends_slots g c = c.requires.ends_slots
+pub walk_last-left-requires-clause-ends_indexes : goal.walk_last-left-requires-clause-ends_indexes
+walk_last-left-requires-clause-ends_indexes g c = c.requires.ends_indexes
 
-pub walk_last-left-requires-clause-ranges_slots : goal.walk_last-left-requires-clause-ranges_slots
-walk_last-left-requires-clause-ranges_slots g c = c.requires.ranges_slots
+pub walk_last-left-requires-clause-ranges_indexes : goal.walk_last-left-requires-clause-ranges_indexes
+walk_last-left-requires-clause-ranges_indexes g c = c.requires.ranges_indexes
 
 pub walk_last-left-requires-clause-listed : goal.walk_last-left-requires-clause-listed
 walk_last-left-requires-clause-listed g c =
     let f : FunctionValue = g.F.Function.function c.args.f.now in
     let some = (c.requires.ssa.follow c.args.block c.requires.block).0 in
-    let end = c.index.ensures ∙ c.end.ensures ∙ ap (λ (r : Span). r.end) c.block_insns-range.ensures in
-    let last : (block_at f c.args.block).range.end ≡ c.new-last.result + 1 = omega (arith, some, end, c.new-last.ensures) in
+    let end = ap (λ (r : Span). r.end) c.block_insns-range.ensures in
+    let last : (block_at f c.args.block).range.end ≡ c.last-last.result + 1 = omega (arith, some, end, c.last-last.ensures) in
     subst (ListsAdding f (IsWanted c.args.wanted.now) c.args.listed.now c.args.many) last c.requires.listed
 
 pub walk_last-left-requires-clause-walked : goal.walk_last-left-requires-clause-walked
 walk_last-left-requires-clause-walked g c =
     let f : FunctionValue = g.F.Function.function c.args.f.now in
-    let slots : List ℕ = c.args.slots.now in
+    let indexes : List ℕ = c.args.indexes.now in
     let some = (c.requires.ssa.follow c.args.block c.requires.block).0 in
-    let end = c.index.ensures ∙ c.end.ensures ∙ ap (λ (r : Span). r.end) c.block_insns-range.ensures in
-    let last : (block_at f c.args.block).range.end ≡ c.new-last.result + 1 = omega (arith, some, end, c.new-last.ensures) in
-    subst (λ (n : ℕ). AreRangesWalked f (IsWanted c.args.wanted.now) n (c.args.block + 1) (spread slots c.args.ends.now) (spread slots c.args.ranges.now)) last
+    let end = ap (λ (r : Span). r.end) c.block_insns-range.ensures in
+    let last : (block_at f c.args.block).range.end ≡ c.last-last.result + 1 = omega (arith, some, end, c.last-last.ensures) in
+    subst (λ (n : ℕ). AreRangesWalked f (IsWanted c.args.wanted.now) n (c.args.block + 1) (spread indexes c.args.ends.now) (spread indexes c.args.ranges.now)) last
     c.requires.walked
 
 pub loop-block-init : goal.loop-block-init
 loop-block-init g c =
     let some = (c.requires.ssa.follow c.args.block c.requires.block).0 in
-    let end = c.index.ensures ∙ c.end.ensures ∙ ap (λ (r : Span). r.end) c.block_insns-range.ensures in
+    let end = ap (λ (r : Span). r.end) c.block_insns-range.ensures in
     let first = c.first-first.ensures ∙ ap (λ (r : Span). r.first) c.block_insns-range.ensures in
     record {
       first = first;
       walked = (
-        c.new-last.result,
-        omega (arith, some, first, end, c.new-last.ensures),
-        omega (arith, some, end, c.new-last.ensures),
+        c.last-last.result,
+        omega (arith, some, first, end, c.last-last.ensures),
+        omega (arith, some, end, c.last-last.ensures),
         c.walk_last-left.ensures.listed,
         c.walk_last-left.ensures.walked,
       );
@@ -116,19 +107,19 @@ walk_inst-requires-clause-end g c =
     let below = state.3.below (c.loop-block.left - 1) (omega (arith, some)) in
     omega (arith, below, upto, c.new-inst.ensures)
 
-pub walk_inst-requires-clause-ends_slots : goal.walk_inst-requires-clause-ends_slots
-walk_inst-requires-clause-ends_slots g c =
-    subst (AreSlots c.args.wanted.now c.args.slots.now) (sym (c.loop-block.auto.ends ∙ c.walk_last-left.auto.ends)) c.requires.ends_slots
+pub walk_inst-requires-clause-ends_indexes : goal.walk_inst-requires-clause-ends_indexes
+walk_inst-requires-clause-ends_indexes g c =
+    subst (AreEntryIndexes c.args.wanted.now c.args.indexes.now) (sym (c.loop-block.auto.ends ∙ c.walk_last-left.auto.ends)) c.requires.ends_indexes
 
-pub walk_inst-requires-clause-ranges_slots : goal.walk_inst-requires-clause-ranges_slots
-walk_inst-requires-clause-ranges_slots g c =
-    subst (AreSlots c.args.wanted.now c.args.slots.now) (sym (c.loop-block.auto.ranges ∙ c.walk_last-left.auto.ranges)) c.requires.ranges_slots
+pub walk_inst-requires-clause-ranges_indexes : goal.walk_inst-requires-clause-ranges_indexes
+walk_inst-requires-clause-ranges_indexes g c =
+    subst (AreEntryIndexes c.args.wanted.now c.args.indexes.now) (sym (c.loop-block.auto.ranges ∙ c.walk_last-left.auto.ranges)) c.requires.ranges_indexes
 
 -- the walk goes on at the last one that is left
 pub walk_inst-requires-clause-walked : goal.walk_inst-requires-clause-walked
 walk_inst-requires-clause-walked g c =
     let f : FunctionValue = g.F.Function.function c.args.f.now in
-    let slots : List ℕ = c.args.slots.now in
+    let indexes : List ℕ = c.args.indexes.now in
     let listed : List ℕ = c.args.listed.now in
     let W : ℕ → Type 0 = IsWanted c.args.wanted.now in
     let left : ℕ = c.loop-block.left in
@@ -137,8 +128,8 @@ walk_inst-requires-clause-walked g c =
     let from = is.1 in
     let state = c.loop-block.invariant.walked in
     let below = state.3.below (left - 1) (let some = is.0 in omega (arith, some)) in
-    walked_to f c.requires.ssa.follow W listed left c.args.block (c.args.block + 1) state.0 (c.new-inst.result + 1) (spread slots c.loop-block.ends)
-    (spread slots c.loop-block.ranges) c.requires.block (omega (arith, at, from, c.loop-block.invariant.first)) (omega (arith, at, below)) state.2
+    walked_to f c.requires.ssa.follow W listed left c.args.block (c.args.block + 1) state.0 (c.new-inst.result + 1) (spread indexes c.loop-block.ends)
+    (spread indexes c.loop-block.ranges) c.requires.block (omega (arith, at, from, c.loop-block.invariant.first)) (omega (arith, at, below)) state.2
     state.3 (λ some. omega (arith, at)) state.4
 
 pub loop-block-preserved : goal.loop-block-preserved
@@ -183,14 +174,14 @@ returns-clause-listed g c =
 pub returns-clause-walked : goal.returns-clause-walked
 returns-clause-walked g c =
     let f : FunctionValue = g.F.Function.function c.args.f.now in
-    let slots : List ℕ = c.args.slots.now in
+    let indexes : List ℕ = c.args.indexes.now in
     let listed : List ℕ = c.args.listed.now in
     let left : ℕ = c.loop-block.left in
     let state = c.loop-block.invariant.walked in
     let from = state.1 in
     let first : c.first-first.result ≡ (block_at f c.args.block).range.first = c.loop-block.invariant.first in
     walked_to f c.requires.ssa.follow (IsWanted c.args.wanted.now) listed left c.args.block (c.args.block + 1) state.0 (block_at f c.args.block).range.first
-    (spread slots c.loop-block.ends) (spread slots c.loop-block.ranges) c.requires.block (omega arith) (omega (arith, from, first)) state.2 state.3
+    (spread indexes c.loop-block.ends) (spread indexes c.loop-block.ranges) c.requires.block (omega arith) (omega (arith, from, first)) state.2 state.3
     (λ some. elim (cases_lt (slice_index_or listed (left - 1) 0) c.first-first.result) [
       | inl less ↦ omega (arith, less, first)
       | inr ge ↦ absurd (not_both c.is_left.result (c.is_left.ensures.1 (some, ge)) c.loop-block-test.false)
