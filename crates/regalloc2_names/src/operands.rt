@@ -1,6 +1,6 @@
 //! Operands of instructions.
 
-ghost use Rattle.std.specs.Prelude.{None, Some, ◌≡◌, ℕ, ◌<◌, ◌↔◌, IsTrue};
+ghost use Rattle.std.specs.Prelude.{IfNone, IfSome, None, Some, ◌≡◌, ℕ, ◌<◌, ◌↔◌, IsTrue};
 ghost use Rattle.regalloc2_names.specs.Operand.{is_def, is_late, is_position, is_reading, nonallocatable_register, reads_at};
 ghost use Rattle.regalloc2_names.specs.Packing.{IsConstraintCode, IsConstraintOf, IsOperandBits, bits_of_operand, constraint_code};
 ghost use Rattle.regalloc2_names.specs.Packing.{constraint_code_limit, operand_of_bits, reuse_limit};
@@ -340,6 +340,21 @@ impl Operand {
             let hw_enc = field - FIXED;
             let index = (class_field << PReg::MAX_BITS) | hw_enc;
             OperandConstraint::FixedReg(PReg::from_index(index as usize))
+        }
+    }
+
+    /// Returns the index of the operand whose place this operand reuses, at most 31, or `None` if it
+    /// reuses none.
+    ///
+    /// Upstream: none.
+    pub fn reused_index(self) -> Option<usize>
+        ensures some { IfSome result (λ n. self.constraint ≡ OperandConstraint.Reuse n) }
+        ensures small { IfSome result (λ n. n < reuse_limit) }
+        ensures none { IfNone result ((n : ℕ) → self.constraint ≡ OperandConstraint.Reuse n → ⊥) }
+    {
+        match self.constraint() {
+            OperandConstraint::Reuse(index) => Some(index),
+            _ => None,
         }
     }
 

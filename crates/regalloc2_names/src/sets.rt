@@ -37,6 +37,19 @@ impl PRegSet {
         PRegSet { bits: words }
     }
 
+    /// Returns the set of the registers `regs`.
+    ///
+    /// Upstream: none.
+    pub fn from_slice(regs: &[PReg]) -> Self
+        ensures { (r : Register) → (has_register result r ≡ true) ↔ Contains regs.now r }
+    {
+        let mut set = PRegSet::empty();
+        for reg in regs {
+            set.add(*reg);
+        }
+        set
+    }
+
     /// Returns the set's words, one for each class. Reading them by value gives their range to `eq`.
     const fn words(self) -> [u64; 3]
         ensures words { result ≡ self.bits }

@@ -1,5 +1,4 @@
 use Rattle.std.proofs.Common.{◌+◌, ap}
-use Rattle.regalloc2_names.specs.Packing.{IsConstraintOf}
 use Rattle.regalloc2_names.proofs.LimitBits.{zeros_of_limit}
 use Rattle.regalloc2_names.proofs.operands.constraint_field.Goals as goal
 
