@@ -5,7 +5,6 @@ use Rattle.std.specs.Prelude.{slice_index_or, count_by}
 use Rattle.std.proofs.lemmas.Bool.{cases_eq}
 use Rattle.std.proofs.lemmas.List.Sums.{sum_by-cons}
 use Rattle.std.proofs.lemmas.List.{get_or_default}
-use Rattle.regalloc2_names.specs.declared.RegClass.TheVariants.{Int}
 use Rattle.regalloc2_names.specs.Register.{VirtualRegister, no_vreg}
 use Rattle.regalloc2_names.specs.Operand.{OperandValue, is_def, is_reading}
 use Rattle.regalloc2_names.specs.Point.{before, after}

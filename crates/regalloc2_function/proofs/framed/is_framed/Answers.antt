@@ -1,5 +1,4 @@
-use Rattle.std.proofs.Common.{◌≡◌, rules, sym, tests, ◌∙◌}
-use Rattle.std.proofs.lemmas.Bool.{false≢true}
+use Rattle.std.proofs.Common.{rules, tests}
 use Rattle.regalloc2_function.proofs.framed.is_framed.Goals as goal
 
 pub test_ends-requires : goal.test_ends-requires

@@ -1,8 +1,6 @@
-use Rattle.std.proofs.Common.{ap, rules, sym, tests, ◌∙◌}
-use Rattle.std.specs.Prelude.{Some}
+use Rattle.std.proofs.Common.{rules, sym, tests, ◌∙◌}
 use Rattle.std.proofs.lemmas.Bool.{false≢true}
-use Rattle.regalloc2_names.specs.Register.{Register}
-use Rattle.regalloc2_function.proofs.Tests.{none_is_not_some, same_some}
+use Rattle.regalloc2_function.proofs.Tests.{none_is_not_some}
 use Rattle.regalloc2_function.proofs.machine.MachineEnv.is_scratch.Goals as goal
 
 pub returns-in-Some : goal.returns-in-Some

@@ -1,6 +1,5 @@
 use Rattle.std.proofs.Common.{◌≡◌, ap, rules, sym, tests, ◌∙◌}
 use Rattle.std.specs.Prelude.{Some}
-use Rattle.std.proofs.lemmas.Bool.{false≢true}
 use Rattle.regalloc2_names.specs.Register.{Register}
 use Rattle.regalloc2_names.specs.RegisterSet.{has_register}
 use Rattle.regalloc2_function.proofs.Tests.{same_some}
