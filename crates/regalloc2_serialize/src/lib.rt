@@ -11,6 +11,7 @@ pub mod flat;
 pub mod from_function;
 mod from_json;
 mod json_outputs;
+pub mod limits;
 pub mod rewrite;
 pub mod table_function;
 mod tables;

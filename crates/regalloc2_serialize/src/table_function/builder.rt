@@ -8,17 +8,12 @@ ghost use Rattle.regalloc2_serialize.specs.TableFunction.Steps.{HasPreds, one_ed
 
 use super::build::{branch, op, ret};
 use super::table::{SlotUnits, TableBlock, TableFunction, TableInst};
+use crate::limits::{BLOCK_LIMIT, INST_LIMIT, VREG_LIMIT};
 use regalloc2_index::{Block, Inst, InstRange};
 use regalloc2_names::{Operand, PRegSet, VReg};
 use std::alloc::{AllocError, AllocFailed, Allocator, Global};
 use std::error::Error;
 use std::fmt;
-
-/// A function has fewer instructions, and fewer vregs.
-const LIMIT: usize = 1 << 30;
-
-/// A function has fewer blocks.
-pub(crate) const BLOCK_LIMIT: usize = 0xffff_ffff;
 
 /// Why a builder returns an error.
 #[derive(Clone, Copy, Debug, PartialEq, Eq)]
@@ -224,7 +219,7 @@ impl<A: Allocator + Copy> TableBuilder<A> {
         if blocks.len() >= BLOCK_LIMIT {
             return Err(BuildError::TooManyBlocks);
         }
-        if num_vregs >= LIMIT {
+        if num_vregs >= VREG_LIMIT {
             return Err(BuildError::TooManyVRegs);
         }
         let (mut blocks, insts) = lay_out(alloc, blocks)?;
@@ -255,7 +250,7 @@ fn place<A: Allocator + Copy>(
     } = draft;
     let first = Inst::new(insts.len());
     insts.extend(added)?;
-    if insts.len() >= LIMIT {
+    if insts.len() >= INST_LIMIT {
         return Err(BuildError::TooManyInsts);
     }
     blocks.push(TableBlock {
@@ -268,7 +263,7 @@ fn place<A: Allocator + Copy>(
     Ok(())
 }
 
-/// The blocks and the instructions one after another. The blocks have no predecessors yet.
+/// Returns the blocks and the instructions of `drafts`, one after another. The blocks have no predecessors yet.
 fn lay_out<A: Allocator + Copy>(
     alloc: A,
     drafts: Vec<BlockDraft<A>, A>,
@@ -320,7 +315,7 @@ fn link_one<A: Allocator + Copy>(
     Ok(())
 }
 
-/// Gives each block its predecessors.
+/// Gives each of `blocks` its predecessors.
 fn link<A: Allocator + Copy>(blocks: &mut Vec<TableBlock<A>, A>) -> Result<(), BuildError>
     requires { vec_len blocks.old < 2 ^ 32 - 1 }
     ensures ok { let succs = map (λ b. b.succs) (map block_of_table blocks.old.items) in

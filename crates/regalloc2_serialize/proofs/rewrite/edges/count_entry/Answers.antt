@@ -10,7 +10,7 @@ pub returns-clause-counted : goal.returns-clause-counted
 returns-clause-counted g c t less =
     let old : List ℕ = c.args.counts.now.items in
     let b : ℕ = c.args.block in
-    let v : ℕ = c.one_more.result in
+    let v : ℕ = c.saturating_add.result in
     let at : c.index-count.result.now ≡ slice_index old b =
     c.index-count.ensures ∙ ap (λ (i : ℕ). slice_index_or old i c.index-count.result.now) c.index.ensures
     ∙ get_or_default old b c.index-count.result.now 0 c.requires in
