@@ -1,9 +1,9 @@
-//! The tutorial of the allocator, in two parts. A program with a loop is allocated, and written as assembly for x86-64. Then the moves of a
-//! call are put in order, and written, too.
+//! The tutorial of the allocator, in two parts. A program with a loop is allocated, and written as assembly for
+//! x86-64. Then the moves of a call are put in order, and written, too.
 //!
-//! Copy it, and change the representation. `code` has what the allocator asks of a program, `assembly` what is emitted from
-//! its listing, and this file builds a program, describes the machine, and calls the allocator. `call` lowers a call, and `convention` has
-//! the places of its arguments.
+//! Copy it, and change the representation. `code` has what the allocator asks of a program, `assembly` what is
+//! emitted from its listing, and this file builds a program, describes the machine, and calls the allocator. `call`
+//! lowers a call, and `convention` has the places of its arguments.
 #![tactic(auto)]
 
 ghost use Rattle.std.specs.Prelude.{◌≡◌, ◌<◌, ◌≤◌};

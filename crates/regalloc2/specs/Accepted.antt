@@ -21,7 +21,8 @@ pub record IsAccepted (A : Type 0) (f : FunctionValue) (env : MachineValue) (out
   pub faithful : IsFaithful f env out
   pub no_errors : (es : List (CheckerError A)) → IsReport f env out es → es ≡ []
 
--- of a well-formed function in which no path from the entry reads or passes a vreg before writing it, what is guaranteed is accepted
+-- of a well-formed function in which no path from the entry reads or passes a vreg before writing it, what is
+-- guaranteed is accepted
 abbrev pub PromisedIsAccepted : Type 0 → Type 0
 PromisedIsAccepted A = (f : FunctionValue) (env : MachineValue) (out : OutputValue) → IsWellFormed env f → IsWrittenFirst f → IsPromised f env out →
     IsAccepted A f env out

@@ -93,9 +93,9 @@ fn judge<A: Allocator + Copy, F: Function, B: Allocator>(
 /// Allocates registers to a function as [`run`] does, and returns the output only where the checker
 /// accepts it.
 ///
-/// Preconditions and guarantees on the output are as in `run`. Besides, the output is faithful, whether or not a path reads or passes a vreg before writing it. If none does, the
-/// checker finds no error, so the only error that it adds is `Unjudged`. `Faults` holds the errors
-/// of an output with all that `run` guarantees of its outputs.
+/// Preconditions and guarantees on the output are as in `run`. Besides, the output is faithful, whether or not a path
+/// reads or passes a vreg before writing it. If none does, the checker finds no error, so the only error that it adds
+/// is `Unjudged`. `Faults` holds the errors of an output with all that `run` guarantees of its outputs.
 pub fn run_checked<A: Allocator + Copy, F: Function, B: Allocator>(
     alloc: A,
     f: &F,

@@ -113,15 +113,15 @@ fn error_from<A: Allocator>(error: CheckedRunError<A>) -> AllocateError<A>
 /// Allocates registers to any function for any machine, and returns an output that the checker
 /// accepts.
 ///
-/// It has no preconditions: it tests that the machine fits the function, as [`test_machine`] does,
-/// and then makes a [`run_checked`] with all tests of the function. [`run_tested`] needs no checker,
-/// and rejects a function that may read before it writes. The output is faithful: along every path each use reads the function's own value,
-/// every constraint is met, and no move goes from a stack place to another; and it has all that
+/// It has no preconditions: it tests that the machine fits the function, as [`test_machine`] does, and then makes a
+/// [`run_checked`] with all tests of the function. [`run_tested`] needs no checker, and rejects a function that may
+/// read before it writes. The output is faithful: along every path each use reads the function's own value, every
+/// constraint is met, and no move goes from a stack place to another; and it has all that
 /// [`run`] guarantees.
 ///
-/// An error is the first condition of a fitting machine that fails, the first test of the function that fails, or says that
-/// registers, slots or memory ran out. If no path from the entry reads or passes a vreg before writing it, it is never
-/// `Faults`.
+/// An error is the first condition of a fitting machine that fails, the first test of the function that fails, or
+/// says that registers, slots or memory ran out. If no path from the entry reads or passes a vreg before writing it,
+/// it is never `Faults`.
 ///
 /// The checker takes several times as long as the allocation. [`allocate_without_checker`] does without it.
 pub fn allocate<A: Allocator + Copy, F: Function, B: Allocator>(

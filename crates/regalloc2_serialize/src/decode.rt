@@ -325,8 +325,8 @@ impl<A: Allocator + Copy> SerializableFunction<A> {
     ///
     /// # Errors
     ///
-    /// The first of `Lengths`, `Index`, `Bits` and `Limit` whose test fails, in this order; `Memory` if all four pass and
-    /// memory runs out.
+    /// The first of `Lengths`, `Index`, `Bits` and `Limit` whose test fails, in this order; `Memory` if all four pass
+    /// and memory runs out.
     pub fn from_stored<B: Allocator>(
         alloc: A,
         stored: &StoredFunction<B>,

@@ -332,9 +332,9 @@ fn numbers_of<A: Allocator + Copy>(
 impl<A: Allocator + Copy> SerializableFunction<A> {
     /// Returns the numbers of this function and its machine, made with the function's own allocator.
     ///
-    /// The numbers name this function and this machine, and no other. [`SerializableFunction::from_stored`] gives back what
-    /// was stored, unless it returns `Memory`, or `Index` because the function's entry, a predecessor or a successor is no
-    /// block of the function.
+    /// The numbers name this function and this machine, and no other. [`SerializableFunction::from_stored`] gives
+    /// back what was stored, unless it returns `Memory`, or `Index` because the function's entry, a predecessor or a
+    /// successor is no block of the function.
     ///
     /// # Errors
     ///

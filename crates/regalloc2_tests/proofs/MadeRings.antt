@@ -15,7 +15,8 @@ nothing = tt
 pub none : (class : RegClass) → AreDistinctOf class []
 none class = record { of_class = λ k d less. absurd (omega arith); distinct = nothing }
 
--- distinct registers of a class, with one more of it in front that is none of them, are distinct registers of that class
+-- distinct registers of a class, with one more of it in front that is none of them, are distinct registers of that
+-- class
 pub one_more : (class : RegClass) (r : Register) (regs : List Register) → r.class ≡ class → AllByRecursion (λ q. is_register r q ≡ false) regs →
     AreDistinctOf class regs → AreDistinctOf class (r ∷ regs)
 one_more class r regs here apart rest = record {

@@ -46,7 +46,8 @@ pub fn run_with_ctx_fitting<A: Allocator + Copy, F: Function, B: Allocator>(
     }
 }
 
-/// `run_into_ctx`, at a machine that fits: the context holds an output of the function, or after an error the one that it held before.
+/// `run_into_ctx`, at a machine that fits: the context holds an output of the function, or after an error the one
+/// that it held before.
 pub fn run_into_ctx_fitting<A: Allocator + Copy, F: Function, B: Allocator>(
     f: &F,
     env: &MachineEnv<B>,
@@ -62,8 +63,8 @@ pub fn run_into_ctx_fitting<A: Allocator + Copy, F: Function, B: Allocator>(
     }
 }
 
-/// `Ctx::run`, at a machine that fits, for a client without a debugger: the context holds the output that the call lends, from which
-/// the debug locations are removed, or after an error the output that it held before.
+/// `Ctx::run`, at a machine that fits, for a client without a debugger: the context holds the output that the call
+/// lends, from which the debug locations are removed, or after an error the output that it held before.
 pub fn run_without_debug_locations<A: Allocator + Copy, F: Function, B: Allocator>(
     f: &F,
     env: &MachineEnv<B>,

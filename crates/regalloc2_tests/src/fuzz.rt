@@ -73,8 +73,8 @@ fn show_all<W: Write>(alloc: Global, lines: &str, out: &mut W) -> io::Result<()>
     Ok(())
 }
 
-/// A text that is deep or large: a part and how often it stands there, what is before and behind it, and whether the members
-/// of a function come after that.
+/// A text that is deep or large: a part and how often it stands there, what is before and behind it, and whether the
+/// members of a function come after that.
 type Large = (&'static str, u32, &'static str, &'static str, bool);
 
 /// Deep and large texts. The last three have a function, two of them behind a member that isn't read.

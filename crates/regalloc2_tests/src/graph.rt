@@ -46,7 +46,8 @@ impl Graph {
         succs.push(Block::new(to % 100)).ok()
     }
 
-    /// Whether a block without successors may go on to another one: a join, and each path comes by the block above that.
+    /// Whether a block without successors may go on to another one: a join, and each path comes by the block above
+    /// that.
     fn may_join(&self, from: usize, to: usize) -> Option<bool> {
         let join = self.nodes.get(to)?;
         let mut at = from;

@@ -3,12 +3,13 @@
 //! An argument is a folder, whose files `*.case` are run, by name. Each call whose result isn't the expected one is
 //! printed, and then how many files there are and how many calls passed and failed.
 //!
-//! Without one the cases of the folder that it runs in come first, and then calls of the library's parts, the allocator,
-//! the checker, `ra2` and the code generator that no case file can make, with their results. The file `stdout` has the
-//! expected output. The input has a function and an output, as JSON; behind an empty line, a title and a function for each
-//! part of the table of failed allocations; behind another one, texts for `ra2`. Randomly generated functions, from fixed seeds, have up to twelve blocks, operands of
-//! every kind but `Limit`, and registers enough for each of their instructions, most of which require all that there
-//! are; on no path is a value read before it is written.
+//! Without one the cases of the folder that it runs in come first, and then calls of the library's parts, the
+//! allocator, the checker, `ra2` and the code generator that no case file can make, with their results. The file
+//! `stdout` has the expected output. The input has a function and an output, as JSON; behind an empty line, a title
+//! and a function for each part of the table of failed allocations; behind another one, texts for `ra2`. Randomly
+//! generated functions, from fixed seeds, have up to twelve blocks, operands of every kind but `Limit`, and registers
+//! enough for each of their instructions, most of which require all that there are; on no path is a value read before
+//! it is written.
 //!
 //! The status is 0, or 1 where a call of a case failed, or 2 where a file can't be read, the output can't be written or
 //! memory runs out.
@@ -68,7 +69,8 @@ fn is_tested<F: Function>(alloc: Global, f: &F, env: &MachineEnv) -> bool {
     run_tested(alloc, f, env).is_ok()
 }
 
-/// Whether a function is allocated, reads nothing unwritten, by the dominator tree, and what comes out is accepted by the checker.
+/// Whether a function is allocated, reads nothing unwritten, by the dominator tree, and what comes out is accepted by
+/// the checker.
 fn is_right<F: Function>(alloc: Global, f: &F, env: &MachineEnv) -> bool {
     let is_accepted = is_accepted(alloc, f, env);
     let is_by_tree = is_by_tree(alloc, f);

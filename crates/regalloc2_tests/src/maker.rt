@@ -101,7 +101,8 @@ impl Maker {
         draft.operands.push(operand).ok()
     }
 
-    /// An instruction of fewer than `below` operands, and the operands that fill it up. A branch has uses alone, and isn't filled up.
+    /// An instruction of fewer than `below` operands, and the operands that fill it up. A branch has uses alone, and
+    /// isn't filled up.
     fn inst(&mut self, below: usize, op: InstOpcode) -> Option<TableInst>
         requires { 0 < below }
     {
@@ -207,7 +208,8 @@ impl Maker {
         Some(())
     }
 
-    /// What may be read at the beginning of a block but the entry: what may behind the one above it, and its parameters.
+    /// What may be read at the beginning of a block but the entry: what may behind the one above it, and its
+    /// parameters.
     fn enter(&mut self, graph: &Graph, number: usize) -> Option<()> {
         let node = graph.nodes.get(number)?;
         self.known = graph.nodes.get(node.above)?.known.to_vec(self.alloc).ok()?;

@@ -21,7 +21,8 @@ const LAST_VREG: &str =
 /// A value in a register.
 const PLAIN: &str = "block0:\n  op: Def: v0i reg\n  ret: Use: v0i reg\n";
 
-/// How many allocations an output has, and the offsets of its two instructions, which have one operand each. The first is well-ordered.
+/// How many allocations an output has, and the offsets of its two instructions, which have one operand each. The
+/// first is well-ordered.
 static LISTS: [(usize, &[u32]); 5] = [
     (2, &[0, 1]),
     (2, &[0]),
@@ -84,8 +85,8 @@ fn write_lists<F: Function>(alloc: Global, f: &F, out: &mut Report) -> Result<()
     Ok(())
 }
 
-/// Writes what the checker reports of a value in the last slot, of a small vreg and of the greatest, and how it refuses outputs that
-/// aren't well-ordered.
+/// Writes what the checker reports of a value in the last slot, of a small vreg and of the greatest, and how it
+/// refuses outputs that aren't well-ordered.
 pub fn write_all(alloc: Global, out: &mut Report) -> Result<(), AllocError> {
     out.row("last slot", &verdict_of(alloc, LAST_SLOT));
     out.row("last slot, greatest vreg", &verdict_of(alloc, LAST_VREG));

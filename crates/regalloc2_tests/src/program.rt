@@ -55,8 +55,8 @@ impl Read for Failing<'_> {
     }
 }
 
-/// A writer over memory. The write after `sound_writes` others fails, once, and so may each flush. `is_written_again` tells whether a
-/// write came after the failed one.
+/// A writer over memory. The write after `sound_writes` others fails, once, and so may each flush. `is_written_again`
+/// tells whether a write came after the failed one.
 #[derive(Drop)]
 struct Faulty {
     text: Vec<u8>,
@@ -106,7 +106,8 @@ impl Write for Faulty {
     }
 }
 
-/// The status that the program returns for the command line `line` and an `input`, and what it writes over a buffer of `capacity` bytes.
+/// The status that the program returns for the command line `line` and an `input`, and what it writes over a buffer
+/// of `capacity` bytes.
 fn call(
     alloc: Global,
     line: &str,
@@ -223,8 +224,8 @@ fn up_to_five(count: Option<u32>) -> Option<u32> {
     }
 }
 
-/// How many writes there are without a buffer, over 16 bytes, and over 8192, where each of them ends the program if it fails. Five
-/// stand for five and more.
+/// How many writes there are without a buffer, over 16 bytes, and over 8192, where each of them ends the program if
+/// it fails. Five stand for five and more.
 pub fn writes_up_to_five(alloc: Global) -> io::Result<[Option<u32>; 3]> {
     let unbuffered = fatal_writes(alloc, 0)?;
     let short = fatal_writes(alloc, 16)?;

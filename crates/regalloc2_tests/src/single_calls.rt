@@ -1,5 +1,5 @@
-//! Calls that [`allocate`](regalloc2::allocate) makes unseen, made one by one: the tests of a function's blocks and definitions, its live
-//! ranges, and a checked run with the test of its cells.
+//! Calls that [`allocate`](regalloc2::allocate) makes unseen, made one by one: the tests of a function's blocks and
+//! definitions, its live ranges, and a checked run with the test of its cells.
 
 ghost use Rattle.regalloc2_analysis.specs.LiveRanges.LiveRanges.{IsSSA};
 
@@ -17,8 +17,8 @@ use regalloc2_analysis::live_ranges::{LiveRange, kept_labels, live_ranges};
 use regalloc2_serialize::table_function::{BuildError, TableBuilder, TableFunction};
 use std::alloc::Global;
 
-/// A value that a loop passes to a parameter on each turn, which nothing reads, and one that the return reads late. The label of the
-/// parameter and the one that ends past the last read aren't kept.
+/// A value that a loop passes to a parameter on each turn, which nothing reads, and one that the return reads late.
+/// The label of the parameter and the one that ends past the last read aren't kept.
 const LABELLED: &str = "block0:\n  op: Def: v0i reg\n  branch block1(v0i)\n\
     block1(v1i):\n  op: Def: v2i reg, Use: v0i reg\n  branch block2(), block3()\n\
     block2:\n  branch block1(v0i)\n\

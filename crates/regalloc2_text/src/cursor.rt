@@ -1,5 +1,5 @@
-//! Lines of a text: their words, numbers and signs, a place among them, what the registers, operands, places and points there are, and why
-//! a text can't be read.
+//! Lines of a text: their words, numbers and signs, a place among them, what the registers, operands, places and
+//! points there are, and why a text can't be read.
 
 mod cursor;
 mod error;

@@ -1,4 +1,5 @@
-//! The texts of program points and of single stored numbers: the text of the name if the number is one's, else `bits(N)`.
+//! The texts of program points and of single stored numbers: the text of the name if the number is one's, else
+//! `bits(N)`.
 
 ghost use Rattle.std.specs.Prelude.{Some};
 ghost use Rattle.regalloc2_text.specs.Point.{point_text};

@@ -68,7 +68,8 @@ fn test_text<A: Allocator + Copy>(
     }
 }
 
-/// The text of a function with its machine, and of an output where there is one; [`read`] gives them back. Linear in them.
+/// The text of a function with its machine, and of an output where there is one; [`read`] gives them back. Linear in
+/// them.
 ///
 /// A function may be ill-formed, and its numbers may name nothing. The text is read back before it
 /// is returned: `Differs` where that gives another function or output, as with 2^32 instructions or

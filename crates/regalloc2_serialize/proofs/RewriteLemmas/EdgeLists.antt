@@ -81,7 +81,8 @@ before-step f b i n less within critical rest = by (nat_lt b n) refl
         let same : b ≡ n = omega (arith, less, up) in
         subst (λ m. IsAt (edges_before f (suc m)) at (edge b i)) same here
 
--- a critical edge is behind the critical edges of the blocks before its own, and behind the ones before it in its own block
+-- a critical edge is behind the critical edges of the blocks before its own, and behind the ones before it in its own
+-- block
 pub at-before : (f : FunctionValue) (b i n : ℕ) → b < n → i < length (block_at f b).succs → is_critical f b i ≡ true →
     IsAt (edges_before f n) (length (edges_before f b ++ edges_upto f b i)) (edge b i)
 at-before f b i zero less within critical = absurd (omega arith)

@@ -1,5 +1,6 @@
 -- A function whose critical edges are split.
--- An edge is critical if its block has several successors and its end is entered in several ways, as for upstream; paths are this project's.
+-- An edge is critical if its block has several successors and its end is entered in several ways, as for upstream;
+-- paths are this project's.
 use Rattle.std.specs.Prelude.{ℕ, zero, suc, ◌≡◌, ◌+◌, ◌-◌, ◌<◌, ◌≤◌, ◌^◌, Bool, true, false, ◌&&◌, if◌then◌else◌, nat_eq, nat_lt, List, [], ◌∷◌, ◌++◌, length, map}
 use Rattle.std.specs.Prelude.{count_by, slice_index, sum_by}
 use Rattle.std.specs.List.{range_with_len}
@@ -45,7 +46,8 @@ pub record IsJump (i : InstValue) : Type 0 where
   pub is_branch : i.is_branch ≡ true
   pub is_ret : i.is_ret ≡ false
 
--- block `n` of `g` stands on the edge from block `b` of `f` at position `k`: it is a jump, takes no arguments, and passes the edge's
+-- block `n` of `g` stands on the edge from block `b` of `f` at position `k`: it is a jump, takes no arguments, and
+-- passes the edge's
 pub record IsBetween (f : FunctionValue) (b k : ℕ) (g : FunctionValue) (n : ℕ) : Type 0 where
   pub new : length f.blocks ≤ n
   pub block : n < length g.blocks
@@ -56,7 +58,8 @@ pub record IsBetween (f : FunctionValue) (b k : ℕ) (g : FunctionValue) (n : �
   pub succs : (block_at g n).succs ≡ slice_index (block_at f b).succs k ∷ []
   pub arguments : arguments_at g n 0 ≡ arguments_at f b k
 
--- block `b` is the same, but for the ends of its critical edges, each of which is a block of its own that takes no arguments
+-- block `b` is the same, but for the ends of its critical edges, each of which is a block of its own that takes no
+-- arguments
 pub record IsKeptBlock (f : FunctionValue) (b : ℕ) (g : FunctionValue) : Type 0 where
   pub range : (block_at g b).range ≡ (block_at f b).range
   pub params : (block_at g b).params ≡ (block_at f b).params
@@ -91,8 +94,8 @@ step_through f (w ∷ ws) s = if nat_eq s (length (w ∷ ws)) then length (throu
 abbrev pub stamp_through : FunctionValue → List Way → Stamp → Stamp
 stamp_through f ws s = record { step = step_through f ws s.step; operand = s.operand }
 
--- each path of `f` is one of `g` with a jump on each split edge, and each path of `g` that ends in a block of `f` is of that form;
--- the paths end at the same instruction of the same block, and each vreg has the same last write
+-- each path of `f` is one of `g` with a jump on each split edge, and each path of `g` that ends in a block of `f` is
+-- of that form; the paths end at the same instruction of the same block, and each vreg has the same last write
 pub record HasPathsThrough (f g : FunctionValue) : Type 0 where
   pub paths : (ws : List Way) → IsPath f ws → IsPath g (through f ws)
   pub ends : (ws : List Way) → IsPath f ws → end_of g (through f ws) ≡ end_of f ws

@@ -206,18 +206,19 @@ fn split_blocks<F: Function, A: Allocator + Copy>(
 
 /// Returns a function with a new block on each critical edge.
 ///
-/// An edge is critical if its block has several successors and its end is entered in several ways; the function's start is
-/// a way into the entry. Blocks and instructions of `f` keep their numbers. The new blocks follow them, by the number of the
-/// block that the edge leaves and the position of the edge: each has no parameters and one instruction, a branch without
-/// operands, and passes the arguments of its edge. Predecessors are listed anew, by the successors of all blocks. Each path
-/// of `f` is a path of the result with a step more on each split edge: it executes the same instructions besides, and each
-/// vreg has the same last write.
+/// An edge is critical if its block has several successors and its end is entered in several ways; the function's
+/// start is a way into the entry. Blocks and instructions of `f` keep their numbers. The new blocks follow them, by
+/// the number of the block that the edge leaves and the position of the edge: each has no parameters and one
+/// instruction, a branch without operands, and passes the arguments of its edge. Predecessors are listed anew, by the
+/// successors of all blocks. Each path of `f` is a path of the result with a step more on each split edge: it
+/// executes the same instructions besides, and each vreg has the same last write.
 ///
 /// `f` is structurally valid: [`is_framed`] tests it. Linear in the function.
 ///
 /// # Errors
 ///
-/// `Unframed`; `TooManyBlocks` or `TooManyInsts` if the result passes a limit; `Memory` if memory runs out. `f` is unchanged.
+/// `Unframed`; `TooManyBlocks` or `TooManyInsts` if the result passes a limit; `Memory` if memory runs out. `f` is
+/// unchanged.
 pub fn split_critical_edges<F: Function, A: Allocator + Copy>(
     alloc: A,
     f: &F,

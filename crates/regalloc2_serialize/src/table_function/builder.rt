@@ -168,7 +168,8 @@ impl<A: Allocator + Copy> TableBuilder<A> {
         self.inst(block, inst)
     }
 
-    /// Adds a branch with the operands `operands` to `block`: the last instruction of a block that goes on to its successors.
+    /// Adds a branch with the operands `operands` to `block`: the last instruction of a block that goes on to its
+    /// successors.
     pub fn branch(&mut self, block: Block, operands: &[Operand]) -> Result<(), BuildError>
         ensures ok { OnOk result (HasMore (drafts_of self.old) block operands.now true false (drafts_of self.new)) }
         ensures err { IfErr result (λ e. IsUnadded (length (drafts_of self.old)) block e) }
@@ -209,8 +210,8 @@ impl<A: Allocator + Copy> TableBuilder<A> {
 
     /// The function, with slots of one unit and vregs below `num_vregs`, without labels.
     ///
-    /// The blocks' ranges follow one another. A block's predecessors are the blocks that go on to it, by their numbers, each
-    /// listed once for each edge.
+    /// The blocks' ranges follow one another. A block's predecessors are the blocks that go on to it, by their
+    /// numbers, each listed once for each edge.
     pub fn finish(self, num_vregs: usize) -> Result<TableFunction<A>, BuildError>
         ensures ok { IfOk result (λ f. IsBuilt (drafts_of self) num_vregs (function_of_table f)) }
         ensures err { IfErr result (λ e. IsUnbuilt (drafts_of self) num_vregs e) }

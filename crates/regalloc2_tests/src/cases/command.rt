@@ -54,9 +54,9 @@ fn write_done(
     write_end(err.as_slice(), status, to)
 }
 
-/// Writes what the program writes for the command line `line`, in which the first file is `text` and the second file of `diff` is
-/// `before`: its standard output, then its standard error, and its status. If the words name no task, it writes the error's first line
-/// alone.
+/// Writes what the program writes for the command line `line`, in which the first file is `text` and the second file
+/// of `diff` is `before`: its standard output, then its standard error, and its status. If the words name no task, it
+/// writes the error's first line alone.
 pub fn write_program(
     alloc: Global,
     line: &str,
@@ -120,8 +120,8 @@ fn action_of(alloc: Global, words: &str) -> Result<Option<Action>, AllocError> {
     }
 }
 
-/// Writes what `compile` writes for its words, in which the file is left out: what it writes to standard output, behind that
-/// what it writes to standard error, and its status.
+/// Writes what `compile` writes for its words, in which the file is left out: what it writes to standard output,
+/// behind that what it writes to standard error, and its status.
 pub fn write_compiler(
     alloc: Global,
     words: &str,

@@ -106,9 +106,9 @@ fn call_of<'t>(case: &'t Case<'_>, name: &str) -> (Option<Call>, Option<Source<'
     (Call::named(word), Some(source))
 }
 
-/// Writes the result of a call of a case: what is written, and after that the text's error. A name of which the first word is
-/// `ra2_text` is that program's command line; `before` is the text of the case before. A name of which it is `compile` is
-/// that program's, in which the file is left out.
+/// Writes the result of a call of a case: what is written, and after that the text's error. A name of which the first
+/// word is `ra2_text` is that program's command line; `before` is the text of the case before. A name of which it is
+/// `compile` is that program's, in which the file is left out.
 fn write_result(
     alloc: Global,
     case: &Case<'_>,

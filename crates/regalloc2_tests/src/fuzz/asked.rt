@@ -6,7 +6,8 @@ use std::alloc::Global;
 use std::io::BufWriter;
 use std::{fmt, str};
 
-/// The lines that say that memory ran out: first the lines of status 2, on the standard error, then the lines of status 1.
+/// The lines that say that memory ran out: first the lines of status 2, on the standard error, then the lines of
+/// status 1.
 pub static LACKS: [&str; 5] = [
     "ra2: input unreadable\n",
     "ra2: bad function 5\n",

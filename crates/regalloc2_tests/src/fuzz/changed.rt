@@ -46,8 +46,8 @@ fn with_other_number(
     text.to_vec(alloc).ok()
 }
 
-/// The text with one change: most often of a number's last digit; or a byte is changed, put in or taken out, a part is repeated, or an
-/// end is cut off.
+/// The text with one change: most often of a number's last digit; or a byte is changed, put in or taken out, a part
+/// is repeated, or an end is cut off.
 fn changed_once(alloc: Global, random: &mut Random, text: &[u8]) -> Option<Vec<u8>> {
     let at = random.below(text.len().max(1));
     let other = random.below(text.len().max(1));

@@ -28,7 +28,8 @@ fn is_each_told(global: Global, words: &str, text: &[u8], met: &mut [bool; 5]) -
     None
 }
 
-/// For how many whole texts each failed allocation is reported, and for how many it isn't; the lines that say so are marked.
+/// For how many whole texts each failed allocation is reported, and for how many it isn't; the lines that say so are
+/// marked.
 fn told_and_untold(global: Global, lines: &str, met: &mut [bool; 5]) -> (u32, u32) {
     let (mut told, mut untold) = (0u32, 0u32);
     for line in lines.lines() {

@@ -142,7 +142,8 @@ impl<F: Function> Given<'_, F> {
         }
     }
 
-    /// Runs three times with a context, so that the second call finds an output, and the third one shows that the context still serves.
+    /// Runs three times with a context, so that the second call finds an output, and the third one shows that the
+    /// context still serves.
     fn run_thrice<A: Allocator + Copy>(&self, ctx: &mut Ctx<A>) -> Result<String, AllocError> {
         let (first, second) = (self.run_once(ctx), self.run_once(ctx));
         let third = self.run_once(ctx)?;

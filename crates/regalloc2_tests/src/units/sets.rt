@@ -32,7 +32,8 @@ fn write_sets(out: &mut Report, sets: &[(&str, PRegSet)]) {
     }
 }
 
-/// Writes sets that others are changed to, and what walks of one give: by reference its last register, by value how many.
+/// Writes sets that others are changed to, and what walks of one give: by reference its last register, by value how
+/// many.
 fn write_changes(alloc: Global, out: &mut Report) -> Result<(), AllocError> {
     let (p4, p5) = (PReg::new(4, RegClass::Int), PReg::new(5, RegClass::Int));
     let list = [p4, PReg::new(3, RegClass::Vector), p4];

@@ -234,7 +234,8 @@ impl<'a, 't> Cursor<'a, 't> {
         self.number(u64::from(u32::MAX)) as u32
     }
 
-    /// The number of 32 bits in a word that is made of `name` and a number, as `inst3`; `expected` says what the word names.
+    /// The number of 32 bits in a word that is made of `name` and a number, as `inst3`; `expected` says what the word
+    /// names.
     pub fn named(&mut self, name: &str, expected: &'static str) -> u32
         ensures { tokens_left self.new ≤ tokens_left self.old }
     {

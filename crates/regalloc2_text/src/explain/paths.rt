@@ -158,7 +158,8 @@ impl Search {
         Ok(())
     }
 
-    /// Finds what each block reads before writing it. Nothing writes the parameters of the entry where the function starts.
+    /// Finds what each block reads before writing it. Nothing writes the parameters of the entry where the function
+    /// starts.
     fn walk(&mut self, function: &StoredFunction) -> Result<(), AllocError> {
         for block in 0..function.blocks.len() {
             if let Ok(block) = u32::try_from(block) {

@@ -183,7 +183,8 @@ fn search_back(
     Ok(search)
 }
 
-/// The last write of `place` in the block from instruction `first` on, before the use at `pos` of instruction `inst` reads it.
+/// The last write of `place` in the block from instruction `first` on, before the use at `pos` of instruction `inst`
+/// reads it.
 fn last_in_block(
     function: &StoredFunction,
     output: &StoredOutput,
@@ -200,7 +201,8 @@ fn last_in_block(
     last_between(function, output, first, inst, until, place)
 }
 
-/// The last writes of `place` before a use at `pos` of instruction `inst` reads it. `None` if no block holds the instruction.
+/// The last writes of `place` before a use at `pos` of instruction `inst` reads it. `None` if no block holds the
+/// instruction.
 ///
 /// The output's moves are sorted by program point. Linear in the function and the output, with a
 /// binary search of the moves for each block. An error means out of memory.

@@ -47,7 +47,8 @@ impl LastWrite {
     }
 }
 
-/// The last definition of an instruction that is in `place`. If `pos` is given, only definitions at that position count.
+/// The last definition of an instruction that is in `place`. If `pos` is given, only definitions at that position
+/// count.
 fn definition_in(
     function: &StoredFunction,
     output: &StoredOutput,
@@ -101,8 +102,8 @@ fn write_by(
     definition_in(function, output, inst, None, place)
 }
 
-/// The last write of `place` by the instruction whose use at `pos` reads it: only early definitions are written before an early
-/// use reads, and all definitions and clobbers before a late one.
+/// The last write of `place` by the instruction whose use at `pos` reads it: only early definitions are written
+/// before an early use reads, and all definitions and clobbers before a late one.
 pub(crate) fn write_by_reader(
     function: &StoredFunction,
     output: &StoredOutput,

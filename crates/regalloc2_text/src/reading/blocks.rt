@@ -102,7 +102,8 @@ impl<A: Allocator + Copy> DraftBlock<A> {
         block
     }
 
-    /// Reads the successors and the predecessors behind a block's colon in a dump, after the first bracket: `[succs [2, 3] preds [0]]`.
+    /// Reads the successors and the predecessors behind a block's colon in a dump, after the first bracket: `[succs
+    /// [2, 3] preds [0]]`.
     fn read_neighbours(&mut self, alloc: A, cursor: &mut Cursor<'_, '_>) {
         if self.has_succs || self.preds.is_some() {
             cursor.misfit_before("each part once");

@@ -64,7 +64,8 @@ impl<A: Allocator + Copy> Draft<A> {
         cursor.finish_with(effect)
     }
 
-    /// Reads the line of an instruction or of a point, whose first word is one of an instruction and has `sign` behind it.
+    /// Reads the line of an instruction or of a point, whose first word is one of an instruction and has `sign`
+    /// behind it.
     fn read_numbered(&mut self, alloc: A, sign: &str, cursor: &mut Cursor<'_, '_>) -> LineEffect {
         match sign {
             "-" => {

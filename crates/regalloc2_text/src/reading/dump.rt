@@ -23,7 +23,8 @@ fn annotation(line: &str) -> Option<&str> {
     }
 }
 
-/// Whether a line says nothing of a function or its allocation: the heading of results, or an annotation that is no move.
+/// Whether a line says nothing of a function or its allocation: the heading of results, or an annotation that is no
+/// move.
 fn is_remark(line: &str) -> bool {
     if line.trim() == HEADING {
         return true;
@@ -130,8 +131,8 @@ impl SlotRule<'_> {
         end
     }
 
-    /// The first unit past each slot that a move in `moves` names. The register at the other end of a move tells the slot's
-    /// class; upstream moves nothing from stack to stack.
+    /// The first unit past each slot that a move in `moves` names. The register at the other end of a move tells the
+    /// slot's class; upstream moves nothing from stack to stack.
     fn end_of_moves(&self, moves: &[(u32, u32, u32)]) -> u64 {
         let mut end = 0;
         for (_, from, to) in moves {
@@ -154,8 +155,8 @@ fn register_class(place: u32) -> Option<RegClass> {
     Some(register.class())
 }
 
-/// Returns how many units the frame of a dumped `function` has at least: up to the end of the last slot that `moves` or `places`
-/// name. The places of an instruction begin at its number in `offsets`.
+/// Returns how many units the frame of a dumped `function` has at least: up to the end of the last slot that `moves`
+/// or `places` name. The places of an instruction begin at its number in `offsets`.
 pub(super) fn frame_units<A: Allocator>(
     function: &StoredFunction<A>,
     places: &[u32],

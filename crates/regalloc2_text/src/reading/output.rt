@@ -70,8 +70,8 @@ impl<A: Allocator + Copy> DraftOutput<A> {
         cursor.extend(&mut self.allocs, places);
     }
 
-    /// Notes that an instruction is as in a dump: unless a line gives the number of slots, the frame ends with the last slot that
-    /// the output names.
+    /// Notes that an instruction is as in a dump: unless a line gives the number of slots, the frame ends with the
+    /// last slot that the output names.
     pub(super) fn note_dump(&mut self) {
         self.is_dump = true;
     }
@@ -118,8 +118,8 @@ impl<A: Allocator + Copy> DraftOutput<A> {
         cursor.push(&mut self.debug_locations, (label, from, until, place));
     }
 
-    /// The output of `function`, if lines say something of it, with `stored_allocs` and `stored_offsets` in place of its own
-    /// lists.
+    /// The output of `function`, if lines say something of it, with `stored_allocs` and `stored_offsets` in place of
+    /// its own lists.
     pub(super) fn finish(
         self,
         function: &StoredFunction<A>,

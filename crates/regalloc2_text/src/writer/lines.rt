@@ -1,4 +1,5 @@
-//! The lines of a text, in order: the machine, what isn't as usual, the blocks, the labels, and what has no line of its own.
+//! The lines of a text, in order: the machine, what isn't as usual, the blocks, the labels, and what has no line of
+//! its own.
 
 use super::machine::{CLASSES, write_machine, write_misfit, write_stored, write_stored_machine};
 use super::moves::Moves;
@@ -113,8 +114,9 @@ fn write_lines<A: Allocator + Copy, W: fmt::Write>(
 
 /// The lines of a function with its machine, and of an output where there is one. Linear in them.
 ///
-/// A function may be ill-formed, and its numbers may name nothing. Where no text says what it is, as with 2^32 instructions or
-/// blocks, these lines read back as another function or output. The only error is that the system is out of memory.
+/// A function may be ill-formed, and its numbers may name nothing. Where no text says what it is, as with 2^32
+/// instructions or blocks, these lines read back as another function or output. The only error is that the system is
+/// out of memory.
 pub fn lay_out<A: Allocator + Copy>(
     alloc: A,
     function: &StoredFunction<A>,

@@ -62,8 +62,8 @@ pub(crate) struct ShownOutput<'a, A: Allocator> {
 }
 
 impl<'a, A: Allocator + Copy> ShownOutput<'a, A> {
-    /// An output of `insts` instructions, if there is one. Its places are written beside the instructions if the offsets are
-    /// in order, its moves if the points are in order.
+    /// An output of `insts` instructions, if there is one. Its places are written beside the instructions if the
+    /// offsets are in order, its moves if the points are in order.
     pub(crate) fn of(
         output: Option<&'a StoredOutput<A>>,
         insts: usize,

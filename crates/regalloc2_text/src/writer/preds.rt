@@ -40,8 +40,8 @@ fn meet_all<A: Allocator>(
     }
 }
 
-/// For each list of predecessors how far it follows from the successors. The whole list follows if it has each block, by
-/// rising number, once for each edge from that block. Linear in both.
+/// For each list of predecessors how far it follows from the successors. The whole list follows if it has each block,
+/// by rising number, once for each edge from that block. Linear in both.
 pub(crate) fn follow<A: Allocator>(
     alloc: A,
     preds: &[Vec<u32, A>],

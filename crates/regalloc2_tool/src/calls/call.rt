@@ -73,8 +73,8 @@ pub enum Call {
 }
 
 impl Call {
-    /// The call that a word names: `run`, `check`, `replay`, `allocated`, `text`, `svg`, `reads`, `stats`, `stats_json`,
-    /// `dump` or `diff`.
+    /// The call that a word names: `run`, `check`, `replay`, `allocated`, `text`, `svg`, `reads`, `stats`,
+    /// `stats_json`, `dump` or `diff`.
     pub fn named(word: &str) -> Option<Call> {
         match word {
             "run" => Some(Call::Run),

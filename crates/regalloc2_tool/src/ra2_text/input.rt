@@ -71,8 +71,8 @@ pub fn position_of(bytes: &[u8], place: usize) -> (usize, usize) {
     (line, column)
 }
 
-/// Whether an input is JSON: its first character but blanks is a brace or a bracket, which begin no line of a text, but for a bracket
-/// around what a logger writes before the lines of a dump.
+/// Whether an input is JSON: its first character but blanks is a brace or a bracket, which begin no line of a text,
+/// but for a bracket around what a logger writes before the lines of a dump.
 fn is_json(text: &str) -> bool {
     let first = text.bytes().find(|byte| !byte.is_ascii_whitespace());
     first == Some(b'{') || (first == Some(b'[') && !is_logged(text.trim_start()))

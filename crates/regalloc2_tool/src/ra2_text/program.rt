@@ -74,8 +74,8 @@ fn warn(path: &str, function: &StoredFunction, err: &mut Vec<u8>) -> io::Result<
     )
 }
 
-/// The first line of `one` that differs from its line in `other`, and that line, without blanks at both ends; empty after the end of a
-/// text.
+/// The first line of `one` that differs from its line in `other`, and that line, without blanks at both ends; empty
+/// after the end of a text.
 fn first_difference<'a>(one: &'a str, other: &'a str) -> (&'a str, &'a str) {
     let mut lines = other.lines();
     for line in one.lines() {
@@ -87,7 +87,8 @@ fn first_difference<'a>(one: &'a str, other: &'a str) -> (&'a str, &'a str) {
     ("", lines.next().unwrap_or("").trim())
 }
 
-/// The text in which the parts of an input are shown: `shown` for JSON, else the text that was read, with `name` before line numbers.
+/// The text in which the parts of an input are shown: `shown` for JSON, else the text that was read, with `name`
+/// before line numbers.
 fn source_of<'s>(text: &'s str, shown: Option<&'s String>, name: &'s str) -> Source<'s> {
     match shown {
         Some(shown) => Source {
@@ -306,9 +307,9 @@ fn perform_with_other(
 
 /// Does a task with the bytes of its files, and returns the status.
 ///
-/// The input's error, or why there is no whole result, is a line on `err`, and the status then 2. Else the result is on `out`, and
-/// the status 0; or 1 if the function is rejected, of which `err` has the cause, or something is found; or 2 if its numbers
-/// name no function.
+/// The input's error, or why there is no whole result, is a line on `err`, and the status then 2. Else the result is
+/// on `out`, and the status 0; or 1 if the function is rejected, of which `err` has the cause, or something is found;
+/// or 2 if its numbers name no function.
 pub fn perform_task(
     alloc: Global,
     task: Task<'_>,

@@ -187,8 +187,8 @@ fn parsed<'a>(command: &mut Command<'a>, words: &'a [String]) -> Result<Task<'a>
 }
 
 impl<'a> Task<'a> {
-    /// The task that the program's words name, of which the first is its own name. The error's text is for the user: that the
-    /// arguments are wrong, or the help or the version if that is requested.
+    /// The task that the program's words name, of which the first is its own name. The error's text is for the user:
+    /// that the arguments are wrong, or the help or the version if that is requested.
     pub fn of(alloc: Global, words: &'a [String]) -> Result<Task<'a>, Error> {
         parsed(&mut command(alloc)?, words)
     }

@@ -25,10 +25,12 @@ struct Span {
     vreg: Option<usize>,
 }
 
-/// A picture of an output: a row for each move, two for each instruction, and in each column of rows a lane for each place that they name.
+/// A picture of an output: a row for each move, two for each instruction, and in each column of rows a lane for each
+/// place that they name.
 ///
-/// A box is an operand at its place, with a thicker frame where it is written; an arrow is a move. A bar joins the rows over which a register
-/// holds a value until its last read, and a slot until it is written again or its block ends; it is drawn in the columns that name its place.
+/// A box is an operand at its place, with a thicker frame where it is written; an arrow is a move. A bar joins the
+/// rows over which a register holds a value until its last read, and a slot until it is written again or its block
+/// ends; it is drawn in the columns that name its place.
 #[derive(Drop)]
 pub struct Picture<A: Allocator = Global> {
     alloc: A,
@@ -92,8 +94,9 @@ impl<A: Allocator + Copy> Picture<A> {
         Ok(())
     }
 
-    /// Records that a place is read in a row, by an operand of the vreg `by`, or by a move. A place that its block hasn't
-    /// written before has held the value since the block's first row. Returns the number of the value's vreg, if known.
+    /// Records that a place is read in a row, by an operand of the vreg `by`, or by a move. A place that its block
+    /// hasn't written before has held the value since the block's first row. Returns the number of the value's vreg,
+    /// if known.
     fn note_read(
         &mut self,
         place: Allocation,

@@ -127,7 +127,8 @@ pub(crate) fn rule<W: Write>(edges: (usize, usize), row: usize, to: &mut W) -> i
     writeln!(to, "<path d=\"M{left},{y} H{right}\" stroke=\"silver\"/>")
 }
 
-/// Writes the part in `column` of the bar over `rows`, along the lane whose middle is at `x`, for `vreg` if it is known.
+/// Writes the part in `column` of the bar over `rows`, along the lane whose middle is at `x`, for `vreg` if it is
+/// known.
 pub(crate) fn bar<W: Write>(
     x: usize,
     column: usize,

@@ -15,7 +15,8 @@ use Rattle.regalloc2_serialize.specs.Flat.Columns.Layout.{header_of, preferred_w
 use Rattle.regalloc2_serialize.specs.Flat.Columns.Layout.{operand_ends, operand_words, inst_ends, pred_ends, succ_ends, param_ends, pred_words, succ_words}
 use Rattle.regalloc2_serialize.specs.Flat.Columns.Layout.{param_words, argument_ends, argument_words, label_words, int_log, float_log, vector_log}
 
--- what columns list, and the bounds between which the members of an instruction, a block or an edge lie: from bound `k` up to bound `k + 1` for number `k`
+-- what columns list, and the bounds between which the members of an instruction, a block or an edge lie: from bound
+-- `k` up to bound `k + 1` for number `k`
 pub record Columns : Type 0 where
   pub kinds : List ℕ
   pub sets : List PRegSet

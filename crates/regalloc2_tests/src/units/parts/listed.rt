@@ -22,8 +22,8 @@ pub const SLOT: usize = 64;
 /// Moves by the numbers of their places.
 pub type Pairs = &'static [(usize, usize)];
 
-/// Moves as they are added: a swap, a move of a place to itself, a repeat, a cycle with a branch, two cycles and a chain, and cycles
-/// of registers and slots side by side.
+/// Moves as they are added: a swap, a move of a place to itself, a repeat, a cycle with a branch, two cycles and a
+/// chain, and cycles of registers and slots side by side.
 static RESOLVED: [Pairs; 6] = [
     &[(0, 1), (1, 0)],
     &[(0, 0)],

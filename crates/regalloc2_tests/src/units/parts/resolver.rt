@@ -174,7 +174,8 @@ fn place_of(number: Option<usize>) -> Option<Allocation> {
     }
 }
 
-/// What a resolver makes of moves with free places, if these serve them; and if it is called by reference, what it has left.
+/// What a resolver makes of moves with free places, if these serve them; and if it is called by reference, what it
+/// has left.
 pub fn computed_with<'a, A: Allocator>(
     free: Numbers,
     moves: Resolved<'a, A>,
@@ -217,7 +218,8 @@ fn write_case(alloc: Global, out: &mut Report, case: (Pairs, Numbers), by_ref: b
     }
 }
 
-/// Writes of each case whether its moves need a scratch place, how many there are if not, and what the resolver makes of them.
+/// Writes of each case whether its moves need a scratch place, how many there are if not, and what the resolver makes
+/// of them.
 pub fn write_computed(alloc: Global, out: &mut Report) {
     for case in &CASES {
         if let Ok(Some(moves)) = resolved(alloc, &alloc, case.0) {

@@ -97,8 +97,9 @@ fn write_inst<W: Write>(
     write_moves(output, point.saturating_add(1), to)
 }
 
-/// Writes a function with its output as upstream's `dump_results` does: heads of blocks with successors and predecessors, instructions as
-/// `op`, `br` or `ret` with operands, places and clobbers, and moves as annotations at their points, which are by rising numbers.
+/// Writes a function with its output as upstream's `dump_results` does: heads of blocks with successors and
+/// predecessors, instructions as `op`, `br` or `ret` with operands, places and clobbers, and moves as annotations at
+/// their points, which are by rising numbers.
 pub fn write_dump<W: Write>(
     function: &StoredFunction,
     output: &StoredOutput,
