@@ -2,7 +2,7 @@
 
 ghost use Rattle.std.specs.Prelude.{◌≡◌, ◌⊎◌, IfOk, IfErr};
 ghost use Rattle.serde_json.specs.View.{view};
-ghost use Rattle.regalloc2_serialize.specs.JsonShape.{HasJsonShape, HasLists, HasSettings, AreListsAt, AreSettingsAt, IsFunctionAt, IsRefusal};
+ghost use Rattle.regalloc2_serialize.specs.JsonShape.{HasJsonShape, HasLists, HasSettings, AreListsAt, AreSettingsAt, IsFunctionAt, IsShapeFault};
 
 use super::data::{InstOpcode, StoredFunction, StoredInst, StoredMachine};
 use super::from_json::{FromValue, member_from};
@@ -120,7 +120,7 @@ pub struct BlockLists<A: Allocator> {
 /// Reads from `value` a function's lists by block.
 fn lists_from<A: Allocator + Copy>(alloc: A, value: &Value) -> Result<BlockLists<A>, StoredFault>
     ensures ok { IfOk result (λ l. AreListsAt (view value.now) l) }
-    ensures refused { IfErr result (λ e. IsRefusal e (HasLists (view value.now) → ⊥)) }
+    ensures refused { IfErr result (λ e. IsShapeFault e (HasLists (view value.now) → ⊥)) }
 {
     let blocks = member_from(alloc, value, "blocks")?;
     let preds = member_from(alloc, value, "block_preds")?;
@@ -142,7 +142,7 @@ fn settings_from<A: Allocator + Copy>(
     value: &Value,
 ) -> Result<(u32, u64, bool, bool), StoredFault>
     ensures ok { IfOk result (λ s. AreSettingsAt (view value.now) s) }
-    ensures refused { IfErr result (λ e. IsRefusal e (HasSettings (view value.now) → ⊥)) }
+    ensures refused { IfErr result (λ e. IsShapeFault e (HasSettings (view value.now) → ⊥)) }
 {
     let entry_block = member_from(alloc, value, "entry_block")?;
     let num_vregs = member_from(alloc, value, "num_vregs")?;

@@ -168,7 +168,7 @@ const CLASS_BITS: u32 = 2;
 /// Returns the number in the word `word` of a vreg.
 ///
 /// The test of ranges comes before the test of words. Therefore `word` may encode no vreg.
-pub(crate) fn vreg_number(word: u32) -> u32
+pub fn vreg_number(word: u32) -> u32
     ensures { result ≡ word / 4 }
 {
     word >> CLASS_BITS

@@ -4,6 +4,7 @@
 
 pub mod cursor;
 pub mod explain;
+mod named;
 mod reading;
 pub mod refusal;
 mod same;

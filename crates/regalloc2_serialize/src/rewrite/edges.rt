@@ -5,7 +5,7 @@ ghost use Rattle.regalloc2_function.specs.FunctionValue.{block_at};
 ghost use Rattle.regalloc2_function.specs.WellFormed.{IsFramed, SuccessorsAreBlocks, times_in};
 ghost use Rattle.regalloc2_serialize.specs.TableFunction.Table.{function_of_table};
 ghost use Rattle.regalloc2_serialize.specs.TableFunction.Draft.{draft_of};
-ghost use Rattle.regalloc2_serialize.specs.Rewrite.SplitEdges.{AgreeUpToTwo, AreEntries, AreJumps, HasSplitEdges, IsCounted, IsToSplit, IsUnsplit, is_critical, kept_block, split_arguments, split_drafts, split_succ};
+ghost use Rattle.regalloc2_serialize.specs.Rewrite.SplitEdges.{AgreeUpToTwo, AreEntryCounts, AreJumps, HasSplitEdges, IsCountedBlock, IsToSplit, IsUnsplit, is_critical, kept_block, split_arguments, split_drafts, split_succ};
 
 use crate::InstOpcode;
 use crate::limits::BLOCK_LIMIT;
@@ -43,7 +43,7 @@ fn count_entries<A: Allocator>(counts: &mut Vec<usize, A>, succs: &[Block])
 /// Only whether there are none, one or several matters, so the contract speaks of counts up to two.
 fn entries_of<F: Function, A: Allocator>(alloc: A, f: &F) -> Result<Vec<usize, A>, AllocError>
     requires { SuccessorsAreBlocks (F.function f.now) }
-    ensures { IfOk result (λ counts. AreEntries (F.function f.now) counts.items) }
+    ensures { IfOk result (λ counts. AreEntryCounts (F.function f.now) counts.items) }
 {
     let mut counts = Vec::from_elem(alloc, 0usize, f.num_blocks())?;
     for block in 0..f.num_blocks() {
@@ -56,7 +56,7 @@ fn entries_of<F: Function, A: Allocator>(alloc: A, f: &F) -> Result<Vec<usize, A
 /// Returns whether the edge from `block` to its successor `k` is critical. `entries` counts the edges into each
 /// block.
 fn has_critical_edge<F: Function>(f: &F, block: Block, k: usize, entries: &[usize]) -> bool
-    requires counted { IsCounted (F.function f.now) block entries.now }
+    requires counted { IsCountedBlock (F.function f.now) block entries.now }
     requires position { k < length (block_at (F.function f.now) block).succs }
     ensures { result ≡ is_critical (F.function f.now) block k }
 {

@@ -82,7 +82,7 @@ impl<'a, 't> Cursor<'a, 't> {
         self.at = self.tokens.len();
     }
 
-    /// Notes that the next token doesn't fit.
+    /// Notes that the next token doesn't fit, and that `expected` is needed in its place.
     pub fn fault(&mut self, expected: Expected)
         ensures { tokens_left self.new ≤ tokens_left self.old }
     {
@@ -94,14 +94,14 @@ impl<'a, 't> Cursor<'a, 't> {
         self.fail(Flaw::new(column, expected, found));
     }
 
-    /// Notes that the next token doesn't fit; `expected` says what is expected in its place.
+    /// Notes that the next token doesn't fit, and that the words `expected` say what is needed in its place.
     pub fn misfit(&mut self, expected: &'static str)
         ensures { tokens_left self.new ≤ tokens_left self.old }
     {
         self.fault(Expected::Words(expected));
     }
 
-    /// Notes that the token before the next one doesn't fit.
+    /// Notes that the token before the next one doesn't fit, and that `expected` is needed in its place.
     pub fn fault_before(&mut self, expected: Expected)
         ensures { tokens_left self.new ≤ tokens_left self.old }
     {
@@ -113,7 +113,7 @@ impl<'a, 't> Cursor<'a, 't> {
         }
     }
 
-    /// Notes that the token before the next one doesn't fit; `expected` says what is expected in its
+    /// Notes that the token before the next one doesn't fit, and that the words `expected` say what is needed in its
     /// place.
     pub fn misfit_before(&mut self, expected: &'static str)
         ensures { tokens_left self.new ≤ tokens_left self.old }
@@ -258,7 +258,7 @@ impl<'a, 't> Cursor<'a, 't> {
     }
 }
 
-/// Whether a text is a number without leading zeros.
+/// Returns whether `text` is a number without leading zeros.
 pub(crate) fn is_numeral(text: &str) -> bool {
     match text.as_bytes() {
         [b'0'] => true,

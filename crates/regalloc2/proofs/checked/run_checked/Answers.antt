@@ -1,5 +1,5 @@
 use Rattle.regalloc2_function.specs.Views.{machine_of, output_of}
-use Rattle.regalloc2.proofs.CheckerErrorReasons.{no_fault, reason}
+use Rattle.regalloc2.proofs.CheckerErrorReasons.{no_fault_where_faithful, checked_reason}
 use Rattle.regalloc2.proofs.CountedOperands.{few_counted, found_counted, refused_counted}
 use Rattle.regalloc2.proofs.checked.run_checked.Goals as goal
 
@@ -36,12 +36,12 @@ returns-in-Err-judge-clause-faithful g c = tt
 
 pub returns-in-Err-judge-clause-accepted : goal.returns-in-Err-judge-clause-accepted
 returns-in-Err-judge-clause-accepted g c = λ written.
-    no_fault (g.F.Function.function c.args.f.now) (machine_of c.args.env.now) (output_of c.in-Ok.out) c.in-Err-judge.error
+    no_fault_where_faithful (g.F.Function.function c.args.f.now) (machine_of c.args.env.now) (output_of c.in-Ok.out) c.in-Err-judge.error
     (c.in-Ok.ensures.allocation.faithful written).faithful c.in-Err-judge.ensures.err
 
 pub returns-in-Err-judge-clause-refused : goal.returns-in-Err-judge-clause-refused
 returns-in-Err-judge-clause-refused g c =
-    reason (g.F.Function.function c.args.f.now) (machine_of c.args.env.now) c.args.options.now.validate_ssa (output_of c.in-Ok.out)
+    checked_reason (g.F.Function.function c.args.f.now) (machine_of c.args.env.now) c.args.options.now.validate_ssa (output_of c.in-Ok.out)
     c.in-Err-judge.error c.in-Ok.ensures.allocation c.in-Ok.ensures.passes_checks c.in-Err-judge.ensures.err
 
 pub returns-in-Err-judge-clause-many_operands : goal.returns-in-Err-judge-clause-many_operands

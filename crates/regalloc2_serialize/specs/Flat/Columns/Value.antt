@@ -124,19 +124,19 @@ abbrev pub HasBits : List ℕ → PRegSet → Type 0
 HasBits bits s = (r : Register) → has_register s r ≡ nat_lt r.number 64 && is_bit_set bits (bits_of_register r)
 
 -- the six words of set `k`
-abbrev pub bits_at : List ℕ → ℕ → List ℕ
-bits_at words k = slice_range words (6 * k) (6 * k + 6)
+abbrev pub set_words_at : List ℕ → ℕ → List ℕ
+set_words_at words k = slice_range words (6 * k) (6 * k + 6)
 
 -- `sets` are the `count` sets of `words`, six words each
 pub record HaveBits (words : List ℕ) (count : ℕ) (sets : List PRegSet) : Type 0 where
   pub count_is : length sets ≡ count
-  pub each : (k : ℕ) → k < count → HasBits (bits_at words k) (slice_index_or sets k empty_set)
+  pub each : (k : ℕ) → k < count → HasBits (set_words_at words k) (slice_index_or sets k empty_set)
 
 -- `sets` are the empty set, with the number 0, and the `count` sets of `words`, six words each
 pub record AreNumbered (words : List ℕ) (count : ℕ) (sets : List PRegSet) : Type 0 where
   pub count_is : length sets ≡ count + 1
   pub none : (r : Register) → has_register (slice_index_or sets 0 empty_set) r ≡ false
-  pub each : (k : ℕ) → k < count → HasBits (bits_at words k) (slice_index_or sets (k + 1) empty_set)
+  pub each : (k : ℕ) → k < count → HasBits (set_words_at words k) (slice_index_or sets (k + 1) empty_set)
 
 -- the function that words lay out
 pub record IsLaidOutAs (words : List ℕ) (f : FunctionValue) : Type 0 where

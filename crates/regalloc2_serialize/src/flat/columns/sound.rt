@@ -8,8 +8,8 @@ ghost use Rattle.regalloc2_serialize.specs.Flat.Columns.Sound.{Covers, AllCovere
 ghost use Rattle.regalloc2_serialize.specs.Flat.Columns.Sound.{ColumnsNameRegisters, ColumnsNameVRegs, IsColumnsFault};
 
 use super::cut::{
-    ARGUMENT_ENDS, ARGUMENTS, Cut, Header, INST_ENDS, KINDS, LABEL_WORDS, LABELS, MOST_LOG, OPERAND_ENDS,
-    OPERANDS, PARAM_ENDS, PARAMS, PRED_ENDS, PREDS, SCRATCH, SLOTS, SUCC_ENDS, SUCCS,
+    ARGUMENT_ENDS, ARGUMENTS, Cut, Header, INST_ENDS, KINDS, LABEL_WORDS, LABELS, MOST_LOG,
+    OPERAND_ENDS, OPERANDS, PARAM_ENDS, PARAMS, PRED_ENDS, PREDS, SCRATCH, SLOTS, SUCC_ENDS, SUCCS,
 };
 use super::kinds::{OPCODES, SET_STEP};
 use crate::flat::long::from_halves;
