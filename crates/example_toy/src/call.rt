@@ -54,7 +54,7 @@ fn frame_of(alloc: Global, class: RegClass, free: &[PReg]) -> Result<CallFrame, 
     })
 }
 
-/// The moves of the arguments of a class, from where they are to where the convention has them.
+/// Returns the moves of the arguments of `class`, from where they are to where the convention has them.
 fn moves_of(alloc: Global, class: RegClass) -> Result<Vec<(Allocation, Allocation)>, AllocError> {
     let mut moves = Vec::new(alloc);
     let mut convention = Convention::new();
@@ -67,7 +67,7 @@ fn moves_of(alloc: Global, class: RegClass) -> Result<Vec<(Allocation, Allocatio
     Ok(moves)
 }
 
-/// Writes the moves of a class in an order in which they can be made.
+/// Writes `moves`, of one class, by `instruction` in an order in which they can be made.
 fn write_moves<W: Write>(
     alloc: Global,
     out: &mut W,

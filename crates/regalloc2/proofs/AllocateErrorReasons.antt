@@ -8,7 +8,7 @@ use Rattle.regalloc2.specs.Allocated.{allocate_error, IsAllocateFault, IsAllocat
 use Rattle.regalloc2.specs.declared.checked.CheckedRunError.{CheckedRunError}
 use Rattle.regalloc2.specs.declared.checked.CheckedRunError.TheVariants.{Refused, Faults, Unjudged}
 
--- on a fitting machine, the checked_reason of a checked run's error is the checked_reason of the error that `allocate` makes of it
+-- on a fitting machine, the reason of a checked run's error is the reason of the error that `allocate` makes of it
 pub allocate_reason : {A : Type 0} (f : FunctionValue) (env : MachineValue) (e : CheckedRunError A) → MachineFits f env → IsCheckedReason f env true e →
     IsAllocateReason f env (allocate_error e)
 allocate_reason f env (Refused r) fits h = (fits, h)

@@ -28,7 +28,7 @@ checker_failure f env out es e found (inl h) = inl h.1
 checker_failure f env out es e (inl m) (inr h) = absurd (h.0 m)
 checker_failure f env out es e (inr r) (inr h) = inr (es, h.1, r.0, r.1)
 
--- the checked_reason that they give
+-- the reason that they give
 pub checked_reason : {A : Type 0} (f : FunctionValue) (env : MachineValue) (asked : Bool) (out : OutputValue) (e : CheckedRunError A) → IsAllocation f env out →
     PassesAllChecks f env asked → IsCheckerFailure f env out e → IsCheckedReason f env asked e
 checked_reason f env asked out e made owed (inl h) = rw h owed

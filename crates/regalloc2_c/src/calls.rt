@@ -12,7 +12,7 @@ use regalloc2::{Function, MachineEnv, allocate_without_checker, run_tested};
 use regalloc2_serialize::flat::words_of;
 use std::alloc::Global;
 
-/// The words of the output that is allocated to a function.
+/// Returns the words of the output that is allocated to `f`.
 fn allocated<F: Function>(alloc: Global, f: &F, env: &MachineEnv) -> Result<Vec<u32>, Failure>
     ensures ok { IfOk result (λ v. IsAllocatedOutput (F.function f.now) (machine_of env.now) v.items) }
     ensures err { IfErr result (IsAllocateFailure (F.function f.now) (machine_of env.now)) }
@@ -34,7 +34,7 @@ fn allocated<F: Function>(alloc: Global, f: &F, env: &MachineEnv) -> Result<Vec<
     }
 }
 
-/// The words of the output that a tested run gives for a function.
+/// Returns the words of the output that a tested run gives for `f`.
 fn tested<F: Function>(alloc: Global, f: &F, env: &MachineEnv) -> Result<Vec<u32>, Failure>
     ensures ok { IfOk result (λ v. IsTestedOutput (F.function f.now) (machine_of env.now) v.items) }
     ensures err { IfErr result (IsRunFailure (F.function f.now) (machine_of env.now)) }

@@ -175,7 +175,7 @@ fn push_length(to: &mut Vec<u32>, length: usize) -> Result<(), AllocError>
     Ok(())
 }
 
-/// The vregs that a fault names.
+/// Returns the vregs that the fault `error` names.
 fn vregs_of(error: &CheckerError) -> &[VReg]
     ensures { result.now ≡ fault_vregs error.now }
 {
@@ -233,7 +233,7 @@ fn faults_failure<F: Function>(
     }
 }
 
-/// The failure that the checker's errors come to: they are `Memory` alone where memory was refused.
+/// Returns the failure for the checker's `errors`: out of memory if they are `Memory` alone, else the list of them.
 pub fn failure_of_errors<F: Function>(
     alloc: Global,
     judged: &Judged<'_, F>,
@@ -248,7 +248,8 @@ pub fn failure_of_errors<F: Function>(
     }
 }
 
-/// The failure where the checker didn't take an output: memory was refused, or it isn't in order.
+/// Returns the failure for `error`, with which the checker rejected an output: out of memory, or the output isn't in
+/// order.
 pub fn failure_to_prepare(alloc: Global, error: &CheckerError) -> Failure
     ensures { IsPrepareFailure error.now result }
 {
@@ -262,7 +263,7 @@ pub fn failure_to_prepare(alloc: Global, error: &CheckerError) -> Failure
     }
 }
 
-/// The list of one fault of places.
+/// Returns the list of the one fault `fault` of places.
 fn words_of_cells(fault: CellFault) -> [u32; 10]
     ensures { result ≡ cell_fault_words fault }
 {
@@ -277,7 +278,7 @@ fn words_of_cells(fault: CellFault) -> [u32; 10]
     }
 }
 
-/// The failure that a fault of places is.
+/// Returns the failure for `fault`, a fault of places.
 pub fn failure_of_cells(alloc: Global, fault: CellFault) -> Failure
     ensures { IsCellsTold fault result }
 {

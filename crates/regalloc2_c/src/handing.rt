@@ -36,7 +36,7 @@ fn hand_out_failure(failure: Failure, out: &mut [u32], needed: &mut usize) -> u3
     }
 }
 
-/// Hands out what was found: the words of an output, or of what a failure is about.
+/// Hands out `found`: the words of an output, or the words that say what a failure is about.
 pub fn hand_out(found: Result<Vec<u32>, Failure>, out: &mut [u32], needed: &mut usize) -> u32
     ensures status { result ≤ 31 }
     ensures handed { IsHandedOut found out.old out.new needed.new result }

@@ -106,7 +106,10 @@ pub extern "C" fn regalloc2_c_allocate_text(
     hand_out(allocated_of_text(alloc, text), out, needed)
 }
 
-/// Allocates registers with all tests, definite assignment among them, and without the checker.
+/// Allocates registers to the function that `words` lay out with all tests, definite assignment among them, and
+/// without the checker. Writes the output's words to `out`.
+///
+/// Returns what `regalloc2_c_allocate` returns, and sets `needed` as it does.
 #[unsafe(no_mangle)]
 pub extern "C" fn regalloc2_c_run(
     alloc: Global,

@@ -31,7 +31,7 @@ static LISTS: [(usize, &[u32]); 5] = [
     (3, &[0, 1]),
 ];
 
-/// What the checker reports of the function and the output of a text.
+/// Returns what the checker reports of the function and the output of `text`.
 fn verdict_of(alloc: Global, text: &str) -> Option<Result<(), CheckerErrors>> {
     let Ok(text) = read_text(alloc, text, 1) else {
         return None;
@@ -56,7 +56,7 @@ fn output_with(alloc: Global, count: usize, offsets: &[u32]) -> Result<Output, A
     Ok(out)
 }
 
-/// Writes how a new checker of a function refuses an output, if it does.
+/// Writes how a new checker of `f` rejects the output `given`, if it does.
 fn write_prepared<F: Function>(alloc: Global, f: &F, given: &Output, out: &mut Report) {
     if !is_framed(f) {
         return;

@@ -33,7 +33,7 @@ pub fn allocated<F: Function>(alloc: Global, f: &F, registers: usize) -> Option<
     run_fitting(alloc, f, &integer_machine(alloc, registers))?.ok()
 }
 
-/// The tables of a function, if it needs to pass no tests or passes them.
+/// Returns the tables of `f`, if it passes the tests or `is_tested` is false.
 fn tables_of<F: Function>(alloc: Global, f: &F, is_tested: bool) -> Option<CFGInfo> {
     let info = CFGInfo::new(alloc, f).ok()?;
     if is_tested && validate_ssa(alloc, f, &info).is_err() {
@@ -42,7 +42,7 @@ fn tables_of<F: Function>(alloc: Global, f: &F, is_tested: bool) -> Option<CFGIn
     Some(info)
 }
 
-/// The tables of the function of a text, if it needs to pass no tests or passes them.
+/// Returns the tables of the function of `text`, if it passes the tests or `is_tested` is false.
 fn tables_of_text(alloc: Global, text: &str, is_tested: bool) -> Option<CFGInfo> {
     match function_of(alloc, text) {
         Some(f) => tables_of(alloc, &f, is_tested),
@@ -74,7 +74,7 @@ fn lent_slots<F: Function>(
     run_with_ctx_fitting(f, &integer_machine(alloc, registers), ctx)
 }
 
-/// How many slots each call gives a function, and how it is rejected on one register.
+/// Returns how many slots each call gives `f`, and how it is rejected on one register.
 fn slots_and_lack<F: Function>(
     alloc: Global,
     f: &F,
@@ -91,7 +91,7 @@ fn lead_nowhere(f: &mut TableFunction) -> Option<()> {
     Some(())
 }
 
-/// How a function is rejected on ten registers, and whether it is structurally valid (`IsFramed`).
+/// Returns how `f` is rejected on ten registers, and whether it is structurally valid (`IsFramed`).
 fn refusal<F: Function>(
     alloc: Global,
     f: &F,
@@ -101,7 +101,7 @@ fn refusal<F: Function>(
     Some((refused, is_framed(f)))
 }
 
-/// What `slots_and_refusals` says of the loop, which it changes.
+/// Returns what `slots_and_refusals` returns of the loop `f`, which it changes.
 fn slots_and_refusals_of(
     alloc: Global,
     f: &mut TableFunction,
@@ -137,7 +137,7 @@ pub fn order_to_nowhere(alloc: Global) -> Option<RegAllocError> {
 /// The result of a call with a context, and how many debug locations the context holds after it.
 type Held = (Result<(), RegAllocError>, usize);
 
-/// The results of [`held`], for a function that needs two registers.
+/// Returns the results of [`held`] for `f`, which needs two registers.
 fn held_of<F: Function>(alloc: Global, f: &F, ctx: &mut Ctx) -> Option<[Held; 3]> {
     let (one, two) = (integer_machine(alloc, 1), integer_machine(alloc, 2));
     let stored = run_into_ctx_fitting(f, &two, ctx)?;
@@ -161,7 +161,7 @@ pub fn held(alloc: Global) -> Option<[Held; 3]> {
     }
 }
 
-/// What a checker reports, if it takes just the outputs that it should, one after another.
+/// Returns what `checker` reports, if it accepts exactly the outputs of `given` that are right, one after another.
 fn report<F: Function>(
     mut checker: Checker<'_, F>,
     given: &[(&Output, bool)],
@@ -174,7 +174,7 @@ fn report<F: Function>(
     Some(checker.run())
 }
 
-/// What a new checker of a function reports, if it takes just the outputs that it should.
+/// Returns what a new checker of `f` reports, if it accepts exactly the outputs of `given` that are right.
 pub fn verdict<F: Function>(
     alloc: Global,
     f: &F,
@@ -189,7 +189,7 @@ pub fn verdict<F: Function>(
     }
 }
 
-/// The verdicts on a right output and a wrong one.
+/// Returns the verdicts on the outputs `right` and `wrong`.
 fn verdicts_on<F: Function>(
     alloc: Global,
     f: &F,

@@ -26,7 +26,7 @@ const LABELLED: &str = "block0:\n  op: Def: v0i reg\n  branch block1(v0i)\n\
     label 5: v0i from inst0 until inst5\nlabel 6: v1i from inst2 until inst3\n\
     label 7: v2i from inst2 until inst8\n";
 
-/// Writes a range with its vreg, and the operand that shows the value at its end.
+/// Writes `range` with its vreg, and the operand that shows the value at its end.
 fn write_range(range: &LiveRange, out: &mut Report) {
     let by = match range.by {
         Some(operand) => Some((operand.inst.index(), operand.index)),
@@ -82,7 +82,7 @@ fn built(alloc: Global) -> Result<TableFunction, BuildError> {
     f.finish(1)
 }
 
-/// Writes the places of a checked output, and whether they are cells.
+/// Writes the places of a checked output of `f`, and whether they are cells.
 fn write_checked<F: Function>(alloc: Global, f: &F, env: &MachineEnv, out: &mut Report) {
     if !machine_fits(f, env) {
         return;

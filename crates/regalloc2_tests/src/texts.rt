@@ -17,7 +17,7 @@ fn copy_of<F: Function>(alloc: Global, f: &F) -> Option<TableFunction> {
     renumber(alloc, f, &blocks).ok()
 }
 
-/// The function of a text, with its labels.
+/// Returns the function of `text`, with its labels.
 pub fn labelled_function_of(alloc: Global, text: &str) -> Option<SerializableFunction> {
     match read_text(alloc, text, 1) {
         Ok(text) => SerializableFunction::from_stored(alloc, &text.function).ok(),
@@ -25,7 +25,7 @@ pub fn labelled_function_of(alloc: Global, text: &str) -> Option<SerializableFun
     }
 }
 
-/// The function of a text without labels, whose blocks and instructions may be changed.
+/// Returns the function of `text` without labels, whose blocks and instructions may be changed.
 pub fn function_of(alloc: Global, text: &str) -> Option<TableFunction> {
     match labelled_function_of(alloc, text) {
         Some(f) => copy_of(alloc, &f),

@@ -42,7 +42,7 @@ const LEGEND: &str = "\
 <text x=\"8\" y=\"44\">block(parameters) to successors(arguments); an instruction: early operands, below late ones</text>
 ";
 
-/// The column of a row: rows fill a column downwards, then the next column from its top.
+/// Returns the column of `row`: rows fill a column downwards, then the next column from its top.
 pub(crate) fn column_of(row: usize) -> usize {
     row / COLUMN_ROWS
 }
@@ -73,7 +73,7 @@ impl fmt::Display for Colour {
     }
 }
 
-/// The vertical middle of a row.
+/// Returns the vertical middle of `row`.
 fn height(row: usize) -> usize {
     (row % COLUMN_ROWS)
         .saturating_mul(ROW)
