@@ -48,6 +48,22 @@ abbrev pub operand_head : FunctionValue → OutputValue → ℕ → ℕ → Oper
 operand_head f out number inst op p other bound = number ∷ inst ∷ operand_index f out inst op p ∷ bits_of_operand op % 2 ^ 32 ∷ bits_of_operand op / 2 ^ 32
     ∷ bits_of_place p ∷ bits_of_place other ∷ bound ∷ []
 
+-- the number of a fault in the checker's texts
+abbrev pub fault_number : {A : Type 0} → CheckerError A → ℕ
+fault_number (MissingAllocation inst op) = 1
+fault_number (UnknownValueInAllocation inst op p) = 2
+fault_number (ConflictedValueInAllocation inst op p) = 3
+fault_number (IncorrectValuesInAllocation inst op p actual) = 4
+fault_number (ConstraintViolated inst op p) = 5
+fault_number (AllocationIsNotReg inst op p) = 6
+fault_number (AllocationIsNotFixedReg inst op p) = 7
+fault_number (AllocationIsNotReuse inst op p expected) = 8
+fault_number (AllocationIsNotStack inst op p) = 9
+fault_number (StackToStackMove into from) = 10
+fault_number (AllocationOutsideLimit inst op p range) = 11
+fault_number MalformedOutput = 12
+fault_number Memory = 13
+
 -- a fault up to its list of vregs, by the number of the checker's text
 abbrev pub fault_head : {A : Type 0} → FunctionValue → OutputValue → CheckerError A → List ℕ
 fault_head f out (MissingAllocation inst op) = operand_head f out 1 inst op NoPlace NoPlace 0

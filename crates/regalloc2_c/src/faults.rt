@@ -4,7 +4,7 @@ ghost use Rattle.std.specs.Prelude.{◌≡◌, ◌<◌, ◌∷◌, ◌++◌, [],
 ghost use Rattle.regalloc2_names.specs.RegisterBits.{bits_of_vreg};
 ghost use Rattle.regalloc2.specs.Views.{output_of};
 ghost use Rattle.regalloc2_function.specs.OutputValue.{IsInOrder};
-ghost use Rattle.regalloc2_c.specs.Faults.{first_index, is_placed, operand_index, operand_head, fault_head, fault_words, faults_words, cell_fault_words};
+ghost use Rattle.regalloc2_c.specs.Faults.{first_index, is_placed, operand_index, operand_head, fault_number, fault_head, fault_words, faults_words, cell_fault_words};
 ghost use Rattle.regalloc2_c.specs.Faults.{IsFaultsTold, IsPrepareFailure, IsErrorsFailure, IsCellsTold, fault_vregs};
 
 use super::failure::Failure;
@@ -15,6 +15,12 @@ use regalloc2_checker::CellFault;
 use regalloc2_checker::lookup::place_at;
 use regalloc2_serialize::flat::halves;
 use std::alloc::{AllocError, Global};
+
+/// The number of the fault of an output that isn't in order.
+const MALFORMED_OUTPUT: u32 = 12;
+
+/// The number of the fault of a check that ran out of memory.
+const OUT_OF_MEMORY: u32 = 13;
 
 /// A function and an output of it.
 #[derive(Drop)]
@@ -90,57 +96,59 @@ fn operand_head<F: Function>(
     ]
 }
 
-/// The words of a fault up to the list of vregs.
+/// Returns the number of `error` in the checker's texts. The header lists the numbers.
+fn number_of(error: &CheckerError) -> u32
+    ensures { result ≡ fault_number error.now }
+{
+    match error {
+        CheckerError::MissingAllocation { .. } => 1,
+        CheckerError::UnknownValueInAllocation { .. } => 2,
+        CheckerError::ConflictedValueInAllocation { .. } => 3,
+        CheckerError::IncorrectValuesInAllocation { .. } => 4,
+        CheckerError::ConstraintViolated { .. } => 5,
+        CheckerError::AllocationIsNotReg { .. } => 6,
+        CheckerError::AllocationIsNotFixedReg { .. } => 7,
+        CheckerError::AllocationIsNotReuse { .. } => 8,
+        CheckerError::AllocationIsNotStack { .. } => 9,
+        CheckerError::StackToStackMove { .. } => 10,
+        CheckerError::AllocationOutsideLimit { .. } => 11,
+        CheckerError::MalformedOutput => MALFORMED_OUTPUT,
+        CheckerError::Memory => OUT_OF_MEMORY,
+    }
+}
+
+/// Returns the words of the fault `error` up to the list of vregs.
 fn head_of<F: Function>(judged: &Judged<'_, F>, error: &CheckerError) -> [u32; 8]
     requires { IsInOrder (F.function judged.now.f.now) (output_of judged.now.output.now) }
     ensures { result ≡ fault_head (F.function judged.now.f.now) (output_of judged.now.output.now) error.now }
 {
+    let number = number_of(error);
     let none = Allocation::none();
     match error {
-        CheckerError::MissingAllocation { inst, op } => operand_head(
-            judged, 1, *inst, *op, none, none, 0,
-        ),
-        CheckerError::UnknownValueInAllocation { inst, op, alloc } => {
-            operand_head(judged, 2, *inst, *op, *alloc, none, 0)
+        CheckerError::MissingAllocation { inst, op } => {
+            operand_head(judged, number, *inst, *op, none, none, 0)
         }
-        CheckerError::ConflictedValueInAllocation { inst, op, alloc } => {
-            operand_head(judged, 3, *inst, *op, *alloc, none, 0)
+        CheckerError::UnknownValueInAllocation { inst, op, alloc }
+        | CheckerError::ConflictedValueInAllocation { inst, op, alloc }
+        | CheckerError::IncorrectValuesInAllocation { inst, op, alloc, .. }
+        | CheckerError::ConstraintViolated { inst, op, alloc }
+        | CheckerError::AllocationIsNotReg { inst, op, alloc }
+        | CheckerError::AllocationIsNotFixedReg { inst, op, alloc }
+        | CheckerError::AllocationIsNotStack { inst, op, alloc } => {
+            operand_head(judged, number, *inst, *op, *alloc, none, 0)
         }
-        CheckerError::IncorrectValuesInAllocation {
-            inst,
-            op,
-            alloc,
-            ..
-        } => { operand_head(judged, 4, *inst, *op, *alloc, none, 0) }
-        CheckerError::ConstraintViolated { inst, op, alloc } => {
-            operand_head(judged, 5, *inst, *op, *alloc, none, 0)
-        }
-        CheckerError::AllocationIsNotReg { inst, op, alloc } => {
-            operand_head(judged, 6, *inst, *op, *alloc, none, 0)
-        }
-        CheckerError::AllocationIsNotFixedReg { inst, op, alloc } => {
-            operand_head(judged, 7, *inst, *op, *alloc, none, 0)
-        }
-        CheckerError::AllocationIsNotReuse {
-            inst,
-            op,
-            alloc,
-            expected_alloc,
-        } => { operand_head(judged, 8, *inst, *op, *alloc, *expected_alloc, 0) }
-        CheckerError::AllocationIsNotStack { inst, op, alloc } => {
-            operand_head(judged, 9, *inst, *op, *alloc, none, 0)
+        CheckerError::AllocationIsNotReuse { inst, op, alloc, expected_alloc } => {
+            operand_head(judged, number, *inst, *op, *alloc, *expected_alloc, 0)
         }
         CheckerError::StackToStackMove { into, from } => {
-            [10, NONE, NONE, 0, 0, into.bits(), from.bits(), 0]
+            [number, NONE, NONE, 0, 0, into.bits(), from.bits(), 0]
         }
-        CheckerError::AllocationOutsideLimit {
-            inst,
-            op,
-            alloc,
-            range,
-        } => { operand_head(judged, 11, *inst, *op, *alloc, none, word_of(range.end)) }
-        CheckerError::MalformedOutput => [12, NONE, NONE, 0, 0, 0, 0, 0],
-        CheckerError::Memory => [13, NONE, NONE, 0, 0, 0, 0, 0],
+        CheckerError::AllocationOutsideLimit { inst, op, alloc, range } => {
+            operand_head(judged, number, *inst, *op, *alloc, none, word_of(range.end))
+        }
+        CheckerError::MalformedOutput | CheckerError::Memory => {
+            [number, NONE, NONE, 0, 0, 0, 0, 0]
+        }
     }
 }
 
@@ -257,7 +265,7 @@ pub fn failure_to_prepare(alloc: Global, error: &CheckerError) -> Failure
         return Failure::NoMemory;
     }
     let mut words = Vec::new(alloc);
-    match push_words(&mut words, &[1, 12, NONE, NONE, 0, 0, 0, 0, 0, 0]) {
+    match push_words(&mut words, &[1, MALFORMED_OUTPUT, NONE, NONE, 0, 0, 0, 0, 0, 0]) {
         Ok(()) => Failure::Faults(words),
         Err(_) => Failure::NoMemory,
     }
@@ -274,7 +282,7 @@ fn words_of_cells(fault: CellFault) -> [u32; 10]
         CellFault::OtherClass(k) => [1, 15, NONE, word_of(k), 0, 0, 0, 0, 0, 0],
         CellFault::Slot(n) => [1, 16, NONE, word_of(n), 0, 0, 0, 0, 0, 0],
         CellFault::Shared(m, n) => [1, 17, NONE, word_of(m), 0, 0, 0, 0, word_of(n), 0],
-        CellFault::Memory => [1, 13, NONE, NONE, 0, 0, 0, 0, 0, 0],
+        CellFault::Memory => [1, OUT_OF_MEMORY, NONE, NONE, 0, 0, 0, 0, 0, 0],
     }
 }
 

@@ -34,7 +34,7 @@ const LAYOUTS: u32 = 2;
 /// How many calls there are.
 const CALLS: u32 = 9;
 
-/// The version of the layouts, times 65536, and how many calls there are.
+/// The version of the layouts in the upper 16 bits, and how many calls there are in the lower 16.
 #[unsafe(no_mangle)]
 pub extern "C" fn regalloc2_c_version() -> u32
     ensures { result ≡ version }

@@ -150,25 +150,21 @@ impl StoredCause {
         ensures { WritesOnOk W.write_str_gives f.old result (stored_cause_text self.now) f.new }
     {
         match *self {
-            Self::Entry { entry, blocks } => {
-                let blocks = Counted(blocks, "block");
-                write!(
-                    f,
-                    "the entry is block{entry}, and the function has {blocks}"
-                )
-            }
+            Self::Entry { entry, blocks } => write!(
+                f,
+                "the entry is block{entry}, and the function has {}",
+                Counted(blocks, "block")
+            ),
             Self::Neighbour {
                 block,
                 role,
                 named,
                 blocks,
-            } => {
-                let blocks = Counted(blocks, "block");
-                write!(
-                    f,
-                    "block{block} lists block{named} as a {role}, and the function has {blocks}"
-                )
-            }
+            } => write!(
+                f,
+                "block{block} lists block{named} as a {role}, and the function has {}",
+                Counted(blocks, "block")
+            ),
             Self::Range {
                 block,
                 first,

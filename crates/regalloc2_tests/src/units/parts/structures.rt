@@ -26,6 +26,7 @@ pub fn preg(number: usize) -> PReg
 fn write_ring<A: Allocator>(out: &mut Report, name: &str, ring: &mut Lru<A>) {
     out.put(&format_args!("{name}:"));
     let mut left = PRegSet::empty().invert();
+    // Each turn removes one of the 64 registers of the ring's class from `left`.
     for _ in 0..64u32 {
         let Some(preg) = ring.last(left) else {
             break;
