@@ -21,10 +21,7 @@ fn allocated<F: Function>(alloc: Global, f: &F, env: &MachineEnv) -> Result<Vec<
         Ok(output) => output,
         Err(error) => return Err(failure_of(&error)),
     };
-    match checked(alloc, f, env, &output) {
-        Ok(()) => {}
-        Err(failure) => return Err(failure),
-    }
+    checked(alloc, f, env, &output)?;
     let Ok(numbers) = output.stored() else {
         return Err(Failure::NoMemory);
     };
@@ -56,38 +53,30 @@ fn tested<F: Function>(alloc: Global, f: &F, env: &MachineEnv) -> Result<Vec<u32
 pub fn allocated_of_words(alloc: Global, words: &[u32]) -> Result<Vec<u32>, Failure>
     ensures { IsAllocationFound (AreWordsOf words.now) (AreUnreadWords words.now) result }
 {
-    match function_from_words(alloc, words) {
-        Ok(f) => allocated(alloc, &f, f.machine_env()),
-        Err(failure) => Err(failure),
-    }
+    let f = function_from_words(alloc, words)?;
+    allocated(alloc, &f, f.machine_env())
 }
 
 /// The words of the output that is allocated to the function with the JSON text `bytes`.
 pub fn allocated_of_json(alloc: Global, bytes: &[u8]) -> Result<Vec<u32>, Failure>
     ensures { IsAllocationFound (NumbersName (IsJsonOf bytes.now)) (NumbersNameNone (IsJsonOf bytes.now) 0) result }
 {
-    match function_from_json(alloc, bytes) {
-        Ok(f) => allocated(alloc, &f, f.machine_env()),
-        Err(failure) => Err(failure),
-    }
+    let f = function_from_json(alloc, bytes)?;
+    allocated(alloc, &f, f.machine_env())
 }
 
 /// The words of the output that is allocated to the function in the text `bytes`.
 pub fn allocated_of_text(alloc: Global, bytes: &[u8]) -> Result<Vec<u32>, Failure>
     ensures { IsAllocationFound (NumbersName (IsTextInput bytes.now)) (NumbersNameNone (IsTextInput bytes.now) (1 + length bytes.now)) result }
 {
-    match function_from_text(alloc, bytes) {
-        Ok(f) => allocated(alloc, &f, f.machine_env()),
-        Err(failure) => Err(failure),
-    }
+    let f = function_from_text(alloc, bytes)?;
+    allocated(alloc, &f, f.machine_env())
 }
 
 /// The words of the output that a tested run gives for the function that `words` lay out.
 pub fn tested_of_words(alloc: Global, words: &[u32]) -> Result<Vec<u32>, Failure>
     ensures { IsRunFound words.now result }
 {
-    match function_from_words(alloc, words) {
-        Ok(f) => tested(alloc, &f, f.machine_env()),
-        Err(failure) => Err(failure),
-    }
+    let f = function_from_words(alloc, words)?;
+    tested(alloc, &f, f.machine_env())
 }

@@ -152,22 +152,12 @@ fn head_of<F: Function>(judged: &Judged<'_, F>, error: &CheckerError) -> [u32; 8
     }
 }
 
-/// Adds `words` to `to`.
-fn push_words(to: &mut Vec<u32>, words: &[u32]) -> Result<(), AllocError>
-    ensures { OnOk result (to.new.items ≡ to.old.items ++ words.now) }
-{
-    for k in 0..words.len() {
-        to.push(words[k])?;
-    }
-    Ok(())
-}
-
 /// Adds the encodings of `vregs` to `to`.
 fn push_vregs(to: &mut Vec<u32>, vregs: &[VReg]) -> Result<(), AllocError>
     ensures { OnOk result (to.new.items ≡ to.old.items ++ map bits_of_vreg vregs.now) }
 {
-    for k in 0..vregs.len() {
-        to.push(vregs[k].bits() as u32)?;
+    for vreg in vregs {
+        to.push(vreg.bits() as u32)?;
     }
     Ok(())
 }
@@ -204,7 +194,7 @@ fn push_fault<F: Function>(
 {
     let head = head_of(judged, error);
     let vregs = vregs_of(error);
-    push_words(to, &head)?;
+    to.extend_from_slice(&head)?;
     push_length(to, vregs.len())?;
     push_vregs(to, vregs)
 }
@@ -219,8 +209,8 @@ fn push_faults<F: Function>(
     ensures { OnOk result (to.new.items ≡ to.old.items ++ faults_words (F.function judged.now.f.now) (output_of judged.now.output.now) errors.now) }
 {
     push_length(to, errors.len())?;
-    for k in 0..errors.len() {
-        push_fault(to, judged, &errors[k])?;
+    for error in errors {
+        push_fault(to, judged, error)?;
     }
     Ok(())
 }
@@ -265,7 +255,7 @@ pub fn failure_to_prepare(alloc: Global, error: &CheckerError) -> Failure
         return Failure::NoMemory;
     }
     let mut words = Vec::new(alloc);
-    match push_words(&mut words, &[1, MALFORMED_OUTPUT, NONE, NONE, 0, 0, 0, 0, 0, 0]) {
+    match words.extend_from_slice(&[1, MALFORMED_OUTPUT, NONE, NONE, 0, 0, 0, 0, 0, 0]) {
         Ok(()) => Failure::Faults(words),
         Err(_) => Failure::NoMemory,
     }
@@ -294,7 +284,7 @@ pub fn failure_of_cells(alloc: Global, fault: CellFault) -> Failure
         return Failure::NoMemory;
     }
     let mut words = Vec::new(alloc);
-    match push_words(&mut words, &words_of_cells(fault)) {
+    match words.extend_from_slice(&words_of_cells(fault)) {
         Ok(()) => Failure::Faults(words),
         Err(_) => Failure::NoMemory,
     }

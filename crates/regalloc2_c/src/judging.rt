@@ -70,10 +70,7 @@ fn judge<F: Function>(
         × AreCells (F.function f.now) (machine_of env.now) (output_of output.now)) }
     ensures err { IfErr result (IsVerdict (F.function f.now) (machine_of env.now) (output_of output.now)) }
 {
-    match checked(alloc, f, env, output) {
-        Ok(()) => {}
-        Err(failure) => return Err(failure),
-    }
+    checked(alloc, f, env, output)?;
     match test_cells(alloc, f, env, output) {
         Ok(()) => Ok(()),
         Err(fault) => Err(failure_of_cells(alloc, fault)),
@@ -163,24 +160,16 @@ fn output_from_parts(alloc: Global, parts: Parts<'_>) -> Result<Output, Failure>
     ensures err { IfErr result (NamesNoOutput (ArePartsOf parts.entry.num_spillslots parts.entry.moves.now parts.entry.places.now
         parts.entry.offsets.now)) }
 {
-    let edits = match moves_from(alloc, parts.moves) {
-        Ok(edits) => edits,
-        Err(failure) => return Err(failure),
-    };
-    let allocs = match places_from(alloc, parts.places) {
-        Ok(allocs) => allocs,
-        Err(failure) => return Err(failure),
-    };
-    match copy_of(alloc, parts.offsets) {
-        Ok(inst_alloc_offsets) => Ok(Output {
-            num_spillslots: parts.num_spillslots as usize,
-            edits,
-            allocs,
-            inst_alloc_offsets,
-            debug_locations: Vec::new(alloc),
-        }),
-        Err(failure) => Err(failure),
-    }
+    let edits = moves_from(alloc, parts.moves)?;
+    let allocs = places_from(alloc, parts.places)?;
+    let inst_alloc_offsets = copy_of(alloc, parts.offsets)?;
+    Ok(Output {
+        num_spillslots: parts.num_spillslots as usize,
+        edits,
+        allocs,
+        inst_alloc_offsets,
+        debug_locations: Vec::new(alloc),
+    })
 }
 
 /// Returns the output that `numbers` name.
@@ -206,10 +195,7 @@ fn judge_numbers<F: Function>(
     ensures ok { OnOk result (IsAcceptedOutput (λ o. o ≡ numbers.now) (F.function f.now) (machine_of env.now)) }
     ensures err { IfErr result (IsCheckFailure (λ o. o ≡ numbers.now) (F.function f.now) (machine_of env.now)) }
 {
-    let output = match output_from(alloc, numbers) {
-        Ok(output) => output,
-        Err(failure) => return Err(failure),
-    };
+    let output = output_from(alloc, numbers)?;
     judge(alloc, f, env, &output)
 }
 
@@ -226,10 +212,7 @@ pub fn judged<F: Function>(
     if !is_framed(f) {
         return Err(Failure::NotFramed);
     }
-    let numbers = match stored_output(alloc, words) {
-        Ok(numbers) => numbers,
-        Err(failure) => return Err(failure),
-    };
+    let numbers = stored_output(alloc, words)?;
     judge_numbers(alloc, f, env, &numbers)
 }
 
@@ -248,10 +231,7 @@ fn judged_parts<F: Function>(
     if !is_framed(f) {
         return Err(Failure::NotFramed);
     }
-    let output = match output_from_parts(alloc, parts) {
-        Ok(output) => output,
-        Err(failure) => return Err(failure),
-    };
+    let output = output_from_parts(alloc, parts)?;
     judge(alloc, f, env, &output)
 }
 
@@ -260,12 +240,7 @@ pub fn judged_of_words(alloc: Global, words: &[u32], parts: Parts<'_>) -> Result
     ensures { IsJudgeFound words.now (ArePartsOf parts.entry.num_spillslots parts.entry.moves.now parts.entry.places.now
         parts.entry.offsets.now) result }
 {
-    let f = match function_from_words(alloc, words) {
-        Ok(f) => f,
-        Err(failure) => return Err(failure),
-    };
-    match judged_parts(alloc, &f, f.machine_env(), parts) {
-        Ok(()) => Ok(Vec::new(alloc)),
-        Err(failure) => Err(failure),
-    }
+    let f = function_from_words(alloc, words)?;
+    judged_parts(alloc, &f, f.machine_env(), parts)?;
+    Ok(Vec::new(alloc))
 }

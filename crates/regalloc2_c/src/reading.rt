@@ -65,10 +65,8 @@ pub fn function_from_json(alloc: Global, bytes: &[u8]) -> Result<SerializableFun
     ensures ok { IfOk result (λ f. NumbersName (IsJsonOf bytes.now) (function_of_serializable f) (machine_of f.machine)) }
     ensures err { IfErr result (NumbersNameNone (IsJsonOf bytes.now) 0) }
 {
-    match stored_from_json(alloc, bytes) {
-        Ok(stored) => function_from(alloc, &stored),
-        Err(failure) => Err(failure),
-    }
+    let stored = stored_from_json(alloc, bytes)?;
+    function_from(alloc, &stored)
 }
 
 /// Returns the failure for `error`, of a text that is read.
@@ -100,8 +98,6 @@ pub fn function_from_text(alloc: Global, bytes: &[u8]) -> Result<SerializableFun
     ensures ok { IfOk result (λ f. NumbersName (IsTextInput bytes.now) (function_of_serializable f) (machine_of f.machine)) }
     ensures err { IfErr result (NumbersNameNone (IsTextInput bytes.now) (1 + length bytes.now)) }
 {
-    match stored_from_text(alloc, bytes) {
-        Ok(stored) => function_from(alloc, &stored),
-        Err(failure) => Err(failure),
-    }
+    let stored = stored_from_text(alloc, bytes)?;
+    function_from(alloc, &stored)
 }

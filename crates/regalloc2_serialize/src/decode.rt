@@ -48,10 +48,7 @@ fn register_from(index: Option<u8>) -> Option<PReg>
     requires { IfSome index IsRegisterIndex }
     ensures { result ≡ option_map register_of_bits index }
 {
-    match index {
-        Some(index) => Some(PReg::from_index(usize::from(index))),
-        None => None,
-    }
+    index.map(|index| PReg::from_index(usize::from(index)))
 }
 
 /// The vregs that `words` encode.

@@ -72,10 +72,7 @@ fn index_of(reg: Option<PReg>) -> Option<u8>
     ensures register { option_map register_of_bits result ≡ reg }
     ensures name { IfSome result IsRegisterIndex }
 {
-    match reg {
-        Some(reg) => Some(reg.index() as u8),
-        None => None,
-    }
+    reg.map(|reg| reg.index() as u8)
 }
 
 /// Returns the indexes of the registers of `scratch`, as far as there are registers.

@@ -27,10 +27,8 @@ fn read(number: usize) -> Operand {
 
 /// How many places and slots `f` gets on a machine with `registers` integer registers.
 fn size_of(alloc: Global, f: &TableFunction, registers: usize) -> Option<(usize, usize)> {
-    match allocated(alloc, f, registers) {
-        Some(out) => Some((out.allocs.len(), out.num_spillslots)),
-        None => None,
-    }
+    let out = allocated(alloc, f, registers)?;
+    Some((out.allocs.len(), out.num_spillslots))
 }
 
 /// How many places and slots `f` gets on a machine with `registers` integer registers, if it could be built.
@@ -39,10 +37,7 @@ fn size(
     f: Result<TableFunction, BuildError>,
     registers: usize,
 ) -> Option<(usize, usize)> {
-    match f {
-        Ok(f) => size_of(alloc, &f, registers),
-        Err(_) => None,
-    }
+    size_of(alloc, &f.ok()?, registers)
 }
 
 /// How many places and slots each large function gets.

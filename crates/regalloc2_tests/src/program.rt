@@ -214,10 +214,7 @@ fn fatal_writes(alloc: Global, capacity: usize) -> io::Result<Option<u32>> {
 
 /// Returns `count`, or 5 if it is greater.
 fn up_to_five(count: Option<u32>) -> Option<u32> {
-    match count {
-        Some(count) => Some(count.min(5)),
-        None => None,
-    }
+    count.map(|count| count.min(5))
 }
 
 /// How many writes there are without a buffer, over 16 bytes, and over 8192, where each of them ends the program if

@@ -44,10 +44,8 @@ fn tables_of<F: Function>(alloc: Global, f: &F, is_tested: bool) -> Option<CFGIn
 
 /// Returns the tables of the function of `text`, if it passes the tests or `is_tested` is false.
 fn tables_of_text(alloc: Global, text: &str, is_tested: bool) -> Option<CFGInfo> {
-    match function_of(alloc, text) {
-        Some(f) => tables_of(alloc, &f, is_tested),
-        None => None,
-    }
+    let f = function_of(alloc, text)?;
+    tables_of(alloc, &f, is_tested)
 }
 
 /// The tables of the loop, which passes the tests, and of the fork.
@@ -58,10 +56,8 @@ pub fn tables(alloc: Global) -> Option<(CFGInfo, CFGInfo)> {
 
 /// How many slots `run` gives a function.
 fn own_slots<F: Function>(alloc: Global, f: &F) -> Option<usize> {
-    match allocated(alloc, f, 10) {
-        Some(out) => Some(out.num_spillslots),
-        None => None,
-    }
+    let out = allocated(alloc, f, 10)?;
+    Some(out.num_spillslots)
 }
 
 /// How many slots `run_with_ctx` gives `f` on a machine with `registers` integer registers, or how it rejects `f`.
@@ -155,10 +151,8 @@ fn held_of<F: Function>(alloc: Global, f: &F, ctx: &mut Ctx) -> Option<[Held; 3]
 /// What a context holds: an output that was stored; the same after a rejected run; and one whose
 /// debug locations the borrower removed.
 pub fn held(alloc: Global) -> Option<[Held; 3]> {
-    match labelled_function_of(alloc, LABELLED) {
-        Some(f) => held_of(alloc, &f, &mut Ctx::new(alloc)),
-        None => None,
-    }
+    let f = labelled_function_of(alloc, LABELLED)?;
+    held_of(alloc, &f, &mut Ctx::new(alloc))
 }
 
 /// Returns what `checker` reports, if it accepts exactly the outputs of `given` that are right, one after another.
@@ -183,10 +177,8 @@ pub fn verdict<F: Function>(
     if !is_framed(f) {
         return None;
     }
-    match Checker::new(alloc, f, &integer_machine(alloc, 10)) {
-        Ok(checker) => report(checker, given),
-        Err(_) => None,
-    }
+    let checker = Checker::new(alloc, f, &integer_machine(alloc, 10)).ok()?;
+    report(checker, given)
 }
 
 /// Returns the verdicts on the outputs `right` and `wrong`.
@@ -213,8 +205,6 @@ fn verdicts_of<F: Function>(alloc: Global, f: &F) -> Option<[Result<(), CheckerE
 /// What a checker reports that has no output; that was given one which isn't well-ordered, after a
 /// right one; and that was given the right one last.
 pub fn verdicts(alloc: Global) -> Option<[Result<(), CheckerErrors>; 3]> {
-    match function_of(alloc, LOOP) {
-        Some(f) => verdicts_of(alloc, &f),
-        None => None,
-    }
+    let f = function_of(alloc, LOOP)?;
+    verdicts_of(alloc, &f)
 }

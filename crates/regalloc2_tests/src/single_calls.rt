@@ -28,10 +28,9 @@ const LABELLED: &str = "block0:\n  op: Def: v0i reg\n  branch block1(v0i)\n\
 
 /// Writes `range` with its vreg, and the operand that shows the value at its end.
 fn write_range(range: &LiveRange, out: &mut Report) {
-    let by = match range.by {
-        Some(operand) => Some((operand.inst.index(), operand.index)),
-        None => None,
-    };
+    let by = range
+        .by
+        .map(|operand| (operand.inst.index(), operand.index));
     out.row("range", &(range.vreg, range.first, range.last, by));
 }
 

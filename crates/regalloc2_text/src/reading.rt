@@ -126,10 +126,7 @@ pub fn read<'t, A: Allocator + Copy>(
 {
     let mut draft = Draft::new(alloc);
     let mut tokens = Vec::new(alloc);
-    let line = match read_lines(&mut draft, alloc, &mut tokens, text, first_line) {
-        Ok(line) => line,
-        Err(error) => return Err(error),
-    };
+    let line = read_lines(&mut draft, alloc, &mut tokens, text, first_line)?;
     match draft.finish(alloc) {
         Ok(text) => Ok(text),
         Err(flaw) => Err(flaw.on_line(line)),

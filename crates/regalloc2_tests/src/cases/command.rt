@@ -46,10 +46,7 @@ fn write_done(
 ) -> Result<(), CallError> {
     let bytes = bytes_of(alloc, text)?;
     let mut err = Vec::new(alloc);
-    let other = match task.other {
-        Some(name) => Some((name, before.as_bytes())),
-        None => None,
-    };
+    let other = task.other.map(|name| (name, before.as_bytes()));
     let status = perform_task(alloc, task, bytes.as_slice(), other, to, &mut err);
     write_end(err.as_slice(), status, to)
 }

@@ -197,10 +197,8 @@ impl<'a, 't> Cursor<'a, 't> {
 
     /// Returns `value` if the line ends here and has no flaw; else its first flaw.
     pub(crate) fn finish_with<T: Drop>(self, value: T) -> Result<T, Flaw<'t>> {
-        match self.finish() {
-            Ok(()) => Ok(value),
-            Err(flaw) => Err(flaw),
-        }
+        self.finish()?;
+        Ok(value)
     }
 
     /// A number up to `max`, as a token of its own.

@@ -54,10 +54,7 @@ pub(super) struct Span {
 
 /// The class of the register of `index`, if the index is valid.
 fn class_of(index: u8) -> Option<RegClass> {
-    match register_of(index) {
-        Some(register) => Some(register.class()),
-        None => None,
-    }
+    register_of(index).map(|register| register.class())
 }
 
 /// A register or neighbours, for the list of `class` or else of their own.

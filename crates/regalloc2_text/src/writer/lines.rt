@@ -136,8 +136,6 @@ pub fn lay_out<A: Allocator + Copy>(
     let shown = Shown::of(alloc, function)?;
     let laid = ShownOutput::of(output, function.insts.len());
     let mut text = String::new(alloc);
-    match write_lines(&shown, laid, &mut text) {
-        Ok(()) => Ok(text),
-        Err(_) => Err(AllocError),
-    }
+    write_lines(&shown, laid, &mut text).map_err(|_| AllocError)?;
+    Ok(text)
 }

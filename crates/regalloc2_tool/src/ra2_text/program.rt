@@ -245,11 +245,7 @@ fn act_as_asked(
 
 /// Reads the input `bytes`; `None` if it can't be read, which a line on `err` reports with `path`.
 fn read_input(alloc: Global, path: &str, bytes: &[u8], err: &mut Vec<u8>) -> Option<Input> {
-    let read = match text_of(bytes) {
-        Ok(text) => Input::read(alloc, text),
-        Err(error) => Err(error),
-    };
-    match read {
+    match text_of(bytes).and_then(|text| Input::read(alloc, text)) {
         Ok(input) => Some(input),
         Err(error) => {
             let _ = writeln!(err, "{path}:{error}");

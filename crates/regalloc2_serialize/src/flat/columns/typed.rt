@@ -34,7 +34,7 @@ pub fn class_sets(words: &[u32]) -> [PRegSet; 3]
     [
         set_of(&words[..SET_WORDS]),
         set_of(&words[SET_WORDS..2 * SET_WORDS]),
-        set_of(&words[2 * SET_WORDS..]),
+        set_of(&words[2 * SET_WORDS..3 * SET_WORDS]),
     ]
 }
 
@@ -60,10 +60,8 @@ fn scratch_of(word: u32) -> Option<PReg>
     requires { word ≤ 192 }
     ensures { result ≡ scratch_of_word word }
 {
-    match word.checked_sub(1) {
-        Some(index) => Some(PReg::from_index(index as usize)),
-        None => None,
-    }
+    word.checked_sub(1)
+        .map(|index| PReg::from_index(index as usize))
 }
 
 /// The scratch registers of `words`, by class.

@@ -103,10 +103,7 @@ fn named<T: Drop>(answer: Result<T, StoredFault>) -> Result<T, RegAllocError> {
 
 /// Returns the value of the JSON text `text`.
 fn value_of(global: Global, text: &str) -> Result<Value, RegAllocError> {
-    match Value::from_str(global, text) {
-        Ok(value) => Ok(value),
-        Err(_) => Err(RegAllocError::EntryLivein),
-    }
+    Value::from_str(global, text).map_err(|_| RegAllocError::EntryLivein)
 }
 
 /// A copy of a function that is structurally valid (`IsFramed`), with a machine without registers.

@@ -168,10 +168,7 @@ where
 
 /// Returns the place with the number `number`, if there is one.
 fn place_of(number: Option<usize>) -> Option<Allocation> {
-    match number {
-        Some(number) => Some(place(number)),
-        None => None,
-    }
+    number.map(place)
 }
 
 /// Returns what a resolver makes of `moves` with the places `free`, if these serve them; and what it has left, if it
@@ -206,10 +203,7 @@ fn write_case(alloc: Global, out: &mut Report, case: (Pairs, Numbers), by_ref: b
         return;
     };
     if let Some(left) = left {
-        let count = match made {
-            Ok(m) => Ok(m.len()),
-            Err(fault) => Err(fault),
-        };
+        let count = made.map(|m| m.len());
         out.row("by reference", &(count, left));
         return;
     }
@@ -225,10 +219,7 @@ pub fn write_computed(alloc: Global, out: &mut Report) {
     for case in &CASES {
         if let Ok(Some(moves)) = resolved(alloc, &alloc, case.0) {
             let needs_scratch = moves.needs_scratch();
-            let count = match moves.without_scratch() {
-                Some(m) => Some(m.len()),
-                None => None,
-            };
+            let count = moves.without_scratch().map(|m| m.len());
             out.row("needs scratch", &(needs_scratch, count));
         }
         write_case(alloc, out, *case, false);
