@@ -116,8 +116,6 @@ pub fn run_checked<A: Allocator + Copy, F: Function, B: Allocator>(
         Ok(out) => out,
         Err(error) => return Err(CheckedRunError::Refused(error)),
     };
-    match judge(alloc, f, env, &out) {
-        Ok(()) => Ok(out),
-        Err(error) => Err(error),
-    }
+    judge(alloc, f, env, &out)?;
+    Ok(out)
 }

@@ -61,7 +61,9 @@ fn range_cause(function: &StoredFunction, block: usize) -> Option<Cause> {
 
 /// Returns how often `block` is in `list`.
 fn count_in(list: &[u32], block: usize) -> usize {
-    list.iter().filter(|listed| **listed as usize == block).count()
+    list.iter()
+        .filter(|listed| **listed as usize == block)
+        .count()
 }
 
 /// How many edges lead from block `from` to block `to`.

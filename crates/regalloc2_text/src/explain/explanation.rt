@@ -7,8 +7,8 @@ use crate::explain::pressure::{
 };
 use crate::explain::source::Source;
 use crate::explain::stored::{ClassName, operands_at};
-use crate::named::operand_of;
 use crate::explain::{blocks, definitions, operands};
+use crate::named::operand_of;
 use regalloc2_function::MachineMisfit;
 use regalloc2_names::{PReg, RegAllocError, RegClass, VRegText};
 use regalloc2_serialize::StoredFunction;

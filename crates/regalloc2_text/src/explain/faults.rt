@@ -424,7 +424,10 @@ fn index_cause(function: &StoredFunction) -> Option<StoredCause> {
 
 /// Returns the first of `indexes` that is no index of a register.
 fn first_unnamed(indexes: &[u8]) -> Option<u8> {
-    indexes.iter().copied().find(|index| register_of(*index).is_none())
+    indexes
+        .iter()
+        .copied()
+        .find(|index| register_of(*index).is_none())
 }
 
 /// Returns the cause if one of `indexes`, the list with the name `list`, is no index of a register.

@@ -32,7 +32,10 @@ pub(crate) fn is_in_any(bits: u64, class: RegClass) -> bool {
 
 /// Returns how many of `operands` may be in any register of `class`.
 pub(crate) fn count_in_any(operands: &[u64], class: RegClass) -> usize {
-    operands.iter().filter(|bits| is_in_any(**bits, class)).count()
+    operands
+        .iter()
+        .filter(|bits| is_in_any(**bits, class))
+        .count()
 }
 
 /// Returns whether `bits` encode an operand that is fixed to `register`.
@@ -112,7 +115,9 @@ fn is_allocated_in(bits: u64, class: RegClass) -> bool {
 
 /// Returns the index of the first of `operands` that is of `class` and whose register, if it is fixed, is allocated.
 pub(crate) fn first_allocated_in(operands: &[u64], class: RegClass) -> Option<usize> {
-    operands.iter().position(|bits| is_allocated_in(*bits, class))
+    operands
+        .iter()
+        .position(|bits| is_allocated_in(*bits, class))
 }
 
 /// Returns whether `bits` encode a vreg of `class`.

@@ -98,7 +98,12 @@ fn write_stored_lines<A: Allocator, W: fmt::Write>(
     to: &mut W,
 ) -> fmt::Result {
     write_stored_machine(&function.machine_env, to)?;
-    write_misfit("spillslot_size", &function.spillslot_size, CLASSES.len(), to)?;
+    write_misfit(
+        "spillslot_size",
+        &function.spillslot_size,
+        CLASSES.len(),
+        to,
+    )?;
     write_stored_lists(function, to)?;
     write_stored_targets(function, to)
 }

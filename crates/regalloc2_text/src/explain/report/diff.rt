@@ -46,7 +46,11 @@ fn write_moves<W: Write>(sign: &str, moves: &[StoredMove], to: &mut W) -> io::Re
 }
 
 /// Writes how `first` and `second`, the moves at one point, differ. Returns whether they do.
-fn diff_point<W: Write>(first: &[StoredMove], second: &[StoredMove], to: &mut W) -> io::Result<bool> {
+fn diff_point<W: Write>(
+    first: &[StoredMove],
+    second: &[StoredMove],
+    to: &mut W,
+) -> io::Result<bool> {
     if first == second {
         return Ok(false);
     }
@@ -56,7 +60,11 @@ fn diff_point<W: Write>(first: &[StoredMove], second: &[StoredMove], to: &mut W)
 }
 
 /// Writes how the moves `first` and `second` differ, point by point. Returns whether they do.
-fn diff_moves<W: Write>(first: &[StoredMove], second: &[StoredMove], to: &mut W) -> io::Result<bool> {
+fn diff_moves<W: Write>(
+    first: &[StoredMove],
+    second: &[StoredMove],
+    to: &mut W,
+) -> io::Result<bool> {
     let mut differs = false;
     let mut left = first;
     let mut right = second;
