@@ -41,12 +41,12 @@ returns-in_err-judge g c =
       tested = tt;
       passes_checks = tt;
       accepted = λ written.
-        no_fault_where_faithful (g.F.Function.function c.args.f.now) (machine_of c.args.env.now) (output_of c.in-Ok.out) _
-        (c.in-Ok.ensures.allocation.faithful written).faithful c.in_err-judge.ensures.err;
+          no_fault_where_faithful (g.F.Function.function c.args.f.now) (machine_of c.args.env.now) (output_of c.in-Ok.out) _
+          (c.in-Ok.ensures.allocation.faithful written).faithful c.in_err-judge.ensures.err;
       refused =
-        checked_reason (g.F.Function.function c.args.f.now) (machine_of c.args.env.now) c.args.options.now.validate_ssa (output_of c.in-Ok.out)
-        _ c.in-Ok.ensures.allocation c.in-Ok.ensures.passes_checks c.in_err-judge.ensures.err;
+          checked_reason (g.F.Function.function c.args.f.now) (machine_of c.args.env.now) c.args.options.now.validate_ssa (output_of c.in-Ok.out)
+          _ c.in-Ok.ensures.allocation c.in-Ok.ensures.passes_checks c.in_err-judge.ensures.err;
       many_operands =
-        found_counted (g.F.Function.function c.args.f.now) (machine_of c.args.env.now) (output_of c.in-Ok.out) _
-        c.in-Ok.ensures.passes_checks.first c.in_err-judge.ensures.err;
+          found_counted (g.F.Function.function c.args.f.now) (machine_of c.args.env.now) (output_of c.in-Ok.out) _
+          c.in-Ok.ensures.passes_checks.first c.in_err-judge.ensures.err;
     })
