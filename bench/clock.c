@@ -4,9 +4,10 @@
 //   TRACE=1 LD_PRELOAD=./clock.so regalloc2_bench allocate 3 < function.json
 //   MARK=80008 LD_PRELOAD=./clock.so regalloc2_bench allocate 100 < function.json
 //
-// With TRACE set, each block that is asked for is a line on standard error: how, and how many bytes. With MARK set to a number of
-// bytes that each time asks for once, the clock is read at each such block, so that a period between two of them is one whole time,
-// with what it frees. At the end one line goes to standard error: how many periods, the least, and the median, in nanoseconds.
+// With TRACE set, each block that is asked for is a line on standard error: how, and how many bytes. With MARK set to
+// a number of bytes that each time asks for once, the clock is read at each such block, so that a period between two
+// of them is one whole time, with what it frees. At the end one line goes to standard error: how many periods, the
+// least, and the median, in nanoseconds.
 #include <stdio.h>
 #include <stdlib.h>
 #include <time.h>

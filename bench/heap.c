@@ -3,11 +3,11 @@
 //   cc -O2 -shared -fPIC -o heap.so bench/heap.c -ldl
 //   LD_PRELOAD=./heap.so regalloc2_bench allocate 0 < function.json
 //
-// Counted are the bytes that are held at a time, as malloc_usable_size gives them. At the end one line goes to standard
-// error: by how many bytes the total rose, at most, above its least value since it was greatest. A program that reads a
-// function mostly holds most while it reads, since the text is there too, so this is what the run after that takes beside the
-// function. Where the run holds more than the reading did, as with upstream's small reader on some shapes, the line says too little, unless the run is
-// done several times.
+// Counted are the bytes that are held at a time, as malloc_usable_size gives them. At the end one line goes to
+// standard error: by how many bytes the total rose, at most, above its least value since it was greatest. A program
+// that reads a function mostly holds most while it reads, since the text is there too, so this is what the run after
+// that takes beside the function. Where the run holds more than the reading did, as with upstream's small reader on
+// some shapes, the line says too little, unless the run is done several times.
 #define _GNU_SOURCE
 #include <malloc.h>
 #include <stdio.h>

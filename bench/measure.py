@@ -1,16 +1,18 @@
 #!/usr/bin/env python3
 """Counts machine instructions for each instruction of an input, for every shape of docs/BENCH.md, and prints a table.
 
-    python3 bench/measure.py [--upstream PATH] [--task allocate|test|check|reads|tested|tree] [--sizes 1000,10000] [--shapes real,switch] [--heap]
+    python3 bench/measure.py [--upstream PATH] [--task allocate|test|check|reads|tested|tree] [--sizes 1000,10000]
+        [--shapes real,switch] [--heap]
 
-It needs valgrind, and the program `regalloc2_bench` (docs/BENCH.md says how to build it). `--upstream` is the
-path of a program that reads a stored function and runs upstream's allocator or checker on it: it is called as `PATH bench FILE TIMES`, with
-`--validate` for the task `test`, and as `PATH bench-check FILE TIMES` for the check, and does the work that many times. One time is the
-difference of two times and one, or that of three and two if it is less: so start-up and reading don't count, nor does the one time in which the C
-library's allocator merges the blocks that reading freed. `--heap` gives the bytes that one allocation, or one allocation and check of its output, holds
-at most beside the function, as `heap.c` counts them, in place of instructions; it needs a C compiler. The task `tree` counts nothing: for each function it says whether the
-dominator tree and one search decide whether reads come after writes, and the script's status is 1 if some function is left open or some run
-fails.
+It needs valgrind, and the program `regalloc2_bench` (docs/BENCH.md says how to build it). `--upstream` is the path of
+a program that reads a stored function and runs upstream's allocator or checker on it: it is called as `PATH bench
+FILE TIMES`, with `--validate` for the task `test`, and as `PATH bench-check FILE TIMES` for the check, and does the
+work that many times. One time is the difference of two times and one, or that of three and two if it is less: so
+start-up and reading don't count, nor does the one time in which the C library's allocator merges the blocks that
+reading freed. `--heap` gives the bytes that one allocation, or one allocation and check of its output, holds at most
+beside the function, as `heap.c` counts them, in place of instructions; it needs a C compiler. The task `tree` counts
+nothing: for each function it says whether the dominator tree and one search decide whether reads come after writes,
+and the script's status is 1 if some function is left open or some run fails.
 """
 import argparse, json, os, re, subprocess, sys, tempfile
 
@@ -64,7 +66,8 @@ def measure(args, program, upstream, path, insts):
     if args.task == "tree":
         return "decided" if decided(program, path, args.limit) else "OPEN"
     if args.heap:
-        # this port's program allocates once more than it is told; upstream's run may hold more than its reading did, which the repeats then tell
+        # this port's program allocates once more than it is told; upstream's run may hold more than its reading did,
+        # which the repeats then tell
         times = 4 if upstream else 1 if args.task == "check" else 0
         return heap(args.heap, commands(program, upstream, args.task, path, times), path, args.limit)
     counts = [collected(commands(program, upstream, args.task, path, n), path, args.limit) for n in (1, 2, 3)]

@@ -1,15 +1,18 @@
 #!/usr/bin/env python3
 """Measures nanoseconds for each instruction of an input, for shapes of docs/BENCH.md, and prints a table.
 
-    python3 bench/time.py [--upstream PATH] [--task allocate|test|check] [--sizes 1000,10000] [--shapes real,clobbers] [--rounds 15]
+    python3 bench/time.py [--upstream PATH] [--task allocate|test|check] [--sizes 1000,10000] [--shapes real,clobbers]
+        [--rounds 15]
 
-It needs a C compiler, and the program `regalloc2_bench` (docs/BENCH.md says how to build it). `--program`
-names another build of it, and may be given several times, to hold builds against each other. `--upstream` is called as `measure.py` says.
+It needs a C compiler, and the program `regalloc2_bench` (docs/BENCH.md says how to build it). `--program` names
+another build of it, and may be given several times, to hold builds against each other. `--upstream` is called as
+`measure.py` says.
 
-A period is one whole time of the task, with what it frees: `clock.c` reads the clock whenever the program asks for a block of a size that each time
-asks for once, the greatest such size. Processes of each program run in turn, on one processor, `--rounds` of each, and the least
-period of all counts, since noise only adds. With `--upstream` each of this port's figures has its ratio to upstream's beside it. Run it twice: figures that differ by
-more than a hundredth were taken on a busy machine.
+A period is one whole time of the task, with what it frees: `clock.c` reads the clock whenever the program asks for a
+block of a size that each time asks for once, the greatest such size. Processes of each program run in turn, on one
+processor, `--rounds` of each, and the least period of all counts, since noise only adds. With `--upstream` each of
+this port's figures has its ratio to upstream's beside it. Run it twice: figures that differ by more than a hundredth
+were taken on a busy machine.
 """
 import argparse, collections, json, os, re, subprocess, sys, tempfile
 

@@ -1,7 +1,7 @@
 #!/bin/sh
-# compare.sh COMPILE COUNT: assembles so many modules at random on x86-64, and compares how their runs end, and what they leave in
-# memory, with what the program `compile`, which is at the path COMPILE, says of them and of their code. The last run of each has
-# little room on the stack.
+# compare.sh COMPILE COUNT: assembles COUNT random modules on x86-64, and compares how their runs end, and what
+# they leave in memory, with what the program `compile`, which is at the path COMPILE, says of them and of their code.
+# The last run of each has little room on the stack.
 set -eu
 compile=$1
 count=$2

@@ -1,6 +1,6 @@
-/* Calls the function that the program `compile` writes, with the arguments that are given and zeros in memory, and prints what it
-   returns, or `trapped`, or `stack overflow`. A first argument -r WORDS gives the room on the stack, and -m then the size of memory:
-   a second line is the hash of the memory that is left. */
+/* Calls the function that the program `compile` writes, with the arguments that are given and zeros in memory, and
+   prints what it returns, or `trapped`, or `stack overflow`. A first argument -r WORDS gives the room on the stack,
+   and -m then the size of memory: a second line is the hash of the memory that is left. */
 #include <inttypes.h>
 #include <signal.h>
 #include <stdint.h>

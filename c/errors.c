@@ -1,5 +1,5 @@
-/* Each status of the C library once, with the words of its result, from ten threads that call at once. It brings its own memory, which it
-   can refuse. */
+/* Each status of the C library once, with the words of its result, from ten threads that call at once. It brings its
+   own memory, which it can refuse. */
 #include "regalloc2_c.h"
 #include <pthread.h>
 #include <stdio.h>
@@ -112,7 +112,8 @@ static uint32_t judge_no_places(const uint32_t *words, size_t len, uint32_t *res
     return regalloc2_c_judge(words, len, 0, NULL, 0, NULL, 0, offsets, 3, result, room, needed);
 }
 
-/* What is said of the output in which one word is another, of a function in which one word is another: by words and in parts. */
+/* What is said of the output in which one word is another, of a function in which one word is another: by words and
+   in parts. */
 static struct seen judged(size_t at, uint32_t word, size_t changed, uint32_t to, uint32_t *by_words) {
     uint32_t function[LEN];
     struct seen out = made(regalloc2_c_allocate, SAME, LEN, ROOM), s = {0};
@@ -169,8 +170,8 @@ static int wrong_allocations(void) {
         + differs("no JSON", json("["), RA2_UNREADABLE, 0, NULL) + differs("JSON of another shape", json("{}"), RA2_UNREADABLE, 0, NULL);
 }
 
-/* Words that aren't a header and its columns, and numbers of functions that are wrong. RA2_BAD_FUNCTION + 6 comes of no call: where JSON has
-   another shape, it is RA2_UNREADABLE. */
+/* Words that aren't a header and its columns, and numbers of functions that are wrong. RA2_BAD_FUNCTION + 6 comes of
+   no call: where JSON has another shape, it is RA2_UNREADABLE. */
 static int wrong_words(void) {
     static const uint32_t none = RA2_NONE;
     const struct {
@@ -226,7 +227,8 @@ static int wrong_nulls(void) {
 
 #define REFUSED(n, lines, ...) differs(lines, text(lines), RA2_REFUSED + n, WORDS(__VA_ARGS__))
 
-/* All but 8, which 2^32 operands come to. A header can't count them, and as JSON or text they take more than 8 gigabytes. 11 is memory's. */
+/* All but 8, which 2^32 operands come to. A header can't count them, and as JSON or text they take more than 8
+   gigabytes. 11 is memory's. */
 static int wrong_refusals(void) {
     return REFUSED(1, "block0:\n  branch block1, block2\nblock1:\n  branch block2\nblock2:\n  ret\n", 0, 2, RA2_NONE, RA2_NONE)
         + REFUSED(2, "block0:\n  op: Def: v0i reg\n  ret: Use: v1i reg\n", RA2_NONE, RA2_NONE, 1, ra2_vreg(RA2_INT, 1))
@@ -241,8 +243,8 @@ static int wrong_refusals(void) {
                   WORDS(RA2_NONE, RA2_NONE, RA2_NONE, RA2_NONE));
 }
 
-/* Refuses memory from the first request on, then from the second one, and so on, until a call needs no more. It has to be said by `status` once,
-   which is RA2_BAD_FUNCTION + 5 where a text's numbers are read. */
+/* Refuses memory from the first request on, then from the second one, and so on, until a call needs no more. It has
+   to be said by `status` once, which is RA2_BAD_FUNCTION + 5 where a text's numbers are read. */
 static int wrong_memory(call *made_by, uint32_t status) {
     struct seen fine = made(made_by, SAME, LEN, ROOM), s;
     size_t times = 0;

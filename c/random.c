@@ -1,5 +1,6 @@
-/* So many functions at random: each is allocated with and without the checker, in exactly the room that its result needs; the output is judged by
-   words and in parts, then with a place damaged; and each function is given once more with a word damaged. Build it with -fsanitize=address. */
+/* Random functions, as many as the argument says: each is allocated with and without the checker, in exactly the room
+   that its result needs; the output is judged by words and in parts, then with a place damaged; and each function is
+   given once more with a word damaged. Build it with -fsanitize=address. */
 #include "regalloc2_c.h"
 #include <stdio.h>
 #include <stdlib.h>

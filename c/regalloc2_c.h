@@ -1,18 +1,21 @@
-/* The allocator and its checker. Link libregalloc2_c.a, and libregalloc2_c_heap.a (regalloc2_c_heap.c), the toolchain's liblibc_c.a, or
-   three functions of your own: rattle_alloc, rattle_realloc and rattle_dealloc, declared below.
+/* The allocator and its checker. Link libregalloc2_c.a, and libregalloc2_c_heap.a (regalloc2_c_heap.c), the
+   toolchain's liblibc_c.a, or three functions of your own: rattle_alloc, rattle_realloc and rattle_dealloc, declared
+   below.
 
-   POINTERS. Each names memory of its length in words or bytes, aligned as its type, and may be null if that length is 0. `needed` has no
-   length and is never null. What a call writes (`text`, `result`, `needed`) overlaps nothing else that it is given, and nobody else reads or
-   writes it during the call; what a call only reads may overlap, and nobody writes it. Nothing can check this.
-   The library keeps nothing from call to call, so threads may call at once if the heap functions allow that, as those over malloc do.
-   Each call is also a macro of its own name, which replaces a null pointer, because the functions themselves take none. `(regalloc2_c_run)` is
-   the function, and so is a name without arguments behind it. An argument that has a comma outside of parentheses, as a compound literal
-   may, has to be put in parentheses.
+   POINTERS. Each names memory of its length in words or bytes, aligned as its type, and may be null if that length is 0.
+   `needed` has no length and is never null. What a call writes (`text`, `result`, `needed`) overlaps nothing else
+   that it is given, and nobody else reads or writes it during the call; what a call only reads may overlap, and
+   nobody writes it. Nothing can check this. The library keeps nothing from call to call, so threads may call at once
+   if the heap functions allow that, as those over malloc do. Each call is also a macro of its own name, which
+   replaces a null pointer, because the functions themselves take none. `(regalloc2_c_run)` is the function, and so is
+   a name without arguments behind it. An argument that has a comma outside of parentheses, as a compound literal may,
+   has to be put in parentheses.
 
-   NUMBERS. All are 32-bit words; a number of 64 bits is two, the lower one first. A register is its index (hardware number + 64 * class:
-   0 integer, 1 float, 2 vector), a vreg 4 * number + class, an operand the 64-bit word of docs/INPUT.md, a point 2 * instruction (+ 1
-   after it), a place a word whose upper three bits are its kind (0 none, 1 register, 2 slot) and whose lower ones are the register's index
-   or the slot's number. A set of registers is six words: register r is in it if bit r % 32 of word r / 32 is 1.
+   NUMBERS. All are 32-bit words; a number of 64 bits is two, the lower one first. A register is its index (hardware
+   number + 64 * class: 0 integer, 1 float, 2 vector), a vreg 4 * number + class, an operand the 64-bit word of
+   docs/INPUT.md, a point 2 * instruction (+ 1 after it), a place a word whose upper three bits are its kind (0 none,
+   1 register, 2 slot) and whose lower ones are the register's index or the slot's number. A set of registers is six
+   words: register r is in it if bit r % 32 of word r / 32 is 1.
 
    THE FUNCTION is a header of 15 words, and columns, which follow one another without a gap. The header:
       0  2, the number of this layout
@@ -51,24 +54,28 @@
      16  arguments' ends            E     for each successor of each block
      17  arguments                  A     vregs
      18  labels                   4 L     each a vreg, its first instruction, the one past its last, a label
-   An end counts members, not words, up to the last one of its instruction, block or edge: the operands of instruction k are those from end
-   k - 1, or from 0, up to end k. So ends don't fall, and the last is the count in the header; without ends the count is 0. The instructions of
-   blocks, which therefore follow one another, and all others lie in the same way. demo.c has a small function.
+   An end counts members, not words, up to the last one of its instruction, block or edge: the operands of instruction k
+   are those from end k - 1, or from 0, up to end k. So ends don't fall, and the last is the count in the header;
+   without ends the count is 0. The instructions of blocks, which therefore follow one another, and all others lie in
+   the same way. demo.c has a small function.
 
-   Words that aren't such a header and its columns are RA2_UNREADABLE: word 0 isn't 2, there are fewer or more words than the header says,
-   flags are 4 or more, or sizes 2^24 or more. Else the status is RA2_BAD_FUNCTION plus the first of these that is so:
+   Words that aren't such a header and its columns are RA2_UNREADABLE: word 0 isn't 2, there are fewer or more words than
+   the header says, flags are 4 or more, or sizes 2^24 or more. Else the status is RA2_BAD_FUNCTION plus the first of
+   these that is so:
      1   ends fall, or the last isn't the count
      2   the entry, a predecessor or a successor isn't below B, a set isn't at most S, or a label's vreg isn't below V
      3   a word is no register, vreg, operand or kind
      4   I or V isn't below 2^30, B not below 2^32 - 1, or a logarithm is above 24
-   Of a function in JSON or in a text these, and 5 for memory, are as `bad function` of docs/INPUT.md. JSON of another shape is RA2_UNREADABLE.
+   Of a function in JSON or in a text these, and 5 for memory, are as `bad function` of docs/INPUT.md. JSON of another
+   shape is RA2_UNREADABLE.
 
-   THE OUTPUT. A list is its length and then its members. The units of slots (two words); a list of moves, each a point, a source, a
-   destination; a list of places; a list of offsets, one for each instruction; a list of debug locations, each a label, two points, a place.
+   THE OUTPUT. A list is its length and then its members. The units of slots (two words); a list of moves, each a point,
+   a source, a destination; a list of places; a list of offsets, one for each instruction; a list of debug locations,
+   each a label, two points, a place.
 
-   THE RESULT of a call is words, whatever its status: `*needed` is how many. If there is room for them they are written, and what is behind
-   them stays as it was; else the status is RA2_NO_ROOM, nothing is written, and a second call with room for `*needed` words gives the result:
-   so a call is made twice at most. The result by status:
+   THE RESULT of a call is words, whatever its status: `*needed` is how many. If there is room for them they are written,
+   and what is behind them stays as it was; else the status is RA2_NO_ROOM, nothing is written, and a second call with
+   room for `*needed` words gives the result: so a call is made twice at most. The result by status:
      RA2_OK              the output; of regalloc2_c_judge none
      RA2_BAD_MACHINE     3 words: which condition fails, from 1 to 10 (InvalidSlot, OtherClass, ListedTwice, InvalidRegister,
                          ScratchOfOtherClass, ScratchAllocatable, InvalidScratch, SlotAllocatable, SlotIsScratch, NoRegister); the class;
@@ -77,7 +84,8 @@
      RA2_BAD_TEXT        2 words: the line and the column, in bytes, both counted from 1
      RA2_REFUSED + n     4 words: two blocks, an instruction, a vreg
      else                none
-   RA2_NONE stands for what isn't named. RA2_NO_ROOM with `*needed` 0 says that a number of the output, as a list's length, is 2^32 or more.
+   RA2_NONE stands for what isn't named. RA2_NO_ROOM with `*needed` 0 says that a number of the output, as a list's
+   length, is 2^32 or more.
 
    A FAULT is 8 words and a list of vregs:
      0   its number: 1, 2 or 4 to 12 as `error` of docs/INPUT.md; 14 a place that is no register for the class and no slot of the frame, 15 a
@@ -90,7 +98,8 @@
      6   of 8 the reused operand's place, of 10 the one that a move reads, else 0
      7   of 11 the limit, of 17 the other slot, of 14 without instruction and index the debug location's index, else 0
      8.. of 4 a list of the vregs whose values the place holds, else an empty one
-   Faults are in the order of blocks and instructions. Where there is none of 1 to 12, one of 14 to 17 is listed, alone. */
+   Faults are in the order of blocks and instructions. Where there is none of 1 to 12, one of 14 to 17 is listed,
+   alone. */
 #ifndef REGALLOC2_C_H
 #define REGALLOC2_C_H
 #include <stdbool.h>
@@ -123,8 +132,8 @@ enum {
 #define RA2_VERSION 0x00020009u
 uint32_t regalloc2_c_version(void);
 
-/* A status, or a fault's number, in English. Returns how many bytes that takes, without a zero at the end; at most `text_len` are written, and
-   what is behind them stays as it was. */
+/* A status, or a fault's number, in English. Returns how many bytes that takes, without a zero at the end; at most
+   `text_len` are written, and what is behind them stays as it was. */
 size_t regalloc2_c_status_text(uint32_t status, uint8_t *text, size_t text_len);
 size_t regalloc2_c_fault_text(uint32_t number, uint8_t *text, size_t text_len);
 
@@ -137,24 +146,25 @@ uint32_t regalloc2_c_allocate_json(const uint8_t *json, size_t len, uint32_t *re
 /* The same for a function in a text, as docs/TEXT.md has it, in UTF-8. An output in it isn't looked at. */
 uint32_t regalloc2_c_allocate_text(const uint8_t *text, size_t len, uint32_t *result, size_t result_len, size_t *needed);
 
-/* Allocates with all tests, among them that no path reads or passes a vreg before writing it, and without the checker: then its output needs
-   none. */
+/* Allocates with all tests, among them that no path reads or passes a vreg before writing it, and without the
+   checker: then its output needs none. */
 uint32_t regalloc2_c_run(const uint32_t *words, size_t len, uint32_t *result, size_t result_len, size_t *needed);
 
-/* Judges an output of a function, whose parts the caller keeps apart: the units of slots, moves of three words, the places of all operands, and for
-   each instruction where its places begin. RA2_OK if the checker accepts it, and the places that it names are cells of their own; else RA2_FAULTS,
-   or a status that says why nothing was judged. */
+/* Judges an output of a function, whose parts the caller keeps apart: the units of slots, moves of three words, the
+   places of all operands, and for each instruction where its places begin. RA2_OK if the checker accepts it, and the
+   places that it names are cells of their own; else RA2_FAULTS, or a status that says why nothing was judged. */
 uint32_t regalloc2_c_judge(const uint32_t *words, size_t len, uint64_t num_spillslots, const uint32_t *moves, size_t moves_len,
                            const uint32_t *places, size_t places_len, const uint32_t *offsets, size_t offsets_len,
                            uint32_t *result, size_t result_len, size_t *needed);
 
-/* RA2_OK if the checker accepts an output of a function, and the places that it names are cells of their own: registers of the machine, or slots
-   of the frame that share no unit; else RA2_FAULTS, or a status that says why nothing was judged. */
+/* RA2_OK if the checker accepts an output of a function, and the places that it names are cells of their own:
+   registers of the machine, or slots of the frame that share no unit; else RA2_FAULTS, or a status that says why
+   nothing was judged. */
 uint32_t regalloc2_c_check(const uint32_t *words, size_t len, const uint32_t *output, size_t output_len);
 
-/* The memory that the library asks for. `ok` is whether there is some. `p` is never null: where there is none it is any address. `align` is
-   at most 16, and a `size` of 0 still asks for a place. `kept` is how many bytes of `p` were asked for; a refused rattle_realloc leaves `p`
-   as it was. */
+/* The memory that the library asks for. `ok` is whether there is some. `p` is never null: where there is none it is
+   any address. `align` is at most 16, and a `size` of 0 still asks for a place. `kept` is how many bytes of `p` were
+   asked for; a refused rattle_realloc leaves `p` as it was. */
 struct rattle_tried {
     bool ok;
     uint8_t *p;
@@ -187,7 +197,8 @@ static inline uint64_t ra2_operand(uint32_t class_, uint32_t number, uint32_t ki
 static inline uint32_t ra2_in_register(uint32_t reg) { return 1u << 29 | reg; }
 static inline uint32_t ra2_in_slot(uint32_t slot) { return 2u << 29 | slot; }
 
-/* Words of functions: kinds by the number of a set, the logarithms of a slot's units, and registers added to the six words of a set. */
+/* Words of functions: kinds by the number of a set, the logarithms of a slot's units, and registers added to the six
+   words of a set. */
 static inline uint32_t ra2_kind(uint32_t set, uint32_t what) { return set << 2 | what; }
 static inline uint32_t ra2_sizes(uint32_t int_, uint32_t float_, uint32_t vector) { return int_ | float_ << 8 | vector << 16; }
 static inline void ra2_add(uint32_t *set, uint32_t reg) { set[reg / 32] |= 1u << reg % 32; }
@@ -236,7 +247,8 @@ enum {
     RA2_COLUMNS_END = 19
 };
 
-/* The index at which a column begins, from 1, of a function with that header; of RA2_COLUMNS_END how many words the function takes. */
+/* The index at which a column begins, from 1, of a function with that header; of RA2_COLUMNS_END how many words the
+   function takes. */
 static inline size_t ra2_column(const uint32_t *header, unsigned column) {
     const size_t insts = header[RA2_AT_INSTS], blocks = header[RA2_AT_BLOCKS], edges = header[RA2_AT_EDGES];
     const size_t widths[] = {

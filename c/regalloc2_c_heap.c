@@ -1,4 +1,5 @@
-/* The memory that libregalloc2_c.a asks for, from malloc. Link this, or the toolchain's liblibc_c.a, or three functions of your own. */
+/* The memory that libregalloc2_c.a asks for, from malloc. Link this, or the toolchain's liblibc_c.a, or three
+   functions of your own. */
 #include "regalloc2_c.h"
 #include <stdlib.h>
 

@@ -1,7 +1,7 @@
 #!/bin/sh
-# test.sh: builds and runs what `rt ci` doesn't: the static library, the C programs, the assembly that two programs print, the
-# programs on examples/, and what the documents name; with upstream's sources in the folder UPSTREAM the crates for cargo too. `make test`
-# calls it. The status is 0 only if nothing differs.
+# test.sh: builds and runs what `rt ci` doesn't: the static library, the C programs, the assembly that two programs
+# print, the programs on examples/, and what the documents name; with upstream's sources in the folder UPSTREAM the
+# crates for cargo too. `make test` calls it. The status is 0 only if nothing differs.
 set -u
 here=$(cd "$(dirname "$0")" && pwd)
 top=$(dirname "$here")
@@ -72,8 +72,8 @@ programs() {
         "$made/O0.o" "$made/O1.o" -x assembler "$made/compiled_sieve.s" "$made/compiled_hash.s" "$made/compiled_sort.s" && "$made/bin/programs"
 }
 
-# Runs each line `$ COMMAND` of test.txt in a copy of the folder examples with three more texts, and writes that line, what
-# the command wrote, each line on standard error behind a `!`, and its status if that isn't 0.
+# Runs each line `$ COMMAND` of test.txt in a copy of the folder examples with three more texts, and writes that line,
+# what the command wrote, each line on standard error behind a `!`, and its status if that isn't 0.
 transcript() {
     cp -r "$top/examples" "$made/examples" && cd "$made/examples" || return 1
     cp "$top/crates/ra2_text/data/wrong_way.txt" "$top"/crates/compile/data/*.txt . || return 1

@@ -1,8 +1,10 @@
 #!/bin/sh
-# test.sh UPSTREAM: builds and tests the crates over upstream's sources, which this repository hasn't. `make -C c test-cargo` calls it.
+# test.sh UPSTREAM: builds and tests the crates over upstream's sources, which this repository hasn't. `make -C c
+# test-cargo` calls it.
 #
-# UPSTREAM is a checkout of regalloc2 at v0.15.2, or a crate with its sources, whose .cargo/config.toml counts. Without Ion in it, a
-# stand-in takes Ion's place. REGALLOC2_C names the folder of libregalloc2_c.a, RA2 the program ra2, CARGO_TARGET_DIR where builds are kept.
+# UPSTREAM is a checkout of regalloc2 at v0.15.2, or a crate with its sources, whose .cargo/config.toml counts.
+# Without Ion in it, a stand-in takes Ion's place. REGALLOC2_C names the folder of libregalloc2_c.a, RA2 the program
+# ra2, CARGO_TARGET_DIR where builds are kept.
 set -u
 [ $# -eq 1 ] && [ -f "$1/Cargo.toml" ] || { echo "usage: test.sh UPSTREAM, the folder of a crate with the sources of regalloc2 0.15.2"; exit 2; }
 here=$(cd "$(dirname "$0")" && pwd)
@@ -40,7 +42,8 @@ backend() {
     cargo run --quiet --manifest-path "$made/backend/Cargo.toml" --target-dir "$target/$name" "$@" >"$made/$name.txt"
 }
 
-# The back end unchanged, over the drop-in by a patch. Upstream comes from git, as cargo/patch says, which here is a copy.
+# The back end unchanged, over the drop-in by a patch. Upstream comes from git, as cargo/patch says, which here is a
+# copy.
 by_patch() {
     cp -r "$upstream" "$made/git" && cd "$made/git" && git init --quiet && git add --all &&
         git -c user.name=test -c user.email=test@localhost commit --quiet -m test && git tag v0.15.2 || return 1

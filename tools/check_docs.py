@@ -18,8 +18,9 @@ import fnmatch, glob, os, re, sys, unicodedata
 TOP = os.path.normpath(os.path.join(os.path.dirname(os.path.abspath(__file__)), ".."))
 MOST_COLUMNS, MOST_IN_CELL = 120, 200
 
-# How each command of the documents is run. TEST: `make -C c test` does, by the text behind the word, which is in c/test.txt or
-# c/test.sh. HAND: by hand, and why. What isn't here is a program with the arguments of its file `args`, which `rt ci` runs.
+# How each command of the documents is run. TEST: `make -C c test` does, by the text behind the word, which is in
+# c/test.txt or c/test.sh. HAND: by hand, and why. What isn't here is a program with the arguments of its file `args`,
+# which `rt ci` runs.
 COMMANDS = {
     "rt ci": ("HAND", "the file run in the folder .ci calls it"),
     "make -C c test": ("HAND", "it calls this script"),

@@ -4,9 +4,9 @@
 //   cc -O2 -shared -fPIC -o refuse.so tools/refuse.c -ldl
 //   FAIL_ALLOC=17 LD_PRELOAD=./refuse.so ra2 run < function.json
 //
-// FAIL_ALLOC=N, FAIL_READ=N and FAIL_WRITE=N fail the Nth of these, counted from 1. SHORT_READ=N and SHORT_WRITE=N let at
-// most N bytes pass. REPORT=FD writes there, at the end, how many requests, reads and writes came. Writes to standard
-// error never fail.
+// FAIL_ALLOC=N, FAIL_READ=N and FAIL_WRITE=N fail the Nth of these, counted from 1. SHORT_READ=N and SHORT_WRITE=N
+// let at most N bytes pass. REPORT=FD writes there, at the end, how many requests, reads and writes came. Writes to
+// standard error never fail.
 #define _GNU_SOURCE
 #include <dlfcn.h>
 #include <errno.h>

@@ -1,5 +1,5 @@
-/* Runs three programs that `compile` compiled beside the same in C: what they return and leave in memory must be the same. Prints the
-   least time of ten runs of each, beside those of C by the compiler's levels 0 and 1. */
+/* Runs three programs that `compile` compiled beside the same in C: what they return and leave in memory must be the
+   same. Prints the least time of ten runs of each, beside those of C by the compiler's levels 0 and 1. */
 #include <inttypes.h>
 #include <stdint.h>
 #include <stdio.h>

@@ -417,7 +417,8 @@ pub fn machine() -> MachineEnv {
     }
 }
 
-/// The options for an algorithm. The tests of the function aren't asked for: the copy of upstream may have no dominator tree.
+/// The options for an algorithm. The tests of the function aren't asked for: the copy of upstream may have no
+/// dominator tree.
 pub fn options(algorithm: Algorithm) -> RegallocOptions {
     RegallocOptions { algorithm, ..RegallocOptions::default() }
 }

@@ -1,4 +1,5 @@
-//! Each public item of upstream's crate root, by its type, and each trait that a type has: 299 lines that compile over the drop-in.
+//! Each public item of upstream's crate root, by its type, and each trait that a type has: 299 lines that compile
+//! over the drop-in.
 #![allow(unused, path_statements, dropping_copy_types)]
 use regalloc2::checker::{self, Checker, CheckerError, CheckerErrors};
 use regalloc2::indexset::{IndexSet, SetBitsIter};

@@ -11,9 +11,9 @@ use std::fmt;
 pub enum Rejection {
     /// The output is wrong. The list has at least one fault.
     ///
-    /// It has the first fault among an instruction's early operands, and the first among its late ones. Faults of places
-    /// ([`OperandFault::NoCell`], [`MoveFault::NoCell`], [`MoveFault::OtherClass`], [`Fault::Slot`]) occur alone: the first is listed if
-    /// the output has no other fault.
+    /// It has the first fault among an instruction's early operands, and the first among its late ones. Faults of
+    /// places ([`OperandFault::NoCell`], [`MoveFault::NoCell`], [`MoveFault::OtherClass`], [`Fault::Slot`]) occur
+    /// alone: the first is listed if the output has no other fault.
     Faulty(Vec<Fault>),
     /// There is no verdict: the output may be right or wrong.
     Unjudged(Unjudged),
@@ -146,8 +146,8 @@ pub enum Unjudged {
     NoMemory,
     /// A count of the function doesn't fit 32 bits.
     TooLarge,
-    /// The function isn't structurally valid: blocks don't follow one another, a block doesn't end in its only branch or return, or a
-    /// successor doesn't get as many arguments as it has parameters.
+    /// The function isn't structurally valid: blocks don't follow one another, a block doesn't end in its only branch
+    /// or return, or a successor doesn't get as many arguments as it has parameters.
     NotFramed,
     /// A number of the function is no encoding, or too large. `c/regalloc2_c.h` has the numbers.
     BadFunction(u32),

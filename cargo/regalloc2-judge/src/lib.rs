@@ -15,7 +15,8 @@ use words::{FunctionWords, Labels};
 
 /// Judges an output of a function for a machine.
 ///
-/// Returns `Ok` if the proved checker accepts the output and its places are cells. Allocates new memory; [`Judge`] keeps its own.
+/// Returns `Ok` if the proved checker accepts the output and its places are cells. Allocates new memory; [`Judge`]
+/// keeps its own.
 ///
 /// # Errors
 ///

@@ -1,7 +1,7 @@
 //! Translates the library's faults to upstream's types.
 //!
-//! The library names an operand by its instruction and its index, and a stack-to-stack move by its places: its index in the list of moves
-//! is that of the next match, in the order of the faults.
+//! The library names an operand by its instruction and its index, and a stack-to-stack move by its places: its index
+//! in the list of moves is that of the next match, in the order of the faults.
 
 use crate::fault::{Fault, MoveFault, OperandFault, SlotFault};
 use crate::{order, words};

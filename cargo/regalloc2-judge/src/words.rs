@@ -1,7 +1,7 @@
 //! Functions and outputs as the words of `c/regalloc2_c.h`.
 //!
-//! These functions connect upstream's types with the proved code, and aren't proved. They panic only if a method of `Function` does: they
-//! copy numbers as they are, and the library tests them.
+//! These functions connect upstream's types with the proved code, and aren't proved. They panic only if a method of
+//! `Function` does: they copy numbers as they are, and the library tests them.
 
 use regalloc2::{
     Allocation, Block, Edit, Function, Inst, InstRange, MachineEnv, Operand, OperandConstraint, OperandKind, OperandPos, Output,
@@ -60,7 +60,8 @@ fn operands_agree() -> bool {
 pub enum Unwritten {
     /// A count doesn't fit 32 bits.
     TooLarge,
-    /// This block is empty, doesn't begin where the one before it ends, or is the last and doesn't end at the last instruction.
+    /// This block is empty, doesn't begin where the one before it ends, or is the last and doesn't end at the last
+    /// instruction.
     Block(Block),
     /// A set has a register that is of no class.
     Register,
@@ -87,7 +88,8 @@ fn indexes(regs: &[PReg]) -> impl Iterator<Item = u32> {
     regs.iter().map(|reg| reg.index() as u32)
 }
 
-/// Returns the first and the last instruction of a range, if any. `InstRange::len` requires that the range isn't reversed.
+/// Returns the first and the last instruction of a range, if any. `InstRange::len` requires that the range isn't
+/// reversed.
 fn ends(range: InstRange) -> Option<(Inst, Inst)> {
     let mut insts = range.iter();
     let first = insts.next()?;

@@ -115,7 +115,8 @@ impl Room {
         true
     }
 
-    /// Makes a call, which writes the words of its result and their number. Repeats the call once if the buffer was too short.
+    /// Makes a call, which writes the words of its result and their number. Repeats the call once if the buffer was
+    /// too short.
     fn answer(&mut self, expected: usize, call: impl Fn(&mut [u32], &mut usize) -> u32) -> Answer<'_> {
         let no_memory = Answer { status: Status::NoMemory, words: &[] };
         if !self.grow(expected) {
@@ -143,7 +144,8 @@ fn expected(function: &[u32]) -> usize {
 /// On [`Status::Ok`] the result is an output, for [`OutputWords::of`](crate::OutputWords::of).
 pub fn allocate<'a>(function: &[u32], room: &'a mut Room) -> Answer<'a> {
     room.answer(expected(function), |result, needed| {
-        // SAFETY: each pointer and length is that of one slice; the slices are borrowed for the call, `result` and `needed` mutably.
+        // SAFETY: each pointer and length is that of one slice; the slices are borrowed for the call, `result` and
+        // `needed` mutably.
         unsafe { raw::regalloc2_c_allocate(function.as_ptr(), function.len(), result.as_mut_ptr(), result.len(), needed) }
     })
 }
@@ -170,7 +172,8 @@ pub fn allocate_text<'a>(text: &str, room: &'a mut Room) -> Answer<'a> {
 
 /// Allocates registers to a function in words if no path reads or passes a vreg before writing it.
 ///
-/// The output needs no check. [`Status::ReadBeforeWritten`] is returned only for a function that passes all other tests.
+/// The output needs no check. [`Status::ReadBeforeWritten`] is returned only for a function that passes all other
+/// tests.
 pub fn run<'a>(function: &[u32], room: &'a mut Room) -> Answer<'a> {
     room.answer(expected(function), |result, needed| {
         // SAFETY: as above.
@@ -193,8 +196,8 @@ pub struct Parts<'a> {
 
 /// Checks an output in parts of a function in words.
 ///
-/// Returns [`Status::Ok`] if the output is well-ordered and faithful, and its places are cells. On [`Status::Faults`] the words are a
-/// list for [`faults`](crate::faults).
+/// Returns [`Status::Ok`] if the output is well-ordered and faithful, and its places are cells. On [`Status::Faults`]
+/// the words are a list for [`faults`](crate::faults).
 pub fn judge<'a>(function: &[u32], output: Parts<'_>, room: &'a mut Room) -> Answer<'a> {
     let Parts { num_spillslots, moves, places, offsets } = output;
     room.answer(256, |result, needed| {

@@ -1,8 +1,9 @@
 //! The library's memory: `rattle_alloc`, `rattle_realloc` and `rattle_dealloc`.
 //!
-//! A call allocates many small blocks, and frees all of them. A `malloc` and a `free` for each would cost more. Therefore a
-//! thread in a call cuts small blocks from chunks, and keeps freed blocks in lists by size. Larger blocks, and blocks allocated outside
-//! a call, are `malloc`'s. At a call's end the thread keeps at most [`KEPT`] bytes of chunks.
+//! A call allocates many small blocks, and frees all of them. A `malloc` and a `free` for each would cost more.
+//! Therefore a thread in a call cuts small blocks from chunks, and keeps freed blocks in lists by size. Larger
+//! blocks, and blocks allocated outside a call, are `malloc`'s. At a call's end the thread keeps at most [`KEPT`]
+//! bytes of chunks.
 
 use std::cell::Cell;
 use std::ffi::c_void;
@@ -128,7 +129,8 @@ impl Pool {
         self.take(usize::from(SMALL[size.div_ceil(UNIT)]))
     }
 
-    /// Returns a freed block of a class, or one from the current chunk, if it has room. Outside a call there is neither.
+    /// Returns a freed block of a class, or one from the current chunk, if it has room. Outside a call there is
+    /// neither.
     #[inline]
     fn take(&self, class: usize) -> Option<NonNull<u8>> {
         let first = self.freed[class].get();

@@ -27,7 +27,8 @@ pub enum Status {
     BadText,
     /// A number of the function is no encoding, or too large. `regalloc2_c.h` has the numbers 1 to 5.
     BadFunction(u32),
-    /// The allocator's error. The numbers 1 to 11 are those of `refused` in docs/INPUT.md; [`RefusalWords`](crate::RefusalWords) names the place.
+    /// The allocator's error. The numbers 1 to 11 are those of `refused` in docs/INPUT.md;
+    /// [`RefusalWords`](crate::RefusalWords) names the place.
     Refused(u32),
     /// A number that `regalloc2_c.h` doesn't list.
     Unknown(u32),

@@ -228,7 +228,8 @@ mod tests {
     const SETTINGS: Settings =
         Settings { entry: 0, num_vregs: 2, slot_sizes: [1, 1, 2], named_by_last_slot: false, several_definitions: true };
 
-    /// A function of two blocks: the first defines v0 and passes it to the parameter v1 of the second, which returns it.
+    /// A function of two blocks: the first defines v0 and passes it to the parameter v1 of the second, which returns
+    /// it.
     fn two_blocks(columns: &mut Columns) {
         let mut registers = MachineWords { scratch: [Some(3), None, Some(129)], ..MachineWords::default() };
         for (index, set) in [(0, 0), (1, 0), (64, 1)] {

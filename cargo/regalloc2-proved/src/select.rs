@@ -127,8 +127,8 @@ impl Proved {
     }
 }
 
-/// Returns the error if no output is accepted: the proved allocator's if upstream has it, else the operand at fault, or the instruction
-/// whose form isn't supported.
+/// Returns the error if no output is accepted: the proved allocator's if upstream has it, else the operand at fault,
+/// or the instruction whose form isn't supported.
 fn error_of(refusal: Refusal, cause: Option<&Cause>) -> RegAllocError {
     let inst = match refusal {
         Refusal::Of(error) => return error,

@@ -1,8 +1,30 @@
-//! A program's command line as a table of arguments, from which a command of `clap` is made.
+//! A program's command line as a table of arguments, from which a command of `clap` is made; its words, and where its
+//! result goes.
 #![tactic(auto)]
 
 use clap::{Arg, ArgAction, Command, value_parser};
 use std::alloc::{AllocError, Global};
+use std::env::{self, Env};
+use std::fs::{File, Files};
+use std::io::{self, Write};
+
+/// Returns the program's words, its name first.
+pub fn words(rt: &(impl Env + AllocGlobal)) -> io::Result<Vec<String>> {
+    Ok(env::args(rt)?.collect(rt.alloc())?)
+}
+
+/// Writes the result `bytes` to the file with the path `output`, or to `stdout` if no path is given.
+pub fn write_result<R: Files, O: Write>(
+    files: &R,
+    output: Option<&str>,
+    bytes: &[u8],
+    stdout: &mut O,
+) -> io::Result<()> {
+    match output {
+        Some(path) => File::create(files, path)?.write_all(bytes),
+        None => stdout.write_all(bytes),
+    }
+}
 
 /// How an argument is given.
 #[derive(Clone, Copy)]
@@ -13,22 +35,25 @@ pub enum Form {
     Words,
     /// An option with its long name and no value.
     Flag,
-    /// An option with its long name and a value, which the help calls so.
+    /// An option with its long name and a value, which the help calls by this name.
     Valued(&'static str),
 }
 
 /// An argument.
 pub struct Argument {
-    /// The command that takes it; empty if each does.
+    /// The command that takes the argument; empty if each does.
     pub command: &'static str,
-    /// The name by which `clap` finds its value: that of the option, or of the word in the help.
+    /// The name by which `clap` finds the value: the option's, or the word's in the help.
     pub id: &'static str,
+    /// How the argument is given.
     pub form: Form,
     /// The option's letter.
     pub short: Option<char>,
+    /// Whether the command needs the argument.
     pub is_required: bool,
-    /// Whether its values are numbers of 64 bits.
+    /// Whether the values are numbers of 64 bits.
     pub is_number: bool,
+    /// What the help says of the argument.
     pub help: &'static str,
 }
 
@@ -43,7 +68,7 @@ pub struct Commands {
     pub after_help: &'static str,
 }
 
-/// The argument of `clap`.
+/// Returns the argument of `clap` for `row` of a table.
 fn arg_of<'a>(alloc: Global, row: &Argument) -> Arg<'a> {
     let arg = Arg::new(alloc, row.id)
         .help(row.help)
@@ -66,7 +91,8 @@ fn arg_of<'a>(alloc: Global, row: &Argument) -> Arg<'a> {
 }
 
 impl Commands {
-    /// The command `name` with its arguments, without subcommands. Fails only if memory runs out.
+    /// Returns the command `name` with its arguments, without subcommands; `about` is what its help says. Fails only if
+    /// memory runs out.
     pub fn command<'a>(
         &self,
         alloc: Global,
@@ -84,7 +110,7 @@ impl Commands {
         Ok(command)
     }
 
-    /// The subcommands, in order. Fails only if memory runs out.
+    /// Returns the subcommands, in order. Fails only if memory runs out.
     pub fn subcommands<'a>(&self, alloc: Global) -> Result<Vec<Command<'a>>, AllocError> {
         let mut commands = Vec::new(alloc);
         for (name, about) in self.subcommands {

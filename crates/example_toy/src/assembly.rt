@@ -30,12 +30,12 @@ impl fmt::Display for PlaceText {
     }
 }
 
-/// The place of an operand.
+/// Returns the place of operand `k` among `places`.
 fn place_at(places: &[Allocation], k: usize) -> PlaceText {
     PlaceText(places.get(k).copied().unwrap_or(Allocation::none()))
 }
 
-/// The number of a block that others lead to.
+/// Returns the number of successor `k` among `succs`.
 fn label_at(succs: &[Block], k: usize) -> usize {
     match succs.get(k) {
         Some(succ) => succ.index(),
@@ -43,7 +43,7 @@ fn label_at(succs: &[Block], k: usize) -> usize {
     }
 }
 
-/// Writes what a line does, with its operands' places.
+/// Writes what the line `inst` of `block` does, with its operands' places.
 fn write_line<W: Write>(
     code: &Code,
     output: &Output,
@@ -78,7 +78,8 @@ fn write_line<W: Write>(
     }
 }
 
-/// Writes a line or a move of a block. No move goes from a stack place to another, so each is one instruction.
+/// Writes `item`, a line or a move of `block`. No move goes from a stack place to another, so each is one
+/// instruction.
 fn write_item<W: Write>(
     code: &Code,
     output: &Output,
@@ -101,7 +102,7 @@ fn write_item<W: Write>(
     }
 }
 
-/// Writes a block: its label, then its lines and moves in their order.
+/// Writes `block`: its label, then its lines and moves in their order.
 fn write_block<W: Write>(code: &Code, output: &Output, block: Block, w: &mut W) -> io::Result<()>
     requires in_order { IsInOrder (function_of code.now) (output_of output.now) }
     requires block { block < length (function_of code.now).blocks }
@@ -116,7 +117,7 @@ fn write_block<W: Write>(code: &Code, output: &Output, block: Block, w: &mut W) 
     Ok(())
 }
 
-/// Writes an allocated program as a function `toy` of one number.
+/// Writes the program `code`, of which `output` is an allocation, as a function `toy` of one number.
 pub fn write_assembly<W: Write>(code: &Code, output: &Output, w: &mut W) -> io::Result<()>
     requires in_order { IsInOrder (function_of code.now) (output_of output.now) }
 {

@@ -1,8 +1,9 @@
-//! A call is lowered to the System V convention of x86-64, and its moves are written as assembly. This is done twice: with free registers,
-//! and without any.
+//! A call is lowered to the System V convention of x86-64, and its moves are written as assembly. This is done twice:
+//! with free registers, and without any.
 //!
-//! Integers go to `rdi`, `rsi`, `rdx`, `rcx`, `r8` and `r9`, floats to `xmm0` up to `xmm7`, and what is left to the stack, from `[rsp]`
-//! on. The slots of the frame are at `[rsp]`, `[rsp + 8]` and so on, of which the first ones are kept for such arguments.
+//! Integers go to `rdi`, `rsi`, `rdx`, `rcx`, `r8` and `r9`, floats to `xmm0` up to `xmm7`, and what is left to the
+//! stack, from `[rsp]` on. The slots of the frame are at `[rsp]`, `[rsp + 8]` and so on, of which the first ones are
+//! kept for such arguments.
 
 ghost use Rattle.std.specs.Prelude.{◌≤◌, IfOk};
 
@@ -12,8 +13,8 @@ use regalloc2::{Allocation, PReg, PRegSet, RegClass};
 use std::alloc::{AllocError, Global};
 use std::io::{self, Write};
 
-/// Where the arguments of the call are before it, with their classes. In each class two registers change places; of the last three
-/// integers two go from slot to slot.
+/// Where the arguments of the call are before it, with their classes. In each class two registers change places; of
+/// the last three integers two go from slot to slot.
 fn arguments() -> [(RegClass, Allocation); 11] {
     let (rax, rdx, rbx, rsi, rdi) = (int(0), int(2), int(3), int(6), int(7));
     [
@@ -53,7 +54,7 @@ fn frame_of(alloc: Global, class: RegClass, free: &[PReg]) -> Result<CallFrame, 
     })
 }
 
-/// The moves of the arguments of a class, from where they are to where the convention has them.
+/// Returns the moves of the arguments of `class`, from where they are to where the convention has them.
 fn moves_of(alloc: Global, class: RegClass) -> Result<Vec<(Allocation, Allocation)>, AllocError> {
     let mut moves = Vec::new(alloc);
     let mut convention = Convention::new();
@@ -66,7 +67,7 @@ fn moves_of(alloc: Global, class: RegClass) -> Result<Vec<(Allocation, Allocatio
     Ok(moves)
 }
 
-/// Writes the moves of a class in an order in which they can be made.
+/// Writes `moves`, of one class, by `instruction` in an order in which they can be made.
 fn write_moves<W: Write>(
     alloc: Global,
     out: &mut W,
@@ -91,8 +92,8 @@ fn write_moves<W: Write>(
 
 /// Writes the call, if the registers `free` are free.
 ///
-/// A move of one class neither reads nor writes what a move of the other class writes: arguments go to the first slots, and come from
-/// others. Therefore the classes follow one another.
+/// A move of one class neither reads nor writes what a move of the other class writes: arguments go to the first
+/// slots, and come from others. Therefore the classes follow one another.
 fn write_call<W: Write>(alloc: Global, out: &mut W, free: &[PReg]) -> io::Result<()> {
     for (class, instruction) in [(RegClass::Int, "mov"), (RegClass::Float, "movsd")] {
         let moves = moves_of(alloc, class)?;
@@ -104,7 +105,8 @@ fn write_call<W: Write>(alloc: Global, out: &mut W, free: &[PReg]) -> io::Result
 
 /// Writes the call twice: if some registers are free, and if none is.
 ///
-/// Nothing runs these lines, which are assembled behind the function. `blend` is weak, so that they can be linked without it.
+/// Nothing runs these lines, which are assembled behind the function. `blend` is weak, so that they can be linked
+/// without it.
 pub fn write_calls<W: Write>(alloc: Global, out: &mut W) -> io::Result<()> {
     writeln!(
         out,

@@ -64,7 +64,8 @@ pub struct Code {
 }
 
 impl Code {
-    /// The program of these blocks and lines, unless they are too many.
+    /// The program of the blocks `parts` and the lines `lines`, with vregs below `num_vregs`, unless they are too
+    /// many.
     pub fn new(parts: Vec<Part>, lines: Vec<Line>, num_vregs: usize) -> Option<Code>
         ensures some { IfSome result (λ c. (c.parts ≡ parts) × (c.lines ≡ lines) × (c.num_vregs ≡ num_vregs)) }
         ensures none { IfNone result ((1000000 < vec_len parts) ⊎ (1000000 < vec_len lines) ⊎ (1000000 < num_vregs)) }

@@ -6,21 +6,21 @@ use super::assembly::NAMES;
 use regalloc2::{Allocation, PReg, RegClass, SpillSlot};
 use std::fmt;
 
-/// The general register of that number.
+/// Returns the general register with the number `number`.
 pub fn int(number: usize) -> PReg
     requires { number ≤ 15 }
 {
     PReg::new(number, RegClass::Int)
 }
 
-/// The float register of that number.
+/// Returns the float register with the number `number`.
 pub fn xmm(number: usize) -> PReg
     requires { number ≤ 15 }
 {
     PReg::new(number, RegClass::Float)
 }
 
-/// The slot of that number.
+/// Returns the slot with the number `number`.
 pub fn slot(number: u8) -> Allocation {
     Allocation::stack(SpillSlot::new(usize::from(number)))
 }
@@ -65,7 +65,7 @@ impl Convention {
         }
     }
 
-    /// The register of the next argument, which has that class, if there is one left.
+    /// Returns the register of the next argument, of `class`, if there is one left.
     fn next_register(&mut self, class: RegClass) -> Option<PReg> {
         if class == RegClass::Int {
             let before = self.ints;
@@ -78,7 +78,7 @@ impl Convention {
         }
     }
 
-    /// The place of the next argument, which has that class.
+    /// Returns the place of the next argument, of `class`.
     pub fn next(&mut self, class: RegClass) -> Allocation {
         match self.next_register(class) {
             Some(preg) => Allocation::reg(preg),

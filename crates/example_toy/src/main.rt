@@ -1,9 +1,9 @@
-//! The tutorial of the allocator, in two parts. A program with a loop is allocated, and written as assembly for x86-64. Then the moves of a
-//! call are put in order, and written, too.
+//! The tutorial of the allocator, in two parts. A program with a loop is allocated, and written as assembly for
+//! x86-64. Then the moves of a call are put in order, and written, too.
 //!
-//! Copy it, and change the representation. `code` has what the allocator asks of a program, `assembly` what is emitted from
-//! its listing, and this file builds a program, describes the machine, and calls the allocator. `call` lowers a call, and `convention` has
-//! the places of its arguments.
+//! Copy it, and change the representation. `code` has what the allocator asks of a program, `assembly` what is
+//! emitted from its listing, and this file builds a program, describes the machine, and calls the allocator. `call`
+//! lowers a call, and `convention` has the places of its arguments.
 #![tactic(auto)]
 
 ghost use Rattle.std.specs.Prelude.{◌≡◌, ◌<◌, ◌≤◌};
@@ -22,7 +22,7 @@ use regalloc2::{
 };
 use std::alloc::{AllocError, Global};
 
-/// An integer register.
+/// Returns the integer register with the number `number`.
 fn register(number: usize) -> PReg
     requires { number ≤ 63 }
     ensures { result ≡ record { number = number; class = RegClass.Int } }
@@ -30,7 +30,7 @@ fn register(number: usize) -> PReg
     PReg::new(number, RegClass::Int)
 }
 
-/// The register of a number in the class of a vreg.
+/// Returns the register with the number `number` in the class of `vreg`.
 fn register_for(vreg: VReg, number: usize) -> PReg
     requires { number ≤ 63 }
     ensures { result.class ≡ vreg.class }
@@ -38,7 +38,7 @@ fn register_for(vreg: VReg, number: usize) -> PReg
     PReg::new(number, vreg.class())
 }
 
-/// An integer vreg.
+/// Returns the integer vreg with the number `number`.
 fn value(number: usize) -> VReg
     requires { number < 100 }
     ensures { result ≡ record { number = number; class = RegClass.Int } }
@@ -46,7 +46,7 @@ fn value(number: usize) -> VReg
     VReg::new(number, RegClass::Int)
 }
 
-/// Adds a line that overwrites nothing beside its definitions.
+/// Adds a line of `kind` with `operands` to `lines`. It overwrites nothing beside its definitions.
 fn add_line(
     alloc: Global,
     lines: &mut Vec<Line>,
@@ -61,7 +61,7 @@ fn add_line(
     Ok(())
 }
 
-/// Lets a block go on to others, with arguments.
+/// Gives the block `part` the successors `succs`, each with the arguments that it gets.
 fn add_succs(alloc: Global, part: &mut Part, succs: &[(Block, &[VReg])]) -> Result<(), AllocError> {
     for (succ, arguments) in succs {
         part.succs.push(*succ)?;
@@ -70,7 +70,7 @@ fn add_succs(alloc: Global, part: &mut Part, succs: &[(Block, &[VReg])]) -> Resu
     Ok(())
 }
 
-/// Adds a block of the lines from one up to another.
+/// Adds a block of the lines from `lines.0` up to `lines.1` to `parts`.
 fn add_part(
     alloc: Global,
     parts: &mut Vec<Part>,
@@ -93,7 +93,7 @@ fn add_part(
     Ok(())
 }
 
-/// Adds the lines of `sum`: its start, the head of the loop, its body and its end.
+/// Adds the lines of `sum` to `lines`: its start, the head of the loop, its body and its end. `v` has the vregs.
 fn add_lines_of_sum(alloc: Global, lines: &mut Vec<Line>, v: &[VReg; 7]) -> Result<(), AllocError> {
     let [v0, v1, v2, v3, v4, v5, v6] = *v;
     let argument = [Operand::reg_fixed_def(v0, register_for(v0, 7))];
@@ -125,7 +125,7 @@ fn add_lines_of_sum(alloc: Global, lines: &mut Vec<Line>, v: &[VReg; 7]) -> Resu
     Ok(())
 }
 
-/// Adds the blocks of `sum`.
+/// Adds the blocks of `sum` to `parts`. `v` has the vregs.
 fn add_parts_of_sum(alloc: Global, parts: &mut Vec<Part>, v: &[VReg; 7]) -> Result<(), AllocError> {
     let [v0, v1, v2, v3, v4, _, v6] = *v;
     let (start, head, body, end) = (Block::new(0), Block::new(1), Block::new(2), Block::new(3));

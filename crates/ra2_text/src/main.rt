@@ -6,18 +6,12 @@
 //! written.
 #![tactic(auto)]
 
-use regalloc2_tool::ra2_text::{Task, UNUSABLE, perform_task};
-use std::env::{self, Env};
+use regalloc2_tool::ra2_text::{Task, UNUSABLE, perform_task, words, write_result};
 use std::fs::File;
 use std::io::{self, Read, Write};
 use std::process::ExitCode;
 
-/// The program's arguments, its name first.
-fn words(rt: &(impl Env + AllocGlobal)) -> io::Result<Vec<String>> {
-    Ok(env::args(rt)?.collect(rt.alloc())?)
-}
-
-/// The bytes of a file; `-` is standard input.
+/// Returns the bytes of the file with the path `path`; `-` is standard input.
 fn bytes_of(rt: &HostRuntime, path: &str) -> io::Result<Vec<u8>> {
     let mut bytes = Vec::new(rt.alloc());
     if path == "-" {
@@ -28,7 +22,7 @@ fn bytes_of(rt: &HostRuntime, path: &str) -> io::Result<Vec<u8>> {
     Ok(bytes)
 }
 
-/// Performs a task with its input, and returns the status. A line of `err` reports a file that can't be read.
+/// Performs `task` with its input, and returns the status. A line of `err` reports a file that can't be read.
 fn perform(rt: &HostRuntime, task: Task<'_>, out: &mut Vec<u8>, err: &mut Vec<u8>) -> u8 {
     let alloc = rt.alloc();
     let bytes = match bytes_of(rt, task.path) {
@@ -47,28 +41,20 @@ fn perform(rt: &HostRuntime, task: Task<'_>, out: &mut Vec<u8>, err: &mut Vec<u8
     }
 }
 
-/// Reports a file that can't be read or written, and returns the status.
+/// Reports `error`: the file with the path `path` can't be read or written. Returns the status.
 fn refuse_file<W: Write>(err: &mut W, path: &str, error: io::Error) -> u8 {
     let _ = writeln!(err, "ra2_text: {path}: {error}");
     UNUSABLE
 }
 
-/// Writes the result to the task's file, or else to standard output.
-fn write_result(rt: &HostRuntime, task: Task<'_>, bytes: &[u8]) -> io::Result<()> {
-    match task.output {
-        Some(path) => File::create(rt, path)?.write_all(bytes),
-        None => rt.stdout().write_all(bytes),
-    }
-}
-
-/// Performs a task, writes its errors and its result, and returns the status.
+/// Performs `task`, writes its errors and its result, and returns the status.
 ///
 /// The result is written when all of it is made, so a file that is read may be the one that is written.
 fn perform_all(rt: &HostRuntime, task: Task<'_>) -> u8 {
     let (mut out, mut err) = (Vec::new(rt.alloc()), Vec::new(rt.alloc()));
     let status = perform(rt, task, &mut out, &mut err);
     let _ = rt.stderr().write_all(err.as_slice());
-    match write_result(rt, task, out.as_slice()) {
+    match write_result(rt, task.output, out.as_slice(), &mut rt.stdout()) {
         Ok(()) => status,
         Err(error) => {
             let path = task.output.unwrap_or("standard output");

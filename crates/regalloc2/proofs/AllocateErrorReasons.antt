@@ -9,14 +9,14 @@ use Rattle.regalloc2.specs.declared.checked.CheckedRunError.{CheckedRunError}
 use Rattle.regalloc2.specs.declared.checked.CheckedRunError.TheVariants.{Refused, Faults, Unjudged}
 
 -- on a fitting machine, the reason of a checked run's error is the reason of the error that `allocate` makes of it
-pub reason_told : {A : Type 0} (f : FunctionValue) (env : MachineValue) (e : CheckedRunError A) → MachineFits f env → IsCheckedReason f env true e →
+pub allocate_reason : {A : Type 0} (f : FunctionValue) (env : MachineValue) (e : CheckedRunError A) → MachineFits f env → IsCheckedReason f env true e →
     IsAllocateReason f env (allocate_error e)
-reason_told f env (Refused r) fits h = (fits, h)
-reason_told f env (Faults es) fits h = (fits, h)
-reason_told f env Unjudged fits h = (fits, h)
+allocate_reason f env (Refused r) fits h = (fits, h)
+allocate_reason f env (Faults es) fits h = (fits, h)
+allocate_reason f env Unjudged fits h = (fits, h)
 
 -- where a checked run's error isn't that the checker found errors, neither is the error that `allocate` makes of it
-pub fault_told : {A : Type 0} (e : CheckedRunError A) → (IsFault e → ⊥) → IsAllocateFault (allocate_error e) → ⊥
-fault_told (Refused r) h = h
-fault_told (Faults es) h = h
-fault_told Unjudged h = h
+pub no_allocate_fault : {A : Type 0} (e : CheckedRunError A) → (IsFault e → ⊥) → IsAllocateFault (allocate_error e) → ⊥
+no_allocate_fault (Refused r) h = h
+no_allocate_fault (Faults es) h = h
+no_allocate_fault Unjudged h = h

@@ -17,22 +17,22 @@ use Rattle.regalloc2.specs.declared.checked.CheckedRunError.TheVariants.{Faults,
 use Rattle.regalloc2.specs.Judged.{IsCheckedReason, IsFault}
 
 -- the error of an output that isn't accepted
-abbrev pub IsFound : {A : Type 0} → FunctionValue → MachineValue → OutputValue → CheckedRunError A → Type 0
-IsFound {A} f env out e = (e ≡ Unjudged) ⊎ ((es : CheckerErrors A) × (e ≡ Faults es) × (IsFaithful f env out → ⊥) × IsReport f env out (errors_of es))
+abbrev pub IsCheckerFailure : {A : Type 0} → FunctionValue → MachineValue → OutputValue → CheckedRunError A → Type 0
+IsCheckerFailure {A} f env out e = (e ≡ Unjudged) ⊎ ((es : CheckerErrors A) × (e ≡ Faults es) × (IsFaithful f env out → ⊥) × IsReport f env out (errors_of es))
 
 -- an output's errors, as a checked run reports them
-pub told : {A : Type 0} (f : FunctionValue) (env : MachineValue) (out : OutputValue) (es : CheckerErrors A) (e : CheckedRunError A) →
+pub checker_failure : {A : Type 0} (f : FunctionValue) (env : MachineValue) (out : OutputValue) (es : CheckerErrors A) (e : CheckedRunError A) →
     (errors_of es ≡ Memory ∷ []) ⊎ ((IsFaithful f env out → ⊥) × IsReport f env out (errors_of es)) →
-    ((errors_of es ≡ Memory ∷ []) × (e ≡ Unjudged)) ⊎ ((errors_of es ≡ Memory ∷ [] → ⊥) × (e ≡ Faults es)) → IsFound f env out e
-told f env out es e found (inl h) = inl h.1
-told f env out es e (inl m) (inr h) = absurd (h.0 m)
-told f env out es e (inr r) (inr h) = inr (es, h.1, r.0, r.1)
+    ((errors_of es ≡ Memory ∷ []) × (e ≡ Unjudged)) ⊎ ((errors_of es ≡ Memory ∷ [] → ⊥) × (e ≡ Faults es)) → IsCheckerFailure f env out e
+checker_failure f env out es e found (inl h) = inl h.1
+checker_failure f env out es e (inl m) (inr h) = absurd (h.0 m)
+checker_failure f env out es e (inr r) (inr h) = inr (es, h.1, r.0, r.1)
 
 -- the reason that they give
-pub reason : {A : Type 0} (f : FunctionValue) (env : MachineValue) (asked : Bool) (out : OutputValue) (e : CheckedRunError A) → IsAllocation f env out →
-    PassesAllChecks f env asked → IsFound f env out e → IsCheckedReason f env asked e
-reason f env asked out e made owed (inl h) = rw h owed
-reason f env asked out e made owed (inr h) = rw h.1 (out, made, owed, h.2, h.3)
+pub checked_reason : {A : Type 0} (f : FunctionValue) (env : MachineValue) (asked : Bool) (out : OutputValue) (e : CheckedRunError A) → IsAllocation f env out →
+    PassesAllChecks f env asked → IsCheckerFailure f env out e → IsCheckedReason f env asked e
+checked_reason f env asked out e made owed (inl h) = rw h owed
+checked_reason f env asked out e made owed (inr h) = rw h.1 (out, made, owed, h.2, h.3)
 
 -- what the checker finds for a function and a machine it finds for equal ones
 pub same_found : {F A : Type 0} (value : F → FunctionValue) (x y : F) (m n : MachineValue) (out : OutputValue) (es : List (CheckerError A)) → x ≡ y → m ≡ n →
@@ -43,7 +43,7 @@ same_found {F = F} value x y m n out es p q h =
     (subst (λ (k : MachineValue). (es ≡ Memory ∷ []) ⊎ ((IsFaithful (value x) k out → ⊥) × IsReport (value x) k out es)) q h)
 
 -- in a faithful output no error is found
-pub no_fault : {A : Type 0} (f : FunctionValue) (env : MachineValue) (out : OutputValue) (e : CheckedRunError A) → IsFaithful f env out → IsFound f env out e →
+pub no_fault_where_faithful : {A : Type 0} (f : FunctionValue) (env : MachineValue) (out : OutputValue) (e : CheckedRunError A) → IsFaithful f env out → IsCheckerFailure f env out e →
     IsFault e → ⊥
-no_fault f env out e faithful (inl h) fault = rw h at fault
-no_fault f env out e faithful (inr h) fault = h.2 faithful
+no_fault_where_faithful f env out e faithful (inl h) fault = rw h at fault
+no_fault_where_faithful f env out e faithful (inr h) fault = h.2 faithful

@@ -8,7 +8,7 @@ use Rattle.regalloc2_function.specs.Machine.{MachineValue}
 use Rattle.regalloc2_function.specs.OutputValue.{OutputValue}
 use Rattle.regalloc2_fastalloc.specs.ErrorReason.{HasFewOperands}
 use Rattle.regalloc2.specs.Allocated.{allocate_error}
-use Rattle.regalloc2.proofs.CheckerErrorReasons.{IsFound}
+use Rattle.regalloc2.proofs.CheckerErrorReasons.{IsCheckerFailure}
 use Rattle.regalloc2.specs.declared.checked.CheckedRunError.{CheckedRunError}
 use Rattle.regalloc2.specs.declared.checked.CheckedRunError.TheVariants.{Refused, Faults, Unjudged}
 use Rattle.regalloc2.specs.declared.tested.AllocateError.{AllocateError}
@@ -37,14 +37,14 @@ refused_counted {A = A} {T = T} {U = U} r h = (
 
 -- the checker's errors don't say it
 pub found_counted : {A U : Type 0} (f : FunctionValue) (env : MachineValue) (out : OutputValue) (e : CheckedRunError A) → HasFewOperands f →
-    IsFound f env out e → FailsWith U (CheckedRunError A) (Err e) (Refused TooManyOperands) ↔ (2 ^ 32 ≤ operand_count f)
+    IsCheckerFailure f env out e → FailsWith U (CheckedRunError A) (Err e) (Refused TooManyOperands) ↔ (2 ^ 32 ≤ operand_count f)
 found_counted f env out e few (inl h) = few_counted f few (λ q. absurd cc)
 found_counted f env out e few (inr h) = few_counted f few (λ q. let is = h.1 in absurd cc)
 
 -- a checked run's error says it as the error that `allocate` makes of it
-pub told_counted : {A T U P : Type 0} (e : CheckedRunError A) → FailsWith T (CheckedRunError A) (Err e) (Refused TooManyOperands) ↔ P →
+pub checked_run_counted : {A T U P : Type 0} (e : CheckedRunError A) → FailsWith T (CheckedRunError A) (Err e) (Refused TooManyOperands) ↔ P →
     FailsWith U (AllocateError A) (Err (allocate_error e)) (AllocateRefused TooManyOperands) ↔ P
-told_counted {A = A} {T = T} {U = U} (Refused r) h = (
+checked_run_counted {A = A} {T = T} {U = U} (Refused r) h = (
   λ e.
       let same : r ≡ TooManyOperands = cc in
       h.0 (ap (λ (x : RegAllocError). Err (Refused x)) same),
@@ -53,8 +53,8 @@ told_counted {A = A} {T = T} {U = U} (Refused r) h = (
       let same : r ≡ TooManyOperands = cc in
       ap (λ (x : RegAllocError). Err (AllocateRefused x)) same,
 )
-told_counted (Faults es) h = (λ e. absurd cc, λ p. let said = h.1 p in absurd cc)
-told_counted Unjudged h = (λ e. absurd cc, λ p. let said = h.1 p in absurd cc)
+checked_run_counted (Faults es) h = (λ e. absurd cc, λ p. let said = h.1 p in absurd cc)
+checked_run_counted Unjudged h = (λ e. absurd cc, λ p. let said = h.1 p in absurd cc)
 
 -- a run's error says it as the refusal of `allocate_without_checker`, and of `run_tested`
 pub allocate_counted : {A T U P : Type 0} (r : RegAllocError) → FailsWith T RegAllocError (Err r) TooManyOperands ↔ P →

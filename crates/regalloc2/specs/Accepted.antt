@@ -16,12 +16,13 @@ pub record IsPromised (f : FunctionValue) (env : MachineValue) (out : OutputValu
   pub runs : IsWrittenFirst f → RunsAsTheFunction f env out
 
 -- the checker takes an output, and finds nothing in it
-pub record IsAccepted (A : Type 0) (f : FunctionValue) (env : MachineValue) (out : OutputValue) : Type 0 where
+pub record IsAcceptedByChecker (A : Type 0) (f : FunctionValue) (env : MachineValue) (out : OutputValue) : Type 0 where
   pub in_order : IsInOrder f out
   pub faithful : IsFaithful f env out
   pub no_errors : (es : List (CheckerError A)) → IsReport f env out es → es ≡ []
 
--- of a well-formed function in which no path from the entry reads or passes a vreg before writing it, what is guaranteed is accepted
+-- of a well-formed function in which no path from the entry reads or passes a vreg before writing it, what is
+-- guaranteed is accepted
 abbrev pub PromisedIsAccepted : Type 0 → Type 0
 PromisedIsAccepted A = (f : FunctionValue) (env : MachineValue) (out : OutputValue) → IsWellFormed env f → IsWrittenFirst f → IsPromised f env out →
-    IsAccepted A f env out
+    IsAcceptedByChecker A f env out

@@ -1,4 +1,5 @@
--- Why `allocate` returns no output. Whether the machine fits the function is tested first; what follows is a checked run's.
+-- Why `allocate` returns no output. Whether the machine fits the function is tested first; what follows is a checked
+-- run's.
 use Rattle.std.specs.Prelude.{true}
 use Rattle.regalloc2_function.specs.FunctionValue.{FunctionValue}
 use Rattle.regalloc2_function.specs.Machine.{MachineValue}
@@ -27,7 +28,8 @@ IsAllocateFault (Refused r) = ⊥
 IsAllocateFault (Faults es) = Unit {0}
 IsAllocateFault Unjudged = ⊥
 
--- the reason that an error gives: the first condition of a fitting machine that fails, or, where none fails, what a checked run says of the function
+-- the reason that an error gives: the first condition of a fitting machine that fails, or, where none fails, what a
+-- checked run says of the function
 abbrev pub IsAllocateReason : {A : Type 0} → FunctionValue → MachineValue → AllocateError A → Type 0
 IsAllocateReason f env (Misfit m) = IsMisfit f env m × (MachineFits f env → ⊥)
 IsAllocateReason f env (Refused r) = MachineFits f env × IsReason f env true r
@@ -41,8 +43,8 @@ IsTestedReason f env (Refused r) = MachineFits f env × IsReason f env true r
 IsTestedReason f env (Faults es) = ⊥
 IsTestedReason f env Unjudged = ⊥
 
--- why a run that tests everything returns no output: where no condition of a fitting machine fails, what a run says of the function, and last that some path
--- reads or passes a vreg before writing it
+-- why a run that tests everything returns no output: where no condition of a fitting machine fails, what a run says
+-- of the function, and last that some path reads or passes a vreg before writing it
 abbrev pub IsTestedRunReason : FunctionValue → MachineValue → TestedRunError → Type 0
 IsTestedRunReason f env (RunMisfit m) = IsMisfit f env m × (MachineFits f env → ⊥)
 IsTestedRunReason f env (TestRefused r) = MachineFits f env × IsReason f env true r

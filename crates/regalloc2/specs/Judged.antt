@@ -17,7 +17,8 @@ IsFault (Refused r) = ⊥
 IsFault (Faults es) = Unit {0}
 IsFault Unjudged = ⊥
 
--- the reason that an error gives: that of the allocator's error, or the errors of what it allocated, which isn't faithful
+-- the reason that an error gives: that of the allocator's error, or the errors of what it allocated, which isn't
+-- faithful
 abbrev pub IsCheckedReason : {A : Type 0} → FunctionValue → MachineValue → Bool → CheckedRunError A → Type 0
 IsCheckedReason f env asked (Refused r) = IsReason f env asked r
 IsCheckedReason f env asked (Faults es) = (out : OutputValue) × IsAllocation f env out × PassesAllChecks f env asked × (IsFaithful f env out → ⊥)

@@ -1,5 +1,7 @@
--- Definitions for the entry points, and definitions of the crates below that contracts name: a client lists no other crate.
--- Read first: `Accepted`: the checker accepts what the allocator guarantees; `Allocated` and `Judged`: errors; `ErrorTexts`: their texts.
+-- Definitions for the entry points, and definitions of the crates below that contracts name: a client lists no other
+-- crate.
+-- Read first: `Accepted`: the checker accepts what the allocator guarantees; `Allocated` and `Judged`: errors;
+-- `ErrorTexts`: their texts.
 -- Depends on regalloc2_fastalloc (`Promise`, `ErrorReason`) and regalloc2_checker (`Report`).
 pub mod Accepted
 pub mod Judged

@@ -53,7 +53,7 @@ impl<A: Allocator> fmt::Display for CheckedRunError<A> {
 
 impl<A: Allocator + fmt::Debug> Error for CheckedRunError<A> {}
 
-/// The error that the checker's errors come to: `Unjudged` exactly where they are `Memory` alone.
+/// Returns the error for the checker's `errors`: `Unjudged` exactly if they are `Memory` alone.
 fn error_of<A: Allocator>(errors: CheckerErrors<A>) -> CheckedRunError<A>
     ensures { ((errors_of errors ≡ CheckerError.Memory ∷ []) × (result ≡ CheckedRunError.Unjudged))
         ⊎ ((errors_of errors ≡ CheckerError.Memory ∷ [] → ⊥) × (result ≡ CheckedRunError.Faults errors)) }
@@ -64,7 +64,7 @@ fn error_of<A: Allocator>(errors: CheckerErrors<A>) -> CheckedRunError<A>
     }
 }
 
-/// Has the checker check an output that is well-ordered.
+/// Runs the checker on `out`, a well-ordered output of `f`.
 fn judge<A: Allocator + Copy, F: Function, B: Allocator>(
     alloc: A,
     f: &F,
@@ -90,12 +90,12 @@ fn judge<A: Allocator + Copy, F: Function, B: Allocator>(
     }
 }
 
-/// Allocates registers to a function as [`run`] does, and returns the output only where the checker
-/// accepts it.
+/// Allocates registers to `f` as [`run`] does, and returns the output only if the checker accepts it.
 ///
-/// Preconditions and guarantees on the output are as in `run`. Besides, the output is faithful, whether or not a path reads or passes a vreg before writing it. If none does, the
-/// checker finds no error, so the only error that it adds is `Unjudged`. `Faults` holds the errors
-/// of an output with all that `run` guarantees of its outputs.
+/// Preconditions and guarantees on the output are as in `run`. In addition, the output is faithful, whether or not a
+/// path reads or passes a vreg before writing it. If none does, the checker finds no error, and the only error that
+/// this call adds is `Unjudged`. `Faults` holds the errors of an output with all that `run` guarantees of its
+/// outputs.
 pub fn run_checked<A: Allocator + Copy, F: Function, B: Allocator>(
     alloc: A,
     f: &F,
@@ -116,8 +116,6 @@ pub fn run_checked<A: Allocator + Copy, F: Function, B: Allocator>(
         Ok(out) => out,
         Err(error) => return Err(CheckedRunError::Refused(error)),
     };
-    match judge(alloc, f, env, &out) {
-        Ok(()) => Ok(out),
-        Err(error) => Err(error),
-    }
+    judge(alloc, f, env, &out)?;
+    Ok(out)
 }

@@ -5,9 +5,9 @@
 //! [`MachineEnv`], calls [`run_tested`], and reads the [`Output`]. [`run_tested`] has no preconditions: it tests the
 //! machine, the function, and that no path reads or passes a vreg before writing it. [`allocate`] has none either: it
 //! tests the machine and the function, and returns only an output that the checker accepts.
-//! [`allocate_without_checker`] makes the same tests and skips the checker. [`run`] and [`run_checked`] don't test the machine, which their caller
-//! proves to fit; a [`checker::Checker`] checks any output. Each item's guarantees are in its own
-//! documentation, in terms of this crate's `specs`, which passes on the `specs` of the crates below.
+//! [`allocate_without_checker`] makes the same tests and skips the checker. [`run`] and [`run_checked`] don't test
+//! the machine, which their caller proves to fit; a [`checker::Checker`] checks any output. Each item's guarantees
+//! are in its own documentation, in terms of this crate's `specs`, which passes on the `specs` of the crates below.
 #![tactic(auto)]
 
 mod checked;

@@ -99,7 +99,7 @@ const TESTED: RegallocOptions = RegallocOptions {
     algorithm: Algorithm::Fastalloc,
 };
 
-/// The error that a checked run's is.
+/// Returns the error of `allocate` for `error`, of a checked run.
 fn error_from<A: Allocator>(error: CheckedRunError<A>) -> AllocateError<A>
     ensures { result ≡ allocate_error error }
 {
@@ -110,18 +110,17 @@ fn error_from<A: Allocator>(error: CheckedRunError<A>) -> AllocateError<A>
     }
 }
 
-/// Allocates registers to any function for any machine, and returns an output that the checker
-/// accepts.
+/// Allocates registers to `f` for the machine `env`, and returns an output that the checker accepts.
 ///
-/// It has no preconditions: it tests that the machine fits the function, as [`test_machine`] does,
-/// and then makes a [`run_checked`] with all tests of the function. [`run_tested`] needs no checker,
-/// and rejects a function that may read before it writes. The output is faithful: along every path each use reads the function's own value,
-/// every constraint is met, and no move goes from a stack place to another; and it has all that
-/// [`run`] guarantees.
+/// Has no preconditions: it tests that the machine fits the function, as [`test_machine`] does, and then makes a
+/// [`run_checked`] with all tests of the function. [`run_tested`] needs no checker, and rejects a function that may
+/// read before it writes. The output is faithful: along every path each use reads the function's own value, every
+/// constraint is met, and no move goes from a stack place to another. In addition, it has all that [`run`]
+/// guarantees.
 ///
-/// An error is the first condition of a fitting machine that fails, the first test of the function that fails, or says that
-/// registers, slots or memory ran out. If no path from the entry reads or passes a vreg before writing it, it is never
-/// `Faults`.
+/// An error is the first condition of a fitting machine that fails, the first test of the function that fails, or
+/// says that registers, slots or memory ran out. If no path from the entry reads or passes a vreg before writing it,
+/// the error is never `Faults`.
 ///
 /// The checker takes several times as long as the allocation. [`allocate_without_checker`] does without it.
 pub fn allocate<A: Allocator + Copy, F: Function, B: Allocator>(
@@ -148,12 +147,10 @@ pub fn allocate<A: Allocator + Copy, F: Function, B: Allocator>(
     }
 }
 
-/// Allocates registers to any function for any machine, as [`allocate`] does, and skips the
-/// checker.
+/// Allocates registers to `f` for the machine `env`, as [`allocate`] does, and skips the checker.
 ///
-/// Tests and errors are as in [`allocate`], but never `Faults` or `Unjudged`. The output has all
-/// that [`run`] guarantees: it is faithful if no path from the entry reads or passes a vreg before
-/// writing it.
+/// Tests and errors are as in [`allocate`], but never `Faults` or `Unjudged`. The output has all that [`run`]
+/// guarantees: it is faithful if no path from the entry reads or passes a vreg before writing it.
 pub fn allocate_without_checker<A: Allocator + Copy, F: Function, B: Allocator>(
     alloc: A,
     f: &F,
@@ -176,21 +173,19 @@ pub fn allocate_without_checker<A: Allocator + Copy, F: Function, B: Allocator>(
     }
 }
 
-/// Allocates registers to any function for any machine, and tests all that the guarantees of
-/// [`run`] rest on.
+/// Allocates registers to `f` for the machine `env`, and tests all that the guarantees of [`run`] rest on.
 ///
-/// Tests that the machine fits the function, as [`test_machine`] does, makes a `run` with all
-/// tests of the function, and tests by [`reads_written`] whether some path from the entry reads or
-/// passes a vreg before writing it. So nothing is left to assume: the output runs as the function
-/// does, along every path and whatever the instructions compute. Where a path enters a block, the
-/// slot of each vreg that is live there holds its value, or the place where the branch into the
-/// block left it does.
+/// Tests that the machine fits the function, as [`test_machine`] does, makes a `run` with all tests of the function,
+/// and tests by [`reads_written`] whether some path from the entry reads or passes a vreg before writing it. Nothing
+/// is left to assume: the output runs as the function does, along every path and whatever the instructions compute.
+/// Where a path enters a block, the value of each vreg that is live there is in the vreg's slot, or in the place
+/// where the branch into the block left it.
 ///
-/// An error is the first condition of a fitting machine that fails, else what `run` says of the
-/// function, else `ReadBeforeWritten`. The checker isn't run: [`allocate`] runs it, and accepts
-/// functions that read or pass before writing where the checker accepts the output.
+/// An error is the first condition of a fitting machine that fails, else what `run` says of the function, else
+/// `ReadBeforeWritten`. The checker isn't run: [`allocate`] runs it, and accepts functions that read or pass before
+/// writing if the checker accepts the output.
 ///
-/// Not guaranteed: that `Memory` is returned only where memory ran out.
+/// Not guaranteed: that `Memory` is returned only if memory ran out.
 pub fn run_tested<A: Allocator + Copy, F: Function, B: Allocator>(
     alloc: A,
     f: &F,

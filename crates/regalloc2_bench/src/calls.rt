@@ -19,7 +19,7 @@ pub enum Shape {
 }
 
 impl Shape {
-    /// The shape that an argument names.
+    /// Returns the shape that `word` names.
     pub fn of(word: &str) -> Option<Shape> {
         match word {
             "callmoves-cycle" => Some(Shape::Cycle),

@@ -35,7 +35,7 @@ enum Measure {
     Call(Shape, usize, usize),
 }
 
-/// What the arguments request.
+/// Returns what `words` request.
 fn measure_of(words: &[String]) -> Option<Measure> {
     let word = words.get(0)?.as_str();
     let times = words.get(1)?.parse().ok()?;

@@ -31,7 +31,7 @@ pub enum Task {
 }
 
 impl Task {
-    /// The task that an argument names.
+    /// Returns the task that `word` names.
     pub fn of(word: &str) -> Option<Task> {
         match word {
             "allocate" => Some(Task::Allocate),
@@ -57,7 +57,7 @@ const UNTESTED: RegallocOptions = RegallocOptions {
     algorithm: Algorithm::Fastalloc,
 };
 
-/// Whether the checker accepts an output.
+/// Returns whether the checker accepts `output`.
 fn is_accepted<F: Function>(alloc: Global, f: &F, env: &MachineEnv, output: &Output) -> bool
     requires { IsWellFormed (machine_of env.now) (F.function f.now) }
 {
@@ -67,17 +67,17 @@ fn is_accepted<F: Function>(alloc: Global, f: &F, env: &MachineEnv, output: &Out
     checker.prepare(output).is_ok() && checker.run().is_ok()
 }
 
-/// Whether it was found out whether reads come after writes.
+/// Returns whether it was found out whether the reads of `f` come after writes.
 fn is_asked<F: Function>(alloc: Global, f: &F) -> bool {
     is_framed(f) && reads_written(alloc, f).is_ok()
 }
 
-/// Whether the dominator tree and one search decide whether reads come after writes.
+/// Returns whether the dominator tree and one search decide whether the reads of `f` come after writes.
 fn is_decided<F: Function>(alloc: Global, f: &F) -> bool {
     is_framed(f) && matches!(decided_by_tree(alloc, f), Ok(Some(_)))
 }
 
-/// Whether a task was done with a function that was allocated.
+/// Returns whether `task` was done with `f`, of which `output` is an allocation.
 fn is_done<F: Function>(alloc: Global, task: Task, f: &F, env: &MachineEnv, output: &Output) -> bool
     requires machine { MachineFits (F.function f.now) (machine_of env.now) }
     requires well_formed { IsWellFormed (machine_of env.now) (F.function f.now) }

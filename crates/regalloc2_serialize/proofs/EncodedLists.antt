@@ -9,7 +9,7 @@ use Rattle.serde_json.specs.Data.{Data}
 use Rattle.regalloc2_function.specs.declared.serialize.StoredFault.{StoredFault}
 use Rattle.regalloc2_function.specs.declared.serialize.StoredFault.TheVariants.{Memory, Shape}
 use Rattle.regalloc2_serialize.specs.FromJson.{byte, word, long, triple, quadruple, or_null, list, member}
-use Rattle.regalloc2_serialize.specs.JsonShape.{inst, machine, opcode, output, HasJsonShape, IsFunctionAt, IsRefusal}
+use Rattle.regalloc2_serialize.specs.JsonShape.{inst, machine, opcode, output, HasJsonShape, IsFunctionAt, IsShapeFault}
 use Rattle.regalloc2_serialize.specs.declared.data.InstOpcode.{InstOpcode}
 use Rattle.regalloc2_serialize.specs.declared.data.StoredFunction.{StoredFunction}
 
@@ -96,17 +96,17 @@ none-some None e h = absurd cc
 none-some (Some x) e h = absurd cc
 
 -- a missing member, or an allocation that fails, rejects what has it
-pub refused : {X N : Type 0} (e : StoredFault) (o : Option X) → (N → IsSome o) → (e ≡ Shape → o ≡ None) → (e ≡ Shape) ⊎ (e ≡ Memory) → IsRefusal e (N → ⊥)
+pub refused : {X N : Type 0} (e : StoredFault) (o : Option X) → (N → IsSome o) → (e ≡ Shape → o ≡ None) → (e ≡ Shape) ⊎ (e ≡ Memory) → IsShapeFault e (N → ⊥)
 refused e o some none which = record { shape = λ is has. none-some o (none is) (some has); faults = which }
 
 -- the refusal of a part of a function
-pub not-part : {S N : Type 0} (P : S → Type 0) (r : Result S StoredFault) (e : StoredFault) → IsErrAnd r (λ y. y ≡ e) → IsRefusal e N →
-    record { ok : IfOk r P; refused : IfErr r (λ y. IsRefusal y N) }
+pub not-part : {S N : Type 0} (P : S → Type 0) (r : Result S StoredFault) (e : StoredFault) → IsErrAnd r (λ y. y ≡ e) → IsShapeFault e N →
+    record { ok : IfOk r P; refused : IfErr r (λ y. IsShapeFault y N) }
 not-part P r e is h = let p = err_from_is_err_and r is in rw (p.1, p.2) (record { ok = tt; refused = h })
 
 -- the refusal of the whole function
 pub not-function : {A N : Type 0} (d : Data) (r : Result (StoredFunction A) StoredFault) (e : StoredFault) → IsErrAnd r (λ y. y ≡ e) →
-    (HasJsonShape d → N) → IsRefusal e (N → ⊥) → record {
+    (HasJsonShape d → N) → IsShapeFault e (N → ⊥) → record {
       fields : IfOk r (λ s. IsFunctionAt d s);
       shape : IfErr r (λ y. y ≡ Shape → HasJsonShape d → ⊥);
       faults : IfErr r (λ y. (y ≡ Shape) ⊎ (y ≡ Memory));

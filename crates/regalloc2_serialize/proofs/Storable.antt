@@ -8,7 +8,7 @@ use Rattle.regalloc2_index.specs.Range.{Span}
 use Rattle.regalloc2_names.specs.RegisterBits.{vreg_of_bits}
 use Rattle.regalloc2_function.specs.FunctionValue.{label_of}
 use Rattle.regalloc2_serialize.specs.Decoded.{stored_range, stored_label}
-use Rattle.regalloc2_serialize.specs.Encoded.{AreListsOf, ArePartsOf}
+use Rattle.regalloc2_serialize.specs.Encoded.{AreListsOf, HasPartsOf}
 use Rattle.regalloc2_serialize.specs.TableFunction.Table.{block_of_table}
 use Rattle.regalloc2_serialize.specs.Tables.{function_of_serializable}
 use Rattle.regalloc2_serialize.specs.Validity.{HasAllOfEachBlock, HasLengths, AreNumbersWithin, NamesAll, KeepsLimits, NamesItsBlocks}
@@ -49,13 +49,13 @@ all-of-each s bs h counted =
           ∙ sym (counted-alike (λ l. l.items) (λ l. length l.items) (λ b. (block_of_table b).succs) s.block_succs.items bs (λ l. refl) h.succs);
     }
 
-passes-lengths : {A B : Type 0} (s : StoredFunction A) (f : SerializableFunction B) → ArePartsOf s f → HasLengths s
+passes-lengths : {A B : Type 0} (s : StoredFunction A) (f : SerializableFunction B) → HasPartsOf s f → HasLengths s
 passes-lengths s f h = record { blocks = all-of-each s f.function.blocks.items h.lists f.arguments_counted; machine = h.classes; slot_sizes = h.sizes }
 
-block-count : {A B : Type 0} (s : StoredFunction A) (f : SerializableFunction B) → ArePartsOf s f → length s.blocks.items ≡ length f.function.blocks.items
+block-count : {A B : Type 0} (s : StoredFunction A) (f : SerializableFunction B) → HasPartsOf s f → length s.blocks.items ≡ length f.function.blocks.items
 block-count s f h = as-long stored_range (λ b. (block_of_table b).range) s.blocks.items f.function.blocks.items h.lists.ranges
 
-keeps-limits : {A B : Type 0} (s : StoredFunction A) (f : SerializableFunction B) → ArePartsOf s f → KeepsLimits s
+keeps-limits : {A B : Type 0} (s : StoredFunction A) (f : SerializableFunction B) → HasPartsOf s f → KeepsLimits s
 keeps-limits s f h = record {
   insts = omega (arith, h.insts, f.function.few_insts, f.function.insts.ok.0);
   blocks = omega (arith, block-count s f h, f.function.few_blocks, f.function.blocks.ok.0);
@@ -64,7 +64,7 @@ keeps-limits s f h = record {
 }
 
 -- whatever the function's blocks name, its numbers pass the tests of lengths, names and limits
-pub passes : {A B : Type 0} (s : StoredFunction A) (f : SerializableFunction B) → ArePartsOf s f → HasLengths s × NamesAll s × KeepsLimits s
+pub passes : {A B : Type 0} (s : StoredFunction A) (f : SerializableFunction B) → HasPartsOf s f → HasLengths s × NamesAll s × KeepsLimits s
 passes s f h = (passes-lengths s f h, h.names, keeps-limits s f h)
 
 all-forth : {X Y Z V : Type 0} (P : Y → Type 0) (f : X → Y) (view : Z → V) (part : V → Y) (xs : List X) (zs : List Z) →
@@ -77,7 +77,7 @@ all-back : {X Y Z V : Type 0} (P : Y → Type 0) (f : X → Y) (view : Z → V) 
 all-back P f view part xs zs same all =
     all-under P f (λ z. part (view z)) xs zs same (all-from-map (λ v. P (part v)) view zs all)
 
-is-within : {A B : Type 0} (s : StoredFunction A) (f : SerializableFunction B) → ArePartsOf s f → NamesItsBlocks (function_of_serializable f) →
+is-within : {A B : Type 0} (s : StoredFunction A) (f : SerializableFunction B) → HasPartsOf s f → NamesItsBlocks (function_of_serializable f) →
     AreNumbersWithin s
 is-within s f h own =
     let bs = f.function.blocks.items in
@@ -100,7 +100,7 @@ is-within s f h own =
           f.function.labels_below);
     }
 
-names-its-blocks : {A B : Type 0} (s : StoredFunction A) (f : SerializableFunction B) → ArePartsOf s f → AreNumbersWithin s →
+names-its-blocks : {A B : Type 0} (s : StoredFunction A) (f : SerializableFunction B) → HasPartsOf s f → AreNumbersWithin s →
     NamesItsBlocks (function_of_serializable f)
 names-its-blocks s f h within =
     let bs = f.function.blocks.items in
@@ -115,7 +115,7 @@ names-its-blocks s f h within =
     }
 
 -- a function's numbers pass all tests exactly if its blocks name blocks
-pub sound : {A B : Type 0} (s : StoredFunction A) (f : SerializableFunction B) → ArePartsOf s f → IsSoundStored s ↔ NamesItsBlocks (function_of_serializable f)
+pub sound : {A B : Type 0} (s : StoredFunction A) (f : SerializableFunction B) → HasPartsOf s f → IsSoundStored s ↔ NamesItsBlocks (function_of_serializable f)
 sound s f h = (
   λ is. names-its-blocks s f h is.within,
   λ own. record { lengths = passes-lengths s f h; within = is-within s f h own; names = h.names; limits = keeps-limits s f h },

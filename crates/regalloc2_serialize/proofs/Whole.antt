@@ -37,7 +37,8 @@ blocks-kept (b ∷ bs) h =
     let rest : map shown_block bs ≡ bs = blocks-kept bs (All-tail (λ b. length b.arguments ≡ length b.succs) b bs h) in
     rw (here, rest) refl
 
--- a function in which no branch returns and each block has arguments for each successor is kept whole by its stored form
+-- a function in which no branch returns and each block has arguments for each successor is kept whole by its stored
+-- form
 pub kept-whole : (f : FunctionValue) → IsKeptWhole f → shown_function f ≡ f
 kept-whole f h =
     let insts : map shown_inst f.insts ≡ f.insts = insts-kept f.insts h.0 in

@@ -34,7 +34,7 @@ shown_function f = record {
   allows_multiple_defs = f.allows_multiple_defs;
 }
 
--- what a stored function keeps is the whole function: no instruction is both a branch and a return, and each block has a list of
--- arguments for each successor
+-- what a stored function keeps is the whole function: no instruction is both a branch and a return, and each block
+-- has a list of arguments for each successor
 abbrev pub IsKeptWhole : FunctionValue → Type 0
 IsKeptWhole f = All (λ i. i.is_branch ≡ true → i.is_ret ≡ false) f.insts × All (λ b. length b.arguments ≡ length b.succs) f.blocks

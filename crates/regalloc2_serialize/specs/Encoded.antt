@@ -40,7 +40,7 @@ pub record AreBlockLists {A B : Type 0} (l : BlockLists A) (bs : List (TableBloc
   pub argument_names : All (λ k. All (λ j. All IsVRegBits j.items) k.items) l.params_out.items
 
 -- what the tests of stored functions read are the parts of a function
-pub record ArePartsOf {A B : Type 0} (s : StoredFunction A) (f : SerializableFunction B) : Type 0 where
+pub record HasPartsOf {A B : Type 0} (s : StoredFunction A) (f : SerializableFunction B) : Type 0 where
   pub lists : AreListsOf s f.function.blocks.items
   pub insts : length s.insts.items ≡ length f.function.insts.items
   pub entry : s.entry_block ≡ f.function.entry
@@ -55,4 +55,4 @@ pub record ArePartsOf {A B : Type 0} (s : StoredFunction A) (f : SerializableFun
 pub record AreNumbersOf {A B : Type 0} (s : StoredFunction A) (f : SerializableFunction B) : Type 0 where
   pub function : NamesFunction s (function_of_serializable f)
   pub machine : NamesMachine s.machine_env (machine_of f.machine)
-  pub parts : ArePartsOf s f
+  pub parts : HasPartsOf s f

@@ -124,7 +124,7 @@ pub record AreSettingsAt (d : Data) (s : ℕ × ℕ × Bool × Bool) : Type 0 wh
   pub multiple_defs : member (codes "allow_multiple_vreg_defs") as_bool d ≡ Some s.3
 
 -- the error is `Shape`, for that reason, or memory is out
-pub record IsRefusal (e : StoredFault) (reason : Type 0) : Type 0 where
+pub record IsShapeFault (e : StoredFault) (reason : Type 0) : Type 0 where
   pub shape : e ≡ Shape → reason
   pub faults : (e ≡ Shape) ⊎ (e ≡ Memory)
 

@@ -1,5 +1,7 @@
--- A function with its blocks in another order, and one with a block on each critical edge: which they are, and why they aren't made.
--- Read first: `IsRenumbered` in `Renumbered`, `HasSplitEdges` in `SplitEdges`. `Laid`: functions of partial blocks; `Rewritten`: what both share.
+-- A function with its blocks in another order, and one with a block on each critical edge: which they are, and why
+-- they aren't made.
+-- Read first: `IsRenumbered` in `Renumbered`, `HasSplitEdges` in `SplitEdges`. `Laid`: functions of partial blocks;
+-- `Rewritten`: what both share.
 -- Depends on blocks and paths of regalloc2_function, and on `TableFunction`.
 pub mod Laid
 pub mod Renumbered

@@ -48,10 +48,7 @@ fn register_from(index: Option<u8>) -> Option<PReg>
     requires { IfSome index IsRegisterIndex }
     ensures { result ≡ option_map register_of_bits index }
 {
-    match index {
-        Some(index) => Some(PReg::from_index(usize::from(index))),
-        None => None,
-    }
+    index.map(|index| PReg::from_index(usize::from(index)))
 }
 
 /// The vregs that `words` encode.
@@ -125,7 +122,7 @@ fn labels_from<A: Allocator>(
     Ok(named)
 }
 
-/// The instruction that stored numbers name.
+/// Returns the instruction that the numbers of `stored` name.
 fn inst_from<A: Allocator, B: Allocator>(
     alloc: A,
     stored: &StoredInst<B>,
@@ -140,7 +137,7 @@ fn inst_from<A: Allocator, B: Allocator>(
     })
 }
 
-/// The instructions that stored numbers name.
+/// Returns the instructions that the numbers of `stored` name.
 fn insts_from<A: Allocator + Copy, B: Allocator>(
     alloc: A,
     stored: &[StoredInst<B>],
@@ -157,7 +154,7 @@ fn insts_from<A: Allocator + Copy, B: Allocator>(
     Ok(insts)
 }
 
-/// The registers with the three indexes of `indexes`, where there are some.
+/// Returns the registers with the three indexes of `indexes`, as far as there are indexes.
 fn scratch_from(indexes: &[Option<u8>]) -> [Option<PReg>; 3]
     requires three { length indexes.now ≡ 3 }
     requires indexes { All (λ o. IfSome o IsRegisterIndex) indexes.now }
@@ -183,7 +180,7 @@ fn sets_from<B: Allocator>(lists: &[Vec<u8, B>]) -> [PRegSet; 3]
     ]
 }
 
-/// The machine that stored numbers name.
+/// Returns the machine that the numbers of `stored` name.
 fn machine_from<A: Allocator, B: Allocator>(
     alloc: A,
     stored: &StoredMachine<B>,
@@ -204,7 +201,7 @@ fn machine_from<A: Allocator, B: Allocator>(
     })
 }
 
-/// The size of a slot.
+/// Returns the size of a slot of `size` units.
 fn units_from(size: u64) -> SlotUnits
     requires { IsSlotSize size }
     ensures { result.units ≡ size }
@@ -214,7 +211,7 @@ fn units_from(size: u64) -> SlotUnits
     }
 }
 
-/// The sizes of slots by class.
+/// Returns the sizes of slots for integers, floating-point numbers and vectors; `sizes` has the units by class.
 fn sizes_from(sizes: &[u64]) -> (SlotUnits, SlotUnits, SlotUnits)
     requires three { length sizes.now ≡ 3 }
     requires sizes { All IsSlotSize sizes.now }
@@ -251,7 +248,7 @@ fn block_from<A: Allocator + Copy, B: Allocator>(
     })
 }
 
-/// The blocks that stored numbers name.
+/// Returns the blocks that the numbers of `stored` name.
 fn tables_from<A: Allocator + Copy, B: Allocator>(
     alloc: A,
     stored: &StoredFunction<B>,
@@ -290,7 +287,7 @@ impl<A: Allocator> StoredFunction<A> {
     }
 }
 
-/// The function and the machine that stored numbers name.
+/// Returns the function and the machine that the numbers of `stored` name.
 fn function_from<A: Allocator + Copy, B: Allocator>(
     alloc: A,
     stored: &StoredFunction<B>,
@@ -321,12 +318,12 @@ fn function_from<A: Allocator + Copy, B: Allocator>(
 }
 
 impl<A: Allocator + Copy> SerializableFunction<A> {
-    /// Returns the function and the machine that stored numbers name.
+    /// Returns the function and the machine that the numbers of `stored` name.
     ///
     /// # Errors
     ///
-    /// The first of `Lengths`, `Index`, `Bits` and `Limit` whose test fails, in this order; `Memory` if all four pass and
-    /// memory runs out.
+    /// The first of `Lengths`, `Index`, `Bits` and `Limit` whose test fails, in this order; `Memory` if all four pass
+    /// and memory runs out.
     pub fn from_stored<B: Allocator>(
         alloc: A,
         stored: &StoredFunction<B>,

@@ -23,7 +23,7 @@ use regalloc2_index::{Block, Inst, InstRange};
 use regalloc2_names::{Operand, PReg, PRegSet, RegAllocError, VReg};
 use std::alloc::{AllocError, Allocator};
 
-/// The indexes of the registers of a set.
+/// Returns the indexes of the registers of `set`.
 fn indexes_of<A: Allocator>(alloc: A, set: PRegSet) -> Result<Vec<u8, A>, AllocError>
     ensures set { IfOk result (λ indexes. HasIndexes indexes.items set) }
     ensures names { IfOk result (λ indexes. All IsRegisterIndex indexes.items) }
@@ -35,7 +35,7 @@ fn indexes_of<A: Allocator>(alloc: A, set: PRegSet) -> Result<Vec<u8, A>, AllocE
     Ok(indexes)
 }
 
-/// The indexes of the registers of each set.
+/// Returns the indexes of the registers of each of `sets`.
 fn lists_of_indexes<A: Allocator + Copy>(
     alloc: A,
     sets: &[PRegSet; 3],
@@ -52,7 +52,7 @@ fn lists_of_indexes<A: Allocator + Copy>(
     Ok(lists)
 }
 
-/// The indexes of registers.
+/// Returns the indexes of `registers`.
 fn indexes_of_registers<A: Allocator>(
     alloc: A,
     registers: &[PReg],
@@ -67,18 +67,15 @@ fn indexes_of_registers<A: Allocator>(
     Ok(indexes)
 }
 
-/// The index of a register, if there is one.
+/// Returns the index of `reg`, if there is a register.
 fn index_of(reg: Option<PReg>) -> Option<u8>
     ensures register { option_map register_of_bits result ≡ reg }
     ensures name { IfSome result IsRegisterIndex }
 {
-    match reg {
-        Some(reg) => Some(reg.index() as u8),
-        None => None,
-    }
+    reg.map(|reg| reg.index() as u8)
 }
 
-/// The indexes of registers, where there are some.
+/// Returns the indexes of the registers of `scratch`, as far as there are registers.
 fn indexes_of_scratch<A: Allocator>(
     alloc: A,
     scratch: &[Option<PReg>; 3],
@@ -95,7 +92,7 @@ fn indexes_of_scratch<A: Allocator>(
     Ok(Vec::from_array(alloc, indexes)?)
 }
 
-/// The words of vregs.
+/// Returns the words of `vregs`.
 fn words_of_vregs<A: Allocator>(alloc: A, vregs: &[VReg]) -> Result<Vec<u32, A>, AllocError>
     ensures vregs { IfOk result (λ words. map vreg_of_bits words.items ≡ vregs.now) }
     ensures names { IfOk result (λ words. All IsVRegBits words.items) }
@@ -107,7 +104,7 @@ fn words_of_vregs<A: Allocator>(alloc: A, vregs: &[VReg]) -> Result<Vec<u32, A>,
     Ok(words)
 }
 
-/// The words of lists of vregs.
+/// Returns the words of the vregs of each of `lists`.
 fn words_of_lists<A: Allocator, B: Allocator + Copy>(
     alloc: B,
     lists: &[Vec<VReg, A>],
@@ -123,7 +120,7 @@ fn words_of_lists<A: Allocator, B: Allocator + Copy>(
     Ok(words)
 }
 
-/// The words of operands.
+/// Returns the words of `operands`.
 fn words_of_operands<A: Allocator>(
     alloc: A,
     operands: &[Operand],
@@ -138,7 +135,7 @@ fn words_of_operands<A: Allocator>(
     Ok(words)
 }
 
-/// The numbers of blocks.
+/// Returns the numbers of `blocks`.
 fn numbers_of_blocks<A: Allocator>(alloc: A, blocks: &[Block]) -> Result<Vec<u32, A>, AllocError>
     ensures { IfOk result (λ numbers. numbers.items ≡ blocks.now) }
 {
@@ -149,7 +146,7 @@ fn numbers_of_blocks<A: Allocator>(alloc: A, blocks: &[Block]) -> Result<Vec<u32
     Ok(numbers)
 }
 
-/// The numbers of labels.
+/// Returns the numbers of `labels`.
 fn numbers_of_labels<A: Allocator>(
     alloc: A,
     labels: &[(VReg, Inst, Inst, u32)],
@@ -165,7 +162,7 @@ fn numbers_of_labels<A: Allocator>(
     Ok(numbers)
 }
 
-/// The sizes of a function's slots.
+/// Returns the sizes of the slots of `f`, by class.
 fn numbers_of_sizes<A: Allocator, B: Allocator>(
     alloc: B,
     f: &TableFunction<A>,
@@ -182,7 +179,7 @@ fn numbers_of_sizes<A: Allocator, B: Allocator>(
     Ok(Vec::from_array(alloc, numbers)?)
 }
 
-/// The numbers of a machine.
+/// Returns the numbers of `machine`.
 fn numbers_of_machine<A: Allocator, B: Allocator + Copy>(
     alloc: B,
     machine: &MachineEnv<A>,
@@ -203,7 +200,7 @@ fn numbers_of_machine<A: Allocator, B: Allocator + Copy>(
     })
 }
 
-/// The numbers of an instruction.
+/// Returns the numbers of `inst`.
 fn numbers_of_inst<A: Allocator, B: Allocator + Copy>(
     alloc: B,
     inst: &TableInst<A>,
@@ -218,7 +215,7 @@ fn numbers_of_inst<A: Allocator, B: Allocator + Copy>(
     })
 }
 
-/// The numbers of instructions.
+/// Returns the numbers of `insts`.
 fn numbers_of_insts<A: Allocator, B: Allocator + Copy>(
     alloc: B,
     insts: &[TableInst<A>],
@@ -234,7 +231,7 @@ fn numbers_of_insts<A: Allocator, B: Allocator + Copy>(
     Ok(numbers)
 }
 
-/// The numbers of a range's first instruction and of the one at which it ends.
+/// Returns the numbers of the first instruction of `range` and of the instruction at which it ends.
 fn numbers_of_range(range: InstRange) -> (u32, u32)
     ensures { stored_range result ≡ range }
 {
@@ -277,7 +274,7 @@ fn add_block<A: Allocator, B: Allocator + Copy>(
     Ok(())
 }
 
-/// The lists of blocks.
+/// Returns the numbers of `blocks`, list by list.
 fn lists_of<A: Allocator, B: Allocator + Copy>(
     alloc: B,
     blocks: &[TableBlock<A>],
@@ -298,7 +295,7 @@ fn lists_of<A: Allocator, B: Allocator + Copy>(
     Ok(lists)
 }
 
-/// The numbers of a function and its machine, made with the function's own allocator.
+/// Returns the numbers of the function and the machine of `named`, made with the function's own allocator.
 fn numbers_of<A: Allocator + Copy>(
     named: &SerializableFunction<A>,
 ) -> Result<StoredFunction<A>, AllocError>
@@ -332,9 +329,9 @@ fn numbers_of<A: Allocator + Copy>(
 impl<A: Allocator + Copy> SerializableFunction<A> {
     /// Returns the numbers of this function and its machine, made with the function's own allocator.
     ///
-    /// The numbers name this function and this machine, and no other. [`SerializableFunction::from_stored`] gives back what
-    /// was stored, unless it returns `Memory`, or `Index` because the function's entry, a predecessor or a successor is no
-    /// block of the function.
+    /// The numbers name this function and this machine, and no other. [`SerializableFunction::from_stored`] gives
+    /// back what was stored, unless it returns `Memory`, or `Index` because the function's entry, a predecessor or a
+    /// successor is no block of the function.
     ///
     /// # Errors
     ///

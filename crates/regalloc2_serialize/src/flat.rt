@@ -1,7 +1,7 @@
 //! Functions and outputs laid out as words, for callers in other languages.
 //!
-//! A function comes in columns ([`FlatFunction`]; `specs/Flat/Columns.antt` has the layout). An output's fields follow one
-//! another, and a list is its length and then its members (`specs/Flat/Flat.antt`).
+//! A function comes in columns ([`FlatFunction`]; `specs/Flat/Columns.antt` has the layout). An output's fields
+//! follow one another, and a list is its length and then its members (`specs/Flat/Flat.antt`).
 
 mod columns;
 mod long;

@@ -128,11 +128,12 @@ pub fn copied_units<F: Function>(f: &F, class: RegClass) -> SlotUnits
 }
 
 impl<A: Allocator + Copy> SerializableFunction<A> {
-    /// Copies a function, to be stored with the machine that it is for.
+    /// Copies `f`, to be stored with its machine, `env`.
     ///
-    /// Each block has instructions, and they are among the function's. Stored data have no instruction that is both a branch
-    /// and a return: the copy has a return there, as upstream's has. All else is kept: if no instruction is both, and each
-    /// block has a list of arguments for each successor, the copy's value is `f`'s own.
+    /// Each block of `f` has instructions, and they are among the function's. Stored data have no instruction that is
+    /// both a branch and a return: the copy has a return there, as upstream's has. Everything else is kept: if no
+    /// instruction is both, and each block has a list of arguments for each successor, the copy's value is the value
+    /// of `f`.
     ///
     /// # Errors
     ///

@@ -20,7 +20,7 @@ pub trait FromValue<A: Allocator> {
     /// The datum of a JSON value, if the value has its shape.
     ghost reads: { Data → Option Shown };
 
-    /// Reads the datum that the value holds.
+    /// Reads the datum that `value` holds.
     ///
     /// # Errors
     ///

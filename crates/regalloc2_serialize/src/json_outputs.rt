@@ -2,7 +2,7 @@
 
 ghost use Rattle.std.specs.Prelude.{◌≡◌, ◌⊎◌, IfOk, IfErr};
 ghost use Rattle.serde_json.specs.View.{view};
-ghost use Rattle.regalloc2_serialize.specs.JsonShape.{HasJsonShape, HasLists, HasSettings, AreListsAt, AreSettingsAt, IsFunctionAt, IsRefusal};
+ghost use Rattle.regalloc2_serialize.specs.JsonShape.{HasJsonShape, HasLists, HasSettings, AreListsAt, AreSettingsAt, IsFunctionAt, IsShapeFault};
 
 use super::data::{InstOpcode, StoredFunction, StoredInst, StoredMachine};
 use super::from_json::{FromValue, member_from};
@@ -117,10 +117,10 @@ pub struct BlockLists<A: Allocator> {
     pub params_out: Vec<Vec<Vec<u32, A>, A>, A>,
 }
 
-/// Reads the lists of a function by block.
+/// Reads from `value` a function's lists by block.
 fn lists_from<A: Allocator + Copy>(alloc: A, value: &Value) -> Result<BlockLists<A>, StoredFault>
     ensures ok { IfOk result (λ l. AreListsAt (view value.now) l) }
-    ensures refused { IfErr result (λ e. IsRefusal e (HasLists (view value.now) → ⊥)) }
+    ensures refused { IfErr result (λ e. IsShapeFault e (HasLists (view value.now) → ⊥)) }
 {
     let blocks = member_from(alloc, value, "blocks")?;
     let preds = member_from(alloc, value, "block_preds")?;
@@ -136,13 +136,13 @@ fn lists_from<A: Allocator + Copy>(alloc: A, value: &Value) -> Result<BlockLists
     })
 }
 
-/// Reads a function's entry, its count of vregs and its two flags.
+/// Reads from `value` a function's entry, its count of vregs and its two flags.
 fn settings_from<A: Allocator + Copy>(
     alloc: A,
     value: &Value,
 ) -> Result<(u32, u64, bool, bool), StoredFault>
     ensures ok { IfOk result (λ s. AreSettingsAt (view value.now) s) }
-    ensures refused { IfErr result (λ e. IsRefusal e (HasSettings (view value.now) → ⊥)) }
+    ensures refused { IfErr result (λ e. IsShapeFault e (HasSettings (view value.now) → ⊥)) }
 {
     let entry_block = member_from(alloc, value, "entry_block")?;
     let num_vregs = member_from(alloc, value, "num_vregs")?;
@@ -152,12 +152,13 @@ fn settings_from<A: Allocator + Copy>(
 }
 
 impl<A: Allocator + Copy> StoredFunction<A> {
-    /// Reads the function that a JSON value holds: an object with a member for each field, by that name. Other members are
-    /// ignored. [`SerializableFunction::from_stored`] tests whether the numbers name a function.
+    /// Reads the function that `value` holds: an object with a member for each field, by the field's name.
+    ///
+    /// Other members are ignored. [`SerializableFunction::from_stored`] tests whether the numbers name a function.
     ///
     /// # Errors
     ///
-    /// `Shape` if and only if the value has another shape; `Memory` if memory runs out.
+    /// `Shape` if and only if `value` has another shape; `Memory` if memory runs out.
     ///
     /// [`SerializableFunction::from_stored`]: super::SerializableFunction::from_stored
     pub fn from_value(alloc: A, value: &Value) -> Result<StoredFunction<A>, StoredFault>

@@ -4,6 +4,5 @@ pub mod build;
 pub mod builder;
 pub mod table;
 
-pub(crate) use builder::BLOCK_LIMIT;
 pub use builder::{BlockDraft, BuildError, TableBuilder};
 pub use table::{SlotUnits, TableBlock, TableFunction, TableInst};

@@ -7,6 +7,7 @@ ghost use Rattle.regalloc2_serialize.specs.Validity.{HasThreeClasses, HasAllOfEa
 ghost use Rattle.regalloc2_serialize.specs.Validity.{NamesRegisters, NamesVRegs, NamesAll, KeepsLimits};
 
 use super::data::{StoredFunction, StoredInst, StoredMachine};
+use super::limits::{BLOCK_LIMIT, INST_LIMIT, LARGEST_SLOT, VREG_LIMIT};
 use regalloc2_names::{Operand, PReg, VReg};
 use std::alloc::Allocator;
 
@@ -111,9 +112,9 @@ impl<A: Allocator> StoredFunction<A> {
     pub(crate) fn keeps_limits(&self) -> bool
         ensures { IsTrue result ↔ KeepsLimits self.now }
     {
-        self.insts.len() < 1 << 30
-            && self.blocks.len() < u32::MAX as usize
-            && self.num_vregs < 1 << 30
+        self.insts.len() < INST_LIMIT
+            && self.blocks.len() < BLOCK_LIMIT
+            && self.num_vregs < VREG_LIMIT as u64
             && are_slot_sizes(self.spillslot_size.as_slice())
     }
 }
@@ -164,8 +165,10 @@ fn are_ranges(ranges: &[(u32, u32)], count: usize) -> bool
 /// The number of bits of the class in the word of a vreg, below the number.
 const CLASS_BITS: u32 = 2;
 
-/// The number of the vreg with the word `word`.
-pub(crate) fn vreg_number(word: u32) -> u32
+/// Returns the number in the word `word` of a vreg.
+///
+/// The test of ranges comes before the test of words. Therefore `word` may encode no vreg.
+pub fn vreg_number(word: u32) -> u32
     ensures { result ≡ word / 4 }
 {
     word >> CLASS_BITS
@@ -288,7 +291,7 @@ fn are_labels(labels: &[(u32, u32, u32, u32)]) -> bool
 fn is_slot_size(size: u64) -> bool
     ensures { IsTrue result ↔ IsSlotSize size }
 {
-    1 <= size && size <= 1 << 24 && size.is_power_of_two()
+    1 <= size && size <= LARGEST_SLOT as u64 && size.is_power_of_two()
 }
 
 /// Whether `sizes` are powers of two from 1 to 2^24.

@@ -1,5 +1,5 @@
--- What a reader may ask of debug locations beside valid places of operands and moves: where an output lists locations as `labels` of `IsAllocation` says,
--- each has a valid place, and is that of a kept label of its number.
+-- What a reader may ask of debug locations beside valid places of operands and moves: where an output lists locations
+-- as `labels` of `IsAllocation` says, each has a valid place, and is that of a kept label of its number.
 use Rattle.std.proofs.Common.{suc, ◌≡◌, List, ◌∷◌, refl, sym, arith}
 use Rattle.std.specs.Prelude.{All, Any as SomeIn}
 use Rattle.std.proofs.lemmas.List.Elements.{All-cons}

@@ -1,4 +1,5 @@
--- Where blocks follow one another, an output whose edits are listed (`EditsAreListed`) has none after the last instruction of a block.
+-- Where blocks follow one another, an output whose edits are listed (`EditsAreListed`) has none after the last
+-- instruction of a block.
 use Rattle.std.proofs.Common.{ℕ, zero, suc, ◌≡◌, ◌+◌, ◌-◌, ◌<◌, ◌≤◌, length, ap, ◌∙◌, arith, inl, inr, subst}
 use Rattle.std.specs.Prelude.{◌≢◌, ◌⊎◌, ◌*◌, true, All}
 use Rattle.std.proofs.lemmas.Bool.{cases_lt}

@@ -1,5 +1,5 @@
--- Tests of the definitions of both runs on one step or one edge each: what an operand reads beside early definitions, late definitions, clobbers and
--- moves, and which value a parameter takes.
+-- Tests of the definitions of both runs on one step or one edge each: what an operand reads beside early definitions,
+-- late definitions, clobbers and moves, and which value a parameter takes.
 use Rattle.std.proofs.Common.{ℕ, ◌≡◌, false, List, [], ◌∷◌, refl}
 use Rattle.std.specs.Prelude.{None, map}
 use Rattle.regalloc2_names.specs.declared.OperandConstraint.TheVariants.{Any}

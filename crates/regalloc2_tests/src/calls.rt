@@ -17,7 +17,7 @@ pub const OPTIONS: RegallocOptions = RegallocOptions {
     algorithm: Algorithm::Fastalloc,
 };
 
-/// `run`, at a machine that fits.
+/// Runs `f` on `env` by `run`, if the machine fits.
 pub fn run_fitting<A: Allocator + Copy, F: Function, B: Allocator>(
     alloc: A,
     f: &F,
@@ -30,7 +30,7 @@ pub fn run_fitting<A: Allocator + Copy, F: Function, B: Allocator>(
     }
 }
 
-/// The slots that `run_with_ctx` gives, at a machine that fits.
+/// Runs `f` on `env` by `run_with_ctx`, if the machine fits. Returns the count of slots.
 pub fn run_with_ctx_fitting<A: Allocator + Copy, F: Function, B: Allocator>(
     f: &F,
     env: &MachineEnv<B>,
@@ -46,7 +46,9 @@ pub fn run_with_ctx_fitting<A: Allocator + Copy, F: Function, B: Allocator>(
     }
 }
 
-/// `run_into_ctx`, at a machine that fits: the context holds an output of the function, or after an error the one that it held before.
+/// Runs `f` on `env` by `run_into_ctx`, if the machine fits.
+///
+/// `ctx` then holds an output of `f`, or after an error the output that it held before.
 pub fn run_into_ctx_fitting<A: Allocator + Copy, F: Function, B: Allocator>(
     f: &F,
     env: &MachineEnv<B>,
@@ -62,8 +64,10 @@ pub fn run_into_ctx_fitting<A: Allocator + Copy, F: Function, B: Allocator>(
     }
 }
 
-/// `Ctx::run`, at a machine that fits, for a client without a debugger: the context holds the output that the call lends, from which
-/// the debug locations are removed, or after an error the output that it held before.
+/// Runs `f` on `env` by `Ctx::run`, if the machine fits, for a client without a debugger.
+///
+/// `ctx` then holds the output that the call lends, from which the debug locations are removed, or after an error the
+/// output that it held before.
 pub fn run_without_debug_locations<A: Allocator + Copy, F: Function, B: Allocator>(
     f: &F,
     env: &MachineEnv<B>,
@@ -84,7 +88,7 @@ pub fn run_without_debug_locations<A: Allocator + Copy, F: Function, B: Allocato
     }
 }
 
-/// The order of a function's blocks, requested by a closure.
+/// Returns the order of the blocks of `f` in `out`; a closure gives the successors.
 pub fn order<A: Allocator + Copy, F: Function>(
     alloc: A,
     f: &F,

@@ -12,7 +12,7 @@ use std::fs;
 use std::io::Write;
 use std::rt::Runtime;
 
-/// Adds the path of a folder's file, if it has cases.
+/// Adds the path of the file `name` of `folder` to `paths`, if it has cases.
 fn add_path(
     alloc: Global,
     folder: &str,
@@ -25,7 +25,7 @@ fn add_path(
     Ok(())
 }
 
-/// Adds the paths of a folder's files of cases.
+/// Adds the paths of the files of cases of `folder` to `paths`.
 fn add_paths<R: Runtime + AllocGlobal>(
     rt: &R,
     folder: &str,
@@ -37,7 +37,7 @@ fn add_paths<R: Runtime + AllocGlobal>(
     Ok(())
 }
 
-/// The paths of a folder's files of cases, sorted.
+/// Returns the paths of the files of cases of `folder`, sorted.
 fn case_paths<R: Runtime + AllocGlobal>(rt: &R, folder: &str) -> Result<Vec<String>, CallError> {
     let mut paths = Vec::new(rt.alloc());
     add_paths(rt, folder, &mut paths)?;
@@ -45,7 +45,7 @@ fn case_paths<R: Runtime + AllocGlobal>(rt: &R, folder: &str) -> Result<Vec<Stri
     Ok(paths)
 }
 
-/// Runs the files of some paths.
+/// Runs the files with the paths `paths`, and counts them in `tally`.
 fn run_paths<R: Runtime + AllocGlobal, O: Write>(
     rt: &R,
     paths: &[String],
@@ -59,8 +59,9 @@ fn run_paths<R: Runtime + AllocGlobal, O: Write>(
     Ok(())
 }
 
-/// Runs the files `*.case` of a folder, by name, and writes what differs, and then how many files there are and how
-/// many calls passed and failed.
+/// Runs the files `*.case` of `folder`, by name.
+///
+/// Writes what differs, and then how many files there are and how many calls passed and failed.
 pub fn run_folder<R: Runtime + AllocGlobal, O: Write>(
     rt: &R,
     folder: &str,

@@ -22,7 +22,7 @@ use std::io::{self, Write};
 /// How many changed copies each whole text gets.
 const COPIES: u32 = 300;
 
-/// The text that a line gives: it may say which part of another one to replace.
+/// Returns the text that a line gives as `text`: itself, or `whole` with a part replaced.
 fn text_of(alloc: Global, whole: &str, text: &str) -> Result<String, AllocError> {
     let Some(change) = text.strip_prefix('~') else {
         return String::from_str(alloc, text);
@@ -36,7 +36,7 @@ fn text_of(alloc: Global, whole: &str, text: &str) -> Result<String, AllocError>
     }
 }
 
-/// Writes the result for a text.
+/// Writes the result of `ra2` with the arguments `words` for `text`.
 fn show<W: Write>(alloc: Global, words: &str, text: &str, out: &mut W) -> io::Result<()> {
     match ask(alloc, &Refusing::counting(alloc), words, text.as_bytes()) {
         Some(answer) => write!(out, "{answer}"),
@@ -44,7 +44,7 @@ fn show<W: Write>(alloc: Global, words: &str, text: &str, out: &mut W) -> io::Re
     }
 }
 
-/// The last whole text up to a line.
+/// Returns the last whole text up to `line`; up to the line before it was `before`.
 fn whole_after<'a>(line: &'a str, before: &'a str) -> &'a str {
     match line.split_once(' ') {
         Some((words, text)) if words != "#" && !text.starts_with('~') => text,
@@ -52,7 +52,7 @@ fn whole_after<'a>(line: &'a str, before: &'a str) -> &'a str {
     }
 }
 
-/// Writes a title, or the result for a line's text.
+/// Writes `line`, if it is a title, or the result for its text.
 fn show_line<W: Write>(alloc: Global, whole: &str, line: &str, out: &mut W) -> io::Result<()> {
     let Some((words, text)) = line.split_once(' ') else {
         return Ok(());
@@ -63,7 +63,7 @@ fn show_line<W: Write>(alloc: Global, whole: &str, line: &str, out: &mut W) -> i
     show(alloc, words, &text_of(alloc, whole, text)?, out)
 }
 
-/// Writes the result for each line's text.
+/// Writes the result for the text of each of `lines`.
 fn show_all<W: Write>(alloc: Global, lines: &str, out: &mut W) -> io::Result<()> {
     let mut whole = "";
     for line in lines.lines() {
@@ -73,8 +73,8 @@ fn show_all<W: Write>(alloc: Global, lines: &str, out: &mut W) -> io::Result<()>
     Ok(())
 }
 
-/// A text that is deep or large: a part and how often it stands there, what is before and behind it, and whether the members
-/// of a function come after that.
+/// A text that is deep or large: a part and how often it stands there, what is before and behind it, and whether the
+/// members of a function come after that.
 type Large = (&'static str, u32, &'static str, &'static str, bool);
 
 /// Deep and large texts. The last three have a function, two of them behind a member that isn't read.
@@ -86,7 +86,7 @@ static LARGE: [Large; 5] = [
     ("aaaaaaaaaa", 3_000_000, "{\"a\":\"", "\",", true),
 ];
 
-/// The whole text, with these members.
+/// Returns the text `large`, followed by `members` if it has members.
 fn large_text(alloc: Global, large: Large, members: &str) -> Result<String, AllocError> {
     let (part, count, before, behind, has_members) = large;
     let mut text = String::from_str(alloc, before)?;
@@ -98,7 +98,7 @@ fn large_text(alloc: Global, large: Large, members: &str) -> Result<String, Allo
     Ok(text)
 }
 
-/// Writes the results for texts that are deep or large.
+/// Writes the results for texts that are deep or large; `function` is a function as JSON.
 fn show_all_large<W: Write>(alloc: Global, function: &str, out: &mut W) -> io::Result<()> {
     let members = function.strip_prefix('{').unwrap_or("");
     for large in &LARGE {
@@ -111,7 +111,7 @@ fn show_all_large<W: Write>(alloc: Global, function: &str, out: &mut W) -> io::R
 /// How many results had each status, and how many broke a rule or had no memory.
 type Counts = [u32; 4];
 
-/// Where a result is counted.
+/// Returns the index at which `answer` is counted.
 fn place_of(answer: Option<Answer>) -> usize
     ensures { result < 4 }
 {
@@ -121,19 +121,17 @@ fn place_of(answer: Option<Answer>) -> usize
     }
 }
 
-/// Counts the results for changed copies of a text.
+/// Counts in `counts` the results for changed copies of `text`.
 fn count(alloc: Global, random: &mut Random, words: &str, text: &str, counts: &mut Counts) {
     for _ in 0..COPIES {
-        let answer = match changed(alloc, random, text.as_bytes()) {
-            Some(text) => ask(alloc, &Refusing::counting(alloc), words, text.as_slice()),
-            None => None,
-        };
+        let answer = changed(alloc, random, text.as_bytes())
+            .and_then(|text| ask(alloc, &Refusing::counting(alloc), words, text.as_slice()));
         let place = place_of(answer);
         counts[place] = counts[place].saturating_add(1);
     }
 }
 
-/// The words and the text of a line, if it has a whole text.
+/// Returns the words and the text of `line`, if it has a whole text.
 fn whole_text(line: &str) -> Option<(&str, &str)> {
     let (words, text) = line.split_once(' ')?;
     if text.starts_with('{') || text.starts_with("[{") {
@@ -143,7 +141,7 @@ fn whole_text(line: &str) -> Option<(&str, &str)> {
     }
 }
 
-/// The text of the first line that is run.
+/// Returns the text of the first of `lines` that is run.
 fn first_function(lines: &str) -> &str {
     for line in lines.lines() {
         if let Some(text) = line.strip_prefix("run ") {
@@ -153,7 +151,7 @@ fn first_function(lines: &str) -> &str {
     ""
 }
 
-/// Counts the results for changed copies of all whole texts.
+/// Counts the results for changed copies of all whole texts of `lines`.
 fn fuzz(alloc: Global, lines: &str) -> Counts {
     let mut counts = [0u32; 4];
     let mut random = Random::new(2026);
@@ -165,8 +163,8 @@ fn fuzz(alloc: Global, lines: &str) -> Counts {
     counts
 }
 
-/// Writes the results for each line's text, for deep and large ones, how often each for changed
-/// ones, and for failed allocations.
+/// Writes the results for the text of each of `lines`, for deep and large texts, how often each came for changed
+/// texts, and the results for failed allocations.
 pub fn show_fuzz<W: Write>(alloc: Global, lines: &str, out: &mut W) -> io::Result<()> {
     show_all(alloc, lines, out)?;
     show_all_large(alloc, first_function(lines), out)?;

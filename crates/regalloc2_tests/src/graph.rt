@@ -27,7 +27,7 @@ pub struct Graph {
 }
 
 impl Graph {
-    /// Adds a block below another one.
+    /// Adds a block below block `above`, which is a join if `is_join`.
     fn add(&mut self, alloc: Global, above: usize, is_join: bool) -> Option<()> {
         self.nodes
             .push(Node {
@@ -46,7 +46,8 @@ impl Graph {
         succs.push(Block::new(to % 100)).ok()
     }
 
-    /// Whether a block without successors may go on to another one: a join, and each path comes by the block above that.
+    /// Returns whether block `from`, which has no successors, may go on to block `to`: a join such that each path to
+    /// `from` passes the block above the join.
     fn may_join(&self, from: usize, to: usize) -> Option<bool> {
         let join = self.nodes.get(to)?;
         let mut at = from;
@@ -59,7 +60,7 @@ impl Graph {
         Some(false)
     }
 
-    /// Lets a block without successors go on somewhere, if that may be.
+    /// Gives `block`, which has no successors, a successor, if it may have one.
     fn close(&mut self, random: &mut Random, block: usize) -> Option<()> {
         for _ in 0..8 {
             let to = random.below(self.nodes.len().max(1));
@@ -70,7 +71,7 @@ impl Graph {
         Some(())
     }
 
-    /// Up to twelve blocks, of which each is a join or entered from the one above it.
+    /// Returns up to twelve blocks, of which each is a join or is entered from the block above it.
     fn tree(alloc: Global, random: &mut Random) -> Option<Graph> {
         let nodes = Vec::new(alloc);
         let mut graph = Graph { nodes };
@@ -90,7 +91,7 @@ impl Graph {
         Some(graph)
     }
 
-    /// A graph of up to twelve blocks.
+    /// Returns a graph of up to twelve blocks.
     pub fn any(alloc: Global, random: &mut Random) -> Option<Graph> {
         let mut graph = Graph::tree(alloc, random)?;
         for block in 0..graph.nodes.len() {
@@ -101,8 +102,7 @@ impl Graph {
         Some(graph)
     }
 
-    /// Whether a branch of the block may have operands: each block that it leads to is entered by
-    /// one edge.
+    /// Returns whether a branch of `block` may have operands: each block that it leads to is entered by one edge.
     pub fn may_use(&self, block: usize) -> Option<bool> {
         for succ in &self.nodes.get(block)?.succs {
             if self.nodes.get(succ.index())?.is_join {

@@ -15,7 +15,7 @@ use std::alloc::Global;
 /// The numbers of registers, which not every machine has, and of fixed stack slots.
 static NUMBERS: [usize; 8] = [0, 1, 2, 3, 4, 5, FIRST_SLOT, FIRST_SLOT + 1];
 
-/// A register or a fixed stack slot of the class.
+/// Returns a register or a fixed stack slot of `class`.
 fn any_register(random: &mut Random, class: RegClass) -> PReg
     ensures { result.class ≡ class }
 {
@@ -39,7 +39,8 @@ pub struct Draft {
 }
 
 impl Draft {
-    /// No operand yet.
+    /// An instruction without operands yet, for a machine with the registers `usable`, of which `left` by class may
+    /// be required.
     pub fn new(alloc: Global, usable: PRegSet, left: [usize; 3]) -> Draft {
         Draft {
             operands: Vec::new(alloc),
@@ -51,15 +52,16 @@ impl Draft {
         }
     }
 
-    /// Whether a register of the class was left, which is claimed.
+    /// Claims a register of `class`, if one is left. Returns whether one was.
     fn takes_one(&mut self, class: RegClass) -> bool {
-        let at = class as usize;
+        let at = class.code();
         let has_one = self.left[at] > 0;
         self.left[at] = self.left[at].saturating_sub(1);
         has_one
     }
 
-    /// Whether the machine has a register that was free at these positions, at which it is claimed.
+    /// Claims `fixed` at the early position if `is_early`, and at the late one if `is_late`, if the machine has it
+    /// and it is free there. Returns whether it was.
     fn takes(&mut self, fixed: PReg, is_early: bool, is_late: bool) -> bool {
         let (has_early, has_late) = (self.early.contains(fixed), self.late.contains(fixed));
         if is_early && has_early || is_late && has_late || !self.usable.contains(fixed) {
@@ -78,7 +80,7 @@ impl Draft {
         true
     }
 
-    /// A constraint of an operand of the class that is held at these positions.
+    /// Returns a constraint of an operand of `class` that holds its place early if `is_early`, and late if `is_late`.
     fn constraint(
         &mut self,
         random: &mut Random,
@@ -104,7 +106,7 @@ impl Draft {
         }
     }
 
-    /// Adds an operand: an early use or a late definition, most often.
+    /// Adds an operand of `vreg`: most often an early use or a late definition, by `kind`.
     pub fn add(&mut self, random: &mut Random, vreg: VReg, kind: OperandKind) -> Option<()> {
         let is_use = kind == OperandKind::Use;
         let is_first = is_use != random.once_in(3);
@@ -119,7 +121,7 @@ impl Draft {
         self.operands.push(operand).ok()
     }
 
-    /// Adds a use under `Reg`, early most often, if a register of its class is left.
+    /// Adds a use of `vreg` under `Reg`, early most often, if a register of its class is left.
     pub fn add_if_left(&mut self, random: &mut Random, vreg: VReg) -> Option<()> {
         if !self.takes_one(vreg.class()) {
             return Some(());
@@ -132,7 +134,7 @@ impl Draft {
         self.operands.push(operand).ok()
     }
 
-    /// The position and class of an early use that may be reused, and now is.
+    /// Marks an early use that may be reused as reused. Returns its position and class.
     pub fn reused(&mut self, random: &mut Random) -> Option<(usize, RegClass)> {
         let index = random.below(32);
         let operand = *self.operands.get(index)?;
@@ -154,7 +156,7 @@ impl Draft {
         Some((index, operand.class()))
     }
 
-    /// The instruction, with clobbers that are free at the late position.
+    /// Returns the instruction with the opcode `op`, and with clobbers that are free at the late position.
     pub fn finish(mut self, random: &mut Random, op: InstOpcode) -> TableInst {
         let mut clobbers = PRegSet::empty();
         for _ in 0..random.below(4) {

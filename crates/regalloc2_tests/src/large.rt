@@ -8,29 +8,27 @@ use regalloc2::{Operand, RegClass, VReg};
 use regalloc2_serialize::table_function::{BuildError, TableBuilder, TableFunction};
 use std::alloc::Global;
 
-/// An integer vreg, whose number is taken below 2^20.
+/// Returns the integer vreg with the number `number`, which is taken below 2^20.
 fn vreg(number: usize) -> VReg
     ensures { result.class ≡ RegClass.Int }
 {
     VReg::new(number % 1_048_576, RegClass::Int)
 }
 
-/// A definition of an integer vreg in a register.
+/// Returns a definition of the integer vreg `number` in a register.
 fn def(number: usize) -> Operand {
     Operand::reg_def(vreg(number))
 }
 
-/// A use of an integer vreg in a register.
+/// Returns a use of the integer vreg `number` in a register.
 fn read(number: usize) -> Operand {
     Operand::reg_use(vreg(number))
 }
 
 /// How many places and slots `f` gets on a machine with `registers` integer registers.
 fn size_of(alloc: Global, f: &TableFunction, registers: usize) -> Option<(usize, usize)> {
-    match allocated(alloc, f, registers) {
-        Some(out) => Some((out.allocs.len(), out.num_spillslots)),
-        None => None,
-    }
+    let out = allocated(alloc, f, registers)?;
+    Some((out.allocs.len(), out.num_spillslots))
 }
 
 /// How many places and slots `f` gets on a machine with `registers` integer registers, if it could be built.
@@ -39,10 +37,7 @@ fn size(
     f: Result<TableFunction, BuildError>,
     registers: usize,
 ) -> Option<(usize, usize)> {
-    match f {
-        Ok(f) => size_of(alloc, &f, registers),
-        Err(_) => None,
-    }
+    size_of(alloc, &f.ok()?, registers)
 }
 
 /// How many places and slots each large function gets.
@@ -82,7 +77,7 @@ fn add_operands(
     Ok(())
 }
 
-/// Adds a block of one instruction with the definitions and two with the uses.
+/// Adds a block of an instruction with the operands `defs`, and two with the operands `uses`.
 fn add_wide(f: &mut TableBuilder, defs: &[Operand], uses: &[Operand]) -> Result<(), BuildError> {
     let block = f.block(&[])?;
     f.op(block, defs)?;

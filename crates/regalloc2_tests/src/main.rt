@@ -1,14 +1,13 @@
 //! `regalloc2_tests`: runs files of cases, or all tests.
 //!
-//! An argument is a folder, whose files `*.case` are run, by name. Each call whose result isn't the expected one is
-//! printed, and then how many files there are and how many calls passed and failed.
+//! An argument is a folder, whose files `*.case` are run, by name. The program prints each call whose result isn't the
+//! expected one, and then how many files there are and how many calls passed and failed.
 //!
-//! Without one the cases of the folder that it runs in come first, and then calls of the library's parts, the allocator,
-//! the checker, `ra2` and the code generator that no case file can make, with their results. The file `stdout` has the
-//! expected output. The input has a function and an output, as JSON; behind an empty line, a title and a function for each
-//! part of the table of failed allocations; behind another one, texts for `ra2`. Randomly generated functions, from fixed seeds, have up to twelve blocks, operands of
-//! every kind but `Limit`, and registers enough for each of their instructions, most of which require all that there
-//! are; on no path is a value read before it is written.
+//! Without an argument, the cases of the current folder are followed by calls of the library's parts, the allocator, the
+//! checker, `ra2` and the code generator that no case file can make, with their results. The file `stdout` has the
+//! expected output. The current folder also has the files that [`Texts`] lists. Randomly generated functions, from fixed
+//! seeds, have up to twelve blocks, operands of every kind but `Limit`, and registers enough for each of their
+//! instructions, most of which require all registers; on no path is a value read before it is written.
 //!
 //! The status is 0, or 1 where a call of a case failed, or 2 where a file can't be read, the output can't be written or
 //! memory runs out.
@@ -40,11 +39,12 @@ use regalloc2_analysis::liveness::decided_by_tree;
 use regalloc2_tool::calls::call::CallError;
 use std::alloc::{AllocError, Global};
 use std::env::{self, Env};
+use std::fs;
 use std::io::{self, BufWriter, Write};
 use std::process::ExitCode;
 use units::report::Report;
 
-/// The words of a command line.
+/// Returns the words of the command line `line`.
 fn words_of(alloc: Global, line: &str) -> Result<Vec<String>, AllocError> {
     let mut words = Vec::new(alloc);
     for word in line.split_whitespace() {
@@ -53,36 +53,37 @@ fn words_of(alloc: Global, line: &str) -> Result<Vec<String>, AllocError> {
     Ok(words)
 }
 
-/// Whether what is allocated to a function is accepted by the checker.
+/// Returns whether registers are allocated to `f`, and the checker accepts the output.
 fn is_accepted<F: Function>(alloc: Global, f: &F, env: &MachineEnv) -> bool {
     allocate(alloc, f, env).is_ok()
 }
 
-/// Whether a function reads nothing unwritten, by the dominator tree.
+/// Returns whether `f` reads nothing unwritten, by the dominator tree.
 fn is_by_tree<F: Function>(alloc: Global, f: &F) -> bool {
     is_framed(f) && matches!(decided_by_tree(alloc, f), Ok(Some(true)))
 }
 
-/// Whether a function passes all tests and is allocated.
+/// Returns whether `f` passes all tests and is allocated.
 fn is_tested<F: Function>(alloc: Global, f: &F, env: &MachineEnv) -> bool {
     run_tested(alloc, f, env).is_ok()
 }
 
-/// Whether a function is allocated, reads nothing unwritten, by the dominator tree, and what comes out is accepted by the checker.
+/// Returns whether `f` passes all tests, reads nothing unwritten, by the dominator tree, and gets an output that the
+/// checker accepts.
 fn is_right<F: Function>(alloc: Global, f: &F, env: &MachineEnv) -> bool {
     let is_accepted = is_accepted(alloc, f, env);
     let is_by_tree = is_by_tree(alloc, f);
     is_accepted && is_by_tree && is_tested(alloc, f, env)
 }
 
-/// [`is_right`] of the function of a seed.
+/// Returns [`is_right`] of the function of `seed`.
 fn is_seed_right(alloc: Global, seed: u64) -> Option<bool> {
     let mut maker = Maker::new(alloc, seed)?;
     let f = maker.function()?;
     Some(is_right(alloc, &f, &maker.env))
 }
 
-/// How many of `count` randomly generated functions fail.
+/// Returns how many of `count` randomly generated functions fail.
 fn failures(alloc: Global, count: u64) -> usize {
     let mut failed = 0usize;
     for seed in 0..count {
@@ -93,7 +94,7 @@ fn failures(alloc: Global, count: u64) -> usize {
     failed
 }
 
-/// How many of `count` randomly generated modules over whole numbers end as their code does.
+/// Returns how many of `count` randomly generated modules over whole numbers end as their code does.
 fn agreeing(alloc: Global, count: u64) -> usize {
     let mut agreeing = 0usize;
     for seed in 0..count {
@@ -125,15 +126,15 @@ fn write_program(alloc: Global, out: &mut Report) {
     out.row("no words are refused", &program::no_words(alloc));
     out.row(
         "cut texts that aren't refused",
-        &program::unrefused_lengths(alloc),
+        &program::accepted_cuts(alloc),
     );
     out.row(
         "bytes that aren't refused",
-        &program::unrefused_bytes(alloc),
+        &program::accepted_bytes(alloc),
     );
     out.row(
         "failed reads that aren't refused",
-        &program::unrefused_reads(alloc),
+        &program::unreported_failed_reads(alloc),
     );
     out.row(
         "writes that each end it, up to five",
@@ -151,16 +152,40 @@ fn show_rows<W: Write>(alloc: Global, out: &mut W) -> io::Result<()> {
     report.print(out)
 }
 
-/// Writes what all but the cases return.
-fn show_all<W: Write>(alloc: Global, lines: &str, out: &mut W) -> io::Result<()> {
-    let (part, lines) = lines.split_once("\n\n").unwrap_or((lines, ""));
-    units::write_all(alloc, part, out)?;
+/// The texts of the files that the tests read in the current folder.
+#[derive(Drop)]
+struct Texts {
+    /// A function as JSON: `stored_function.json`.
+    function: String,
+    /// An output as JSON: `stored_output.json`.
+    output: String,
+    /// A title and a function as JSON for each part of the table of failed allocations: `failed_allocations.txt`.
+    failed_allocations: String,
+    /// Texts for `ra2`, as [`fuzz`] describes them: `ra2_texts.txt`.
+    ra2: String,
+}
+
+impl Texts {
+    /// Reads the files.
+    fn read(rt: &HostRuntime) -> io::Result<Texts> {
+        Ok(Texts {
+            function: fs::read_to_string(rt, "stored_function.json")?,
+            output: fs::read_to_string(rt, "stored_output.json")?,
+            failed_allocations: fs::read_to_string(rt, "failed_allocations.txt")?,
+            ra2: fs::read_to_string(rt, "ra2_texts.txt")?,
+        })
+    }
+}
+
+/// Writes the results of all tests but the cases; `texts` is what they read.
+fn show_all<W: Write>(alloc: Global, texts: &Texts, out: &mut W) -> io::Result<()> {
+    let stored = (texts.function.as_str(), texts.output.as_str());
+    units::write_all(alloc, stored, out)?;
     show_rows(alloc, out)?;
-    let (functions, texts) = lines.split_once("\n\n").unwrap_or((lines, ""));
-    refusing::show_all(alloc, functions, out)?;
+    refusing::show_all(alloc, texts.failed_allocations.as_str(), out)?;
     let count = agreeing(alloc, 200);
     writeln!(out, "{count} of 200 modules and their codes end alike")?;
-    fuzz::show_fuzz(alloc, texts, out)
+    fuzz::show_fuzz(alloc, texts.ra2.as_str(), out)
 }
 
 /// Runs the cases of a folder, or else all tests.
@@ -168,8 +193,7 @@ fn run<O: Write>(rt: &HostRuntime, out: &mut O) -> Result<Tally, CallError> {
     let folder = env::args(rt)?.nth(1);
     let tally = run_folder(rt, folder.as_deref().unwrap_or("."), out)?;
     if folder.is_none() {
-        let lines = io::read_to_string(rt.alloc(), rt.stdin())?;
-        show_all(rt.alloc(), lines.as_str(), out)?;
+        show_all(rt.alloc(), &Texts::read(rt)?, out)?;
     }
     out.flush()?;
     Ok(tally)

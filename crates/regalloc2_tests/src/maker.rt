@@ -30,7 +30,7 @@ pub struct Maker {
 }
 
 impl Maker {
-    /// A machine, and no instruction yet.
+    /// A machine, made from `seed`, and no instruction yet.
     pub fn new(alloc: Global, seed: u64) -> Option<Maker> {
         let mut random = Random::new(seed);
         let (env, most) = any_machine(alloc, &mut random)?;
@@ -58,7 +58,7 @@ impl Maker {
         self.named % 1_000_000
     }
 
-    /// A vreg of the class that wasn't named yet.
+    /// Returns a vreg of `class` that wasn't named yet.
     fn fresh(&mut self, class: RegClass) -> VReg
         ensures { result.class ≡ class }
     {
@@ -67,13 +67,13 @@ impl Maker {
         vreg
     }
 
-    /// Adds a use of one of the first vregs that may be read.
+    /// Adds to `draft` a use of one of the first `defined` vregs that may be read.
     fn add_use(&mut self, draft: &mut Draft, defined: usize) -> Option<()> {
         let vreg = *self.known.get(self.random.below(defined.max(1)))?;
         draft.add(&mut self.random, vreg, OperandKind::Use)
     }
 
-    /// Adds uses of the first vregs that may be read, as long as registers are left for them.
+    /// Adds to `draft` uses of the first `defined` vregs that may be read, as long as registers are left for them.
     fn fill_up(&mut self, draft: &mut Draft, defined: usize) -> Option<()> {
         for _ in 0..32 {
             let vreg = *self.known.get(self.random.below(defined.max(1)))?;
@@ -82,7 +82,7 @@ impl Maker {
         Some(())
     }
 
-    /// Adds a definition of a vreg that wasn't named yet.
+    /// Adds to `draft` a definition of a vreg that wasn't named yet.
     fn add_def(&mut self, draft: &mut Draft) -> Option<()> {
         let class = any_class(&mut self.random);
         let vreg = self.fresh(class);
@@ -90,7 +90,7 @@ impl Maker {
         draft.add(&mut self.random, vreg, OperandKind::Def)
     }
 
-    /// Adds a definition that reuses one of the operands, if one may be reused.
+    /// Adds to `draft` a definition that reuses one of its operands, if one may be reused.
     fn add_reuse(&mut self, draft: &mut Draft) -> Option<()> {
         let Some((index, class)) = draft.reused(&mut self.random) else {
             return Some(());
@@ -101,7 +101,8 @@ impl Maker {
         draft.operands.push(operand).ok()
     }
 
-    /// An instruction of fewer than `below` operands, and the operands that fill it up. A branch has uses alone, and isn't filled up.
+    /// An instruction of fewer than `below` operands, and the operands that fill it up. A branch has uses alone, and
+    /// isn't filled up.
     fn inst(&mut self, below: usize, op: InstOpcode) -> Option<TableInst>
         requires { 0 < below }
     {
@@ -138,14 +139,14 @@ impl Maker {
         f.op(Block(0), &defs).ok()
     }
 
-    /// Names a parameter of a block.
+    /// Adds a parameter to `block`.
     fn name_parameter(&mut self, graph: &mut Graph, block: usize) -> Option<()> {
         let class = any_class(&mut self.random);
         let param = self.fresh(class);
         graph.nodes.get_mut(block)?.params.push(param).ok()
     }
 
-    /// Names up to three parameters of each block but the entry.
+    /// Adds up to three parameters to each block of `graph` but the entry.
     fn name_few_parameters(&mut self, graph: &mut Graph) -> Option<()> {
         for number in 3..3 * graph.nodes.len().min(100) {
             if self.random.once_in(2) {
@@ -155,8 +156,8 @@ impl Maker {
         Some(())
     }
 
-    /// Names 9 to 20 parameters more of a block that isn't the entry, if there is one. Their arguments repeat, since
-    /// few vregs may be read.
+    /// Adds 9 to 20 more parameters to a block of `graph` that isn't the entry, if there is one. Their arguments
+    /// repeat, since few vregs may be read.
     fn name_many_parameters(&mut self, graph: &mut Graph) -> Option<()> {
         let blocks = graph.nodes.len().saturating_sub(1);
         if blocks == 0 {
@@ -169,7 +170,7 @@ impl Maker {
         Some(())
     }
 
-    /// Names the parameters: few of each block, and in one function of four many of one block.
+    /// Adds the parameters of `graph`: few to each block, and in one function of four many to one block.
     fn name_parameters(&mut self, graph: &mut Graph) -> Option<()> {
         self.name_few_parameters(graph)?;
         if self.random.once_in(4) {
@@ -178,7 +179,7 @@ impl Maker {
         Some(())
     }
 
-    /// An argument of a class: a vreg that may be read.
+    /// Returns an argument of `class`: a vreg that may be read.
     fn argument(&mut self, class: RegClass) -> Option<VReg> {
         for _ in 0..12 {
             let vreg = *self.known.get(self.random.below(self.known.len().max(1)))?;
@@ -186,10 +187,10 @@ impl Maker {
                 return Some(vreg);
             }
         }
-        Some(VReg::new(class as usize, class))
+        Some(VReg::new(class.code(), class))
     }
 
-    /// The arguments for a block.
+    /// Returns the arguments for block `to`.
     fn arguments(&mut self, graph: &Graph, to: usize) -> Option<Vec<VReg>> {
         let mut arguments = Vec::new(self.alloc);
         for param in &graph.nodes.get(to)?.params {
@@ -198,7 +199,7 @@ impl Maker {
         Some(arguments)
     }
 
-    /// Lets a block go on to its successors, with arguments.
+    /// Gives `block` its successors, with arguments.
     fn pass(&mut self, graph: &Graph, f: &mut TableBuilder, block: Block) -> Option<()> {
         for succ in &graph.nodes.get(block.index())?.succs {
             let arguments = self.arguments(graph, succ.index())?;
@@ -207,14 +208,15 @@ impl Maker {
         Some(())
     }
 
-    /// What may be read at the beginning of a block but the entry: what may behind the one above it, and its parameters.
+    /// Sets the vregs that may be read to the ones at the beginning of block `number`, which isn't the entry: the
+    /// ones after the block above it, and its parameters.
     fn enter(&mut self, graph: &Graph, number: usize) -> Option<()> {
         let node = graph.nodes.get(number)?;
         self.known = graph.nodes.get(node.above)?.known.to_vec(self.alloc).ok()?;
         self.known.extend_from_slice(&node.params).ok()
     }
 
-    /// The last instruction of a block: a return where no other block comes next, most often.
+    /// Returns the last instruction of block `number`: most often a return, if no other block comes next.
     fn ending(&mut self, graph: &Graph, number: usize) -> Option<TableInst> {
         if graph.nodes.get(number)?.succs.is_empty() && !self.random.once_in(20) {
             self.inst(5, InstOpcode::Ret)
@@ -224,7 +226,7 @@ impl Maker {
         }
     }
 
-    /// Fills a block.
+    /// Fills block `number`.
     fn fill(&mut self, graph: &mut Graph, f: &mut TableBuilder, number: usize) -> Option<()> {
         let block = Block::new(number % 100);
         for _ in 0..self.random.below(6) {
@@ -235,7 +237,7 @@ impl Maker {
         self.pass(graph, f, block)
     }
 
-    /// Fills all blocks.
+    /// Fills all blocks of `graph`.
     fn fill_all(&mut self, graph: &mut Graph, f: &mut TableBuilder) -> Option<()> {
         f.block(&[]).ok()?;
         self.add_bases(f)?;

@@ -21,7 +21,8 @@ const LAST_VREG: &str =
 /// A value in a register.
 const PLAIN: &str = "block0:\n  op: Def: v0i reg\n  ret: Use: v0i reg\n";
 
-/// How many allocations an output has, and the offsets of its two instructions, which have one operand each. The first is well-ordered.
+/// How many allocations an output has, and the offsets of its two instructions, which have one operand each. The
+/// first is well-ordered.
 static LISTS: [(usize, &[u32]); 5] = [
     (2, &[0, 1]),
     (2, &[0]),
@@ -30,7 +31,7 @@ static LISTS: [(usize, &[u32]); 5] = [
     (3, &[0, 1]),
 ];
 
-/// What the checker reports of the function and the output of a text.
+/// Returns what the checker reports of the function and the output of `text`.
 fn verdict_of(alloc: Global, text: &str) -> Option<Result<(), CheckerErrors>> {
     let Ok(text) = read_text(alloc, text, 1) else {
         return None;
@@ -55,7 +56,7 @@ fn output_with(alloc: Global, count: usize, offsets: &[u32]) -> Result<Output, A
     Ok(out)
 }
 
-/// Writes how a new checker of a function refuses an output, if it does.
+/// Writes how a new checker of `f` rejects the output `given`, if it does.
 fn write_prepared<F: Function>(alloc: Global, f: &F, given: &Output, out: &mut Report) {
     if !is_framed(f) {
         return;
@@ -84,8 +85,8 @@ fn write_lists<F: Function>(alloc: Global, f: &F, out: &mut Report) -> Result<()
     Ok(())
 }
 
-/// Writes what the checker reports of a value in the last slot, of a small vreg and of the greatest, and how it refuses outputs that
-/// aren't well-ordered.
+/// Writes what the checker reports of a value in the last slot, of a small vreg and of the greatest, and how it
+/// refuses outputs that aren't well-ordered.
 pub fn write_all(alloc: Global, out: &mut Report) -> Result<(), AllocError> {
     out.row("last slot", &verdict_of(alloc, LAST_SLOT));
     out.row("last slot, greatest vreg", &verdict_of(alloc, LAST_VREG));

@@ -36,7 +36,7 @@ struct Failing<'a> {
 }
 
 impl<'a> Failing<'a> {
-    /// A reader of which no read fails.
+    /// A reader of `text` of which no read fails.
     fn sound(text: &'a [u8]) -> Failing<'a> {
         Failing {
             text,
@@ -55,8 +55,8 @@ impl Read for Failing<'_> {
     }
 }
 
-/// A writer over memory. The write after `sound_writes` others fails, once, and so may each flush. `is_written_again` tells whether a
-/// write came after the failed one.
+/// A writer over memory. The write after `sound_writes` others fails, once, and so may each flush. `is_written_again`
+/// tells whether a write came after the failed one.
 #[derive(Drop)]
 struct Faulty {
     text: Vec<u8>,
@@ -106,7 +106,8 @@ impl Write for Faulty {
     }
 }
 
-/// The status that the program returns for the command line `line` and an `input`, and what it writes over a buffer of `capacity` bytes.
+/// The status that the program returns for the command line `line` and an `input`, and what it writes over a buffer
+/// of `capacity` bytes.
 fn call(
     alloc: Global,
     line: &str,
@@ -121,8 +122,8 @@ fn call(
     Ok(run_program(alloc, ample, words.as_slice(), input, out, err))
 }
 
-/// Whether the program reports arguments and an input by just a line on the standard error, with
-/// status 2.
+/// Returns whether the program rejects the arguments `line` with `input` by the status 2 and nothing but `err_line`
+/// on standard error.
 fn is_refused(alloc: Global, line: &str, input: Failing<'_>, err_line: &str) -> io::Result<bool> {
     let mut err = Faulty::sound(alloc);
     let (status, out) = call(alloc, line, input, USUAL, Faulty::sound(alloc), &mut err)?;
@@ -136,54 +137,50 @@ pub fn no_words(alloc: Global) -> io::Result<bool> {
     is_refused(alloc, "", input, "ra2: bad words\n")
 }
 
-/// The positions of the inputs that aren't rejected.
-fn unrefused(alloc: Global, inputs: &[Failing<'_>]) -> io::Result<Vec<usize>> {
-    let mut unrefused = Vec::new(alloc);
+/// Returns the positions of the `inputs` that aren't rejected.
+fn accepted(alloc: Global, inputs: &[Failing<'_>]) -> io::Result<Vec<usize>> {
+    let mut accepted = Vec::new(alloc);
     for at in 0..inputs.len() {
         if !is_refused(alloc, "run", inputs[at], UNREADABLE)? {
-            unrefused.push(at)?;
+            accepted.push(at)?;
         }
     }
-    Ok(unrefused)
+    Ok(accepted)
 }
 
-/// The lengths at which a text that is cut there isn't rejected.
-pub fn unrefused_lengths(alloc: Global) -> io::Result<Vec<usize>> {
+/// Returns the lengths at which [`TEXT`] can be cut without being rejected.
+pub fn accepted_cuts(alloc: Global) -> io::Result<Vec<usize>> {
     let whole = TEXT.as_bytes();
     let mut cut = Vec::new(alloc);
     for length in 0..whole.len() {
         cut.push(Failing::sound(&whole[..length]))?;
     }
-    unrefused(alloc, &cut)
+    accepted(alloc, &cut)
 }
 
-/// Which of the bytes that are no function aren't rejected.
-pub fn unrefused_bytes(alloc: Global) -> io::Result<Vec<usize>> {
+/// Returns the positions of the bytes that are no function and yet aren't rejected.
+pub fn accepted_bytes(alloc: Global) -> io::Result<Vec<usize>> {
     let inputs = [
         Failing::sound(b"{"),
         Failing::sound(b"null"),
         Failing::sound(&[34, 255, 34]),
         Failing::sound(&[195, 40]),
     ];
-    unrefused(alloc, &inputs)
+    accepted(alloc, &inputs)
 }
 
-/// After how many reads, none or one, a read that fails isn't reported.
-pub fn unrefused_reads(alloc: Global) -> io::Result<Vec<usize>> {
+/// Returns for which counts of sound reads, 0 and 1, the failed read that follows isn't reported.
+pub fn unreported_failed_reads(alloc: Global) -> io::Result<Vec<usize>> {
     let text = TEXT.as_bytes();
-    unrefused(
-        alloc,
-        &[
-            Failing {
-                text,
-                sound_reads: 0,
-            },
-            Failing {
-                text,
-                sound_reads: 1,
-            },
-        ],
-    )
+    let at_once = Failing {
+        text,
+        sound_reads: 0,
+    };
+    let after_one = Failing {
+        text,
+        sound_reads: 1,
+    };
+    accepted(alloc, &[at_once, after_one])
 }
 
 /// What the program writes and returns if the write after `sound_writes` others fails, over a buffer
@@ -215,16 +212,13 @@ fn fatal_writes(alloc: Global, capacity: usize) -> io::Result<Option<u32>> {
     Ok(None)
 }
 
-/// A number up to five.
+/// Returns `count`, or 5 if it is greater.
 fn up_to_five(count: Option<u32>) -> Option<u32> {
-    match count {
-        Some(count) => Some(count.min(5)),
-        None => None,
-    }
+    count.map(|count| count.min(5))
 }
 
-/// How many writes there are without a buffer, over 16 bytes, and over 8192, where each of them ends the program if it fails. Five
-/// stand for five and more.
+/// How many writes there are without a buffer, over 16 bytes, and over 8192, where each of them ends the program if
+/// it fails. Five stand for five and more.
 pub fn writes_up_to_five(alloc: Global) -> io::Result<[Option<u32>; 3]> {
     let unbuffered = fatal_writes(alloc, 0)?;
     let short = fatal_writes(alloc, 16)?;

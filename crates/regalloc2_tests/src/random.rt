@@ -6,7 +6,7 @@ pub use codegen::program::Random;
 use regalloc2::{MachineEnv, PReg, PRegSet, RegClass};
 use std::alloc::Global;
 
-/// The classes.
+/// The classes by their codes.
 pub static CLASSES: [RegClass; 3] = [RegClass::Int, RegClass::Float, RegClass::Vector];
 
 /// The first fixed stack slot of each class; the registers that are allocated have lower numbers.
@@ -15,7 +15,7 @@ pub const FIRST_SLOT: usize = 40;
 /// The register of each class for moves from stack to stack, where there is one.
 const SCRATCH: usize = 50;
 
-/// Returns one of the classes, most often the class of integers.
+/// Returns one of the classes, most often the class of integers, by `random`.
 pub fn any_class(random: &mut Random) -> RegClass {
     match random.below(4) {
         0 => RegClass::Float,
@@ -24,14 +24,14 @@ pub fn any_class(random: &mut Random) -> RegClass {
     }
 }
 
-/// The register of that number, of which the lowest six bits count.
+/// Returns the register of `class` with the number `number`, which is taken below 64.
 pub fn preg(number: usize, class: RegClass) -> PReg
     ensures { result.class ≡ class }
 {
     PReg::new(number % 64, class)
 }
 
-/// The registers of a class from a number up to another.
+/// Returns the registers of `class` with the numbers from `from` up to `to`.
 fn pregs(class: RegClass, from: usize, to: usize) -> PRegSet {
     let mut set = PRegSet::empty();
     for number in from..to {
@@ -51,15 +51,16 @@ pub fn integer_machine(alloc: Global, count: usize) -> MachineEnv {
     }
 }
 
-/// A machine: of each class up to seven registers, of which some aren't preferred, with or without
-/// two fixed stack slots and a register for moves. It is returned with how many registers of each
-/// class an instruction may require.
+/// Returns a machine, made by `random`, with how many registers of each class an instruction may require.
+///
+/// The machine has up to seven registers of each class, of which some aren't preferred, with or without two fixed
+/// stack slots and a register for moves.
 pub fn any_machine(alloc: Global, random: &mut Random) -> Option<(MachineEnv, [usize; 3])> {
     let mut env = integer_machine(alloc, 0);
     let mut most = [0usize; 3];
     for class in &CLASSES {
         let class = *class;
-        let at = class as usize;
+        let at = class.code();
         let has_slots = random.once_in(2);
         let has_scratch = random.once_in(2);
         let preferred = random.below(4).saturating_add(1);

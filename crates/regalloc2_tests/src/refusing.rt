@@ -14,19 +14,19 @@ use regalloc2::{Function, MachineEnv, Output, allocate_without_checker};
 use std::alloc::Global;
 use std::io::{self, Write};
 
-/// What is allocated to a function, or nothing.
+/// Returns what is allocated to `f`, or an empty output.
 fn output_of<F: Function>(alloc: Global, f: &F, env: &MachineEnv) -> Output {
     allocate_without_checker(alloc, f, env).unwrap_or(Output::new(alloc))
 }
 
-/// Whether each failed allocation of a call is reported, and whether the call allocates memory at
-/// all. The call's expected result is the one that it returns with ample memory.
+/// Returns whether the call `given` allocates memory, and reports each failed allocation. The call's expected result
+/// is the one that it returns with ample memory.
 fn is_told<F: Function>(global: Global, given: &mut Given<'_, F>) -> Option<bool> {
     given.wanted = given.outcome(&Refusing::counting(global)).ok()?;
     Some(is_each_told(global, given))
 }
 
-/// The result of a call of that name.
+/// Returns the result of the call `name`.
 fn answer_of<F: Function>(
     global: Global,
     name: Name,
@@ -50,7 +50,7 @@ fn answer_of<F: Function>(
     }
 }
 
-/// Writes of which calls each failed allocation is reported, and of which it isn't.
+/// Writes which calls with the function and machine `given` report each failed allocation, and which don't.
 fn show_answers<F: Function, W: Write>(
     global: Global,
     given: (&F, &MachineEnv),
@@ -65,7 +65,7 @@ fn show_answers<F: Function, W: Write>(
     Ok(())
 }
 
-/// Writes of which calls with a function each failed allocation is reported, and of which it isn't.
+/// Writes which calls with `f` report each failed allocation, and which don't.
 fn show_of<F: Function, W: Write>(
     global: Global,
     f: &F,
@@ -78,7 +78,7 @@ fn show_of<F: Function, W: Write>(
     show_answers(global, (f, env), &out, &without_moves, to)
 }
 
-/// Writes of which calls with the function of a JSON text each failed allocation is reported, and of which it isn't.
+/// Writes which calls with the function of the JSON text `text` report each failed allocation, and which don't.
 fn show<W: Write>(global: Global, text: &str, to: &mut W) -> io::Result<()> {
     match function_of_text(global, global, text) {
         Ok(f) => show_of(global, &f, f.machine_env(), to),
@@ -86,8 +86,8 @@ fn show<W: Write>(global: Global, text: &str, to: &mut W) -> io::Result<()> {
     }
 }
 
-/// Writes the titles, which begin with `#`, and after each function, a JSON text, of which calls
-/// each failed allocation is reported.
+/// Writes the titles among `lines`, which begin with `#`, and after each function, a JSON text, which calls report
+/// each failed allocation.
 pub fn show_all<W: Write>(global: Global, lines: &str, to: &mut W) -> io::Result<()> {
     for line in lines.lines() {
         if line.starts_with('#') {

@@ -33,7 +33,7 @@ pub fn allocated<F: Function>(alloc: Global, f: &F, registers: usize) -> Option<
     run_fitting(alloc, f, &integer_machine(alloc, registers))?.ok()
 }
 
-/// The tables of a function, if it needs to pass no tests or passes them.
+/// Returns the tables of `f`, if it passes the tests or `is_tested` is false.
 fn tables_of<F: Function>(alloc: Global, f: &F, is_tested: bool) -> Option<CFGInfo> {
     let info = CFGInfo::new(alloc, f).ok()?;
     if is_tested && validate_ssa(alloc, f, &info).is_err() {
@@ -42,12 +42,10 @@ fn tables_of<F: Function>(alloc: Global, f: &F, is_tested: bool) -> Option<CFGIn
     Some(info)
 }
 
-/// The tables of the function of a text, if it needs to pass no tests or passes them.
+/// Returns the tables of the function of `text`, if it passes the tests or `is_tested` is false.
 fn tables_of_text(alloc: Global, text: &str, is_tested: bool) -> Option<CFGInfo> {
-    match function_of(alloc, text) {
-        Some(f) => tables_of(alloc, &f, is_tested),
-        None => None,
-    }
+    let f = function_of(alloc, text)?;
+    tables_of(alloc, &f, is_tested)
 }
 
 /// The tables of the loop, which passes the tests, and of the fork.
@@ -58,10 +56,8 @@ pub fn tables(alloc: Global) -> Option<(CFGInfo, CFGInfo)> {
 
 /// How many slots `run` gives a function.
 fn own_slots<F: Function>(alloc: Global, f: &F) -> Option<usize> {
-    match allocated(alloc, f, 10) {
-        Some(out) => Some(out.num_spillslots),
-        None => None,
-    }
+    let out = allocated(alloc, f, 10)?;
+    Some(out.num_spillslots)
 }
 
 /// How many slots `run_with_ctx` gives `f` on a machine with `registers` integer registers, or how it rejects `f`.
@@ -74,7 +70,7 @@ fn lent_slots<F: Function>(
     run_with_ctx_fitting(f, &integer_machine(alloc, registers), ctx)
 }
 
-/// How many slots each call gives a function, and how it is rejected on one register.
+/// Returns how many slots each call gives `f`, and how it is rejected on one register.
 fn slots_and_lack<F: Function>(
     alloc: Global,
     f: &F,
@@ -91,7 +87,7 @@ fn lead_nowhere(f: &mut TableFunction) -> Option<()> {
     Some(())
 }
 
-/// How a function is rejected on ten registers, and whether it is structurally valid (`IsFramed`).
+/// Returns how `f` is rejected on ten registers, and whether it is structurally valid (`IsFramed`).
 fn refusal<F: Function>(
     alloc: Global,
     f: &F,
@@ -101,7 +97,7 @@ fn refusal<F: Function>(
     Some((refused, is_framed(f)))
 }
 
-/// What `slots_and_refusals` says of the loop, which it changes.
+/// Returns what `slots_and_refusals` returns of the loop `f`, which it changes.
 fn slots_and_refusals_of(
     alloc: Global,
     f: &mut TableFunction,
@@ -137,7 +133,7 @@ pub fn order_to_nowhere(alloc: Global) -> Option<RegAllocError> {
 /// The result of a call with a context, and how many debug locations the context holds after it.
 type Held = (Result<(), RegAllocError>, usize);
 
-/// The results of [`held`], for a function that needs two registers.
+/// Returns the results of [`held`] for `f`, which needs two registers.
 fn held_of<F: Function>(alloc: Global, f: &F, ctx: &mut Ctx) -> Option<[Held; 3]> {
     let (one, two) = (integer_machine(alloc, 1), integer_machine(alloc, 2));
     let stored = run_into_ctx_fitting(f, &two, ctx)?;
@@ -155,13 +151,11 @@ fn held_of<F: Function>(alloc: Global, f: &F, ctx: &mut Ctx) -> Option<[Held; 3]
 /// What a context holds: an output that was stored; the same after a rejected run; and one whose
 /// debug locations the borrower removed.
 pub fn held(alloc: Global) -> Option<[Held; 3]> {
-    match labelled_function_of(alloc, LABELLED) {
-        Some(f) => held_of(alloc, &f, &mut Ctx::new(alloc)),
-        None => None,
-    }
+    let f = labelled_function_of(alloc, LABELLED)?;
+    held_of(alloc, &f, &mut Ctx::new(alloc))
 }
 
-/// What a checker reports, if it takes just the outputs that it should, one after another.
+/// Returns what `checker` reports, if it accepts exactly the outputs of `given` that are right, one after another.
 fn report<F: Function>(
     mut checker: Checker<'_, F>,
     given: &[(&Output, bool)],
@@ -174,7 +168,7 @@ fn report<F: Function>(
     Some(checker.run())
 }
 
-/// What a new checker of a function reports, if it takes just the outputs that it should.
+/// Returns what a new checker of `f` reports, if it accepts exactly the outputs of `given` that are right.
 pub fn verdict<F: Function>(
     alloc: Global,
     f: &F,
@@ -183,13 +177,11 @@ pub fn verdict<F: Function>(
     if !is_framed(f) {
         return None;
     }
-    match Checker::new(alloc, f, &integer_machine(alloc, 10)) {
-        Ok(checker) => report(checker, given),
-        Err(_) => None,
-    }
+    let checker = Checker::new(alloc, f, &integer_machine(alloc, 10)).ok()?;
+    report(checker, given)
 }
 
-/// The verdicts on a right output and a wrong one.
+/// Returns the verdicts on the outputs `right` and `wrong`.
 fn verdicts_on<F: Function>(
     alloc: Global,
     f: &F,
@@ -213,8 +205,6 @@ fn verdicts_of<F: Function>(alloc: Global, f: &F) -> Option<[Result<(), CheckerE
 /// What a checker reports that has no output; that was given one which isn't well-ordered, after a
 /// right one; and that was given the right one last.
 pub fn verdicts(alloc: Global) -> Option<[Result<(), CheckerErrors>; 3]> {
-    match function_of(alloc, LOOP) {
-        Some(f) => verdicts_of(alloc, &f),
-        None => None,
-    }
+    let f = function_of(alloc, LOOP)?;
+    verdicts_of(alloc, &f)
 }

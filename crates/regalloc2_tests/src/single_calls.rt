@@ -1,5 +1,5 @@
-//! Calls that [`allocate`](regalloc2::allocate) makes unseen, made one by one: the tests of a function's blocks and definitions, its live
-//! ranges, and a checked run with the test of its cells.
+//! Calls that [`allocate`](regalloc2::allocate) makes unseen, made one by one: the tests of a function's blocks and
+//! definitions, its live ranges, and a checked run with the test of its cells.
 
 ghost use Rattle.regalloc2_analysis.specs.LiveRanges.LiveRanges.{IsSSA};
 
@@ -17,8 +17,8 @@ use regalloc2_analysis::live_ranges::{LiveRange, kept_labels, live_ranges};
 use regalloc2_serialize::table_function::{BuildError, TableBuilder, TableFunction};
 use std::alloc::Global;
 
-/// A value that a loop passes to a parameter on each turn, which nothing reads, and one that the return reads late. The label of the
-/// parameter and the one that ends past the last read aren't kept.
+/// A value that a loop passes to a parameter on each turn, which nothing reads, and one that the return reads late.
+/// The label of the parameter and the one that ends past the last read aren't kept.
 const LABELLED: &str = "block0:\n  op: Def: v0i reg\n  branch block1(v0i)\n\
     block1(v1i):\n  op: Def: v2i reg, Use: v0i reg\n  branch block2(), block3()\n\
     block2:\n  branch block1(v0i)\n\
@@ -26,12 +26,11 @@ const LABELLED: &str = "block0:\n  op: Def: v0i reg\n  branch block1(v0i)\n\
     label 5: v0i from inst0 until inst5\nlabel 6: v1i from inst2 until inst3\n\
     label 7: v2i from inst2 until inst8\n";
 
-/// Writes a range with its vreg, and the operand that shows the value at its end.
+/// Writes `range` with its vreg, and the operand that shows the value at its end.
 fn write_range(range: &LiveRange, out: &mut Report) {
-    let by = match range.by {
-        Some(operand) => Some((operand.inst.index(), operand.index)),
-        None => None,
-    };
+    let by = range
+        .by
+        .map(|operand| (operand.inst.index(), operand.index));
     out.row("range", &(range.vreg, range.first, range.last, by));
 }
 
@@ -82,7 +81,7 @@ fn built(alloc: Global) -> Result<TableFunction, BuildError> {
     f.finish(1)
 }
 
-/// Writes the places of a checked output, and whether they are cells.
+/// Writes the places of a checked output of `f`, and whether they are cells.
 fn write_checked<F: Function>(alloc: Global, f: &F, env: &MachineEnv, out: &mut Report) {
     if !machine_fits(f, env) {
         return;

@@ -45,7 +45,7 @@ impl<B: Allocator> Drop for Refusing<B> {
     }
 }
 
-/// Counts one request, and returns whether it is the one to fail.
+/// Counts one request in `left`, and returns whether it is the one to fail.
 fn refuses(left: &Cell<u64>) -> bool {
     let now = left.get();
     if now == 0 {
@@ -77,8 +77,7 @@ pub trait Call {
     fn make(&self, alloc: &Refusing<Global>) -> Result<bool, AllocError>;
 }
 
-/// Whether a call reports each of its failed allocations, and is done if it is made again; and
-/// there is one.
+/// Returns whether `call` has failed allocations, reports each of them, and is done if it is made again.
 pub fn is_each_told<C: Call>(global: Global, call: &C) -> bool {
     for nth in 1..10_000u64 {
         let alloc = Refusing::new(global, nth);

@@ -17,18 +17,14 @@ fn copy_of<F: Function>(alloc: Global, f: &F) -> Option<TableFunction> {
     renumber(alloc, f, &blocks).ok()
 }
 
-/// The function of a text, with its labels.
+/// Returns the function of `text`, with its labels.
 pub fn labelled_function_of(alloc: Global, text: &str) -> Option<SerializableFunction> {
-    match read_text(alloc, text, 1) {
-        Ok(text) => SerializableFunction::from_stored(alloc, &text.function).ok(),
-        Err(_) => None,
-    }
+    let read = read_text(alloc, text, 1).ok()?;
+    SerializableFunction::from_stored(alloc, &read.function).ok()
 }
 
-/// The function of a text without labels, whose blocks and instructions may be changed.
+/// Returns the function of `text` without labels, whose blocks and instructions may be changed.
 pub fn function_of(alloc: Global, text: &str) -> Option<TableFunction> {
-    match labelled_function_of(alloc, text) {
-        Some(f) => copy_of(alloc, &f),
-        None => None,
-    }
+    let f = labelled_function_of(alloc, text)?;
+    copy_of(alloc, &f)
 }

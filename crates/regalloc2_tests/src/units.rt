@@ -12,8 +12,8 @@ use report::Report;
 use std::alloc::{AllocError, Global};
 use std::io::{self, Write};
 
-/// Makes all rows. The text is a function and an output, each as JSON.
-fn report_of(alloc: Global, text: &str) -> Result<Report, AllocError> {
+/// Makes all rows. `stored` is a function and an output, each as JSON.
+fn report_of(alloc: Global, stored: (&str, &str)) -> Result<Report, AllocError> {
     let mut report = Report::new(alloc);
     columns::write_all(alloc, &mut report)?;
     rewriting::write_all(alloc, &mut report);
@@ -21,11 +21,15 @@ fn report_of(alloc: Global, text: &str) -> Result<Report, AllocError> {
     names::write_all(&mut report);
     sets::write_all(alloc, &mut report)?;
     parts::write_all(alloc, &mut report)?;
-    parts::refused::write_all(alloc, text, &mut report);
+    parts::refused::write_all(alloc, stored, &mut report);
     Ok(report)
 }
 
-/// Writes all rows.
-pub fn write_all<W: Write>(alloc: Global, text: &str, out: &mut W) -> io::Result<()> {
-    report_of(alloc, text)?.print(out)
+/// Writes all rows. `stored` is a function and an output, each as JSON.
+pub fn write_all<W: Write>(
+    alloc: Global,
+    stored: (&str, &str),
+    out: &mut W,
+) -> io::Result<()> {
+    report_of(alloc, stored)?.print(out)
 }

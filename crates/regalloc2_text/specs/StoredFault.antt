@@ -4,7 +4,7 @@ use Rattle.std.specs.Fmt.{decimal}
 use Rattle.regalloc2_function.specs.declared.serialize.StoredFault.{StoredFault}
 use Rattle.regalloc2_function.specs.declared.serialize.StoredFault.TheVariants.{Lengths, Index, Bits, Limit, Memory, Shape}
 use Rattle.regalloc2_text.specs.declared.explain.faults.StoredCause.{StoredCause}
-use Rattle.regalloc2_text.specs.Explain.FaultText.{cause_text}
+use Rattle.regalloc2_text.specs.Explain.FaultText.{stored_cause_text}
 
 abbrev pub fault_number : StoredFault → ℕ
 fault_number Lengths = 1
@@ -16,4 +16,4 @@ fault_number Shape = 6
 
 -- the number of an error and its cause, as 2: the entry is block1, and the function has 1 block
 abbrev pub stored_fault_text : StoredFault → StoredCause → List ℕ
-stored_fault_text e c = decimal (fault_number e) ++ codes ": " ++ cause_text c
+stored_fault_text e c = decimal (fault_number e) ++ codes ": " ++ stored_cause_text c

@@ -1,7 +1,8 @@
 //! Why a function is rejected, or what causes a finding of the checker: the instruction or block as
 //! it is written, and the cause with numbers.
 //!
-//! All calls take stored functions, also ill-formed ones, whose numbers may name nothing. [`report`] counts and compares allocations.
+//! All calls take stored functions, also ill-formed ones, whose numbers may name nothing. [`report`] counts and
+//! compares allocations.
 
 mod blocks;
 mod cause;

@@ -1,9 +1,10 @@
-//! Functions, machines and outputs as text: read by a [`cursor`] over lines, laid out by [`writer`]; errors with their numbers
-//! ([`refusal`], [`stored_fault`]), and their causes ([`explain`]).
+//! Functions, machines and outputs as text: read by a [`cursor`] over lines, laid out by [`writer`]; errors with
+//! their numbers ([`refusal`], [`stored_fault`]), and their causes ([`explain`]).
 #![tactic(auto)]
 
 pub mod cursor;
 pub mod explain;
+mod named;
 mod reading;
 pub mod refusal;
 mod same;

@@ -13,10 +13,13 @@ mod output;
 mod settings;
 mod stored;
 
-use crate::cursor::{Expected, Flaw, Found, TextError, Token, split_line, tokenize_from};
-use draft::{Draft, LineEffect, is_numbered};
+use crate::cursor::{
+    Expected, Flaw, Found, TextError, Token, is_numbered, split_line, tokenize_from,
+};
+use draft::{Draft, LineEffect};
 pub use dump::is_logged;
 use dump::shown_part;
+pub(crate) use dump::split_prefix;
 use regalloc2_function::StoredOutput;
 use regalloc2_serialize::StoredFunction;
 use std::alloc::{Allocator, Global};
@@ -38,7 +41,8 @@ fn begins_block(tokens: &[Token<'_>]) -> bool {
     }
 }
 
-/// The line of the last move without a point, after a line of the effect `effect`; up to that line it was `before`.
+/// Returns the line of the last move without a point, after `line` had the effect `effect`. Up to `line` it was
+/// `before`.
 fn last_move(effect: LineEffect, line: usize, before: usize) -> usize
     ensures low { before ≤ line → before ≤ result }
     ensures high { before ≤ line → result ≤ line }
@@ -122,10 +126,7 @@ pub fn read<'t, A: Allocator + Copy>(
 {
     let mut draft = Draft::new(alloc);
     let mut tokens = Vec::new(alloc);
-    let line = match read_lines(&mut draft, alloc, &mut tokens, text, first_line) {
-        Ok(line) => line,
-        Err(error) => return Err(error),
-    };
+    let line = read_lines(&mut draft, alloc, &mut tokens, text, first_line)?;
     match draft.finish(alloc) {
         Ok(text) => Ok(text),
         Err(flaw) => Err(flaw.on_line(line)),

@@ -4,7 +4,7 @@ use regalloc2_function::StoredOutput;
 use regalloc2_serialize::{StoredFunction, StoredInst, StoredMachine};
 use std::alloc::Allocator;
 
-/// Whether two machines hold the same.
+/// Returns whether the machines `one` and `other` hold the same.
 fn same_machine<A: Allocator>(one: &StoredMachine<A>, other: &StoredMachine<A>) -> bool {
     one.preferred_regs_by_class == other.preferred_regs_by_class
         && one.non_preferred_regs_by_class == other.non_preferred_regs_by_class
@@ -12,12 +12,12 @@ fn same_machine<A: Allocator>(one: &StoredMachine<A>, other: &StoredMachine<A>) 
         && one.fixed_stack_slots == other.fixed_stack_slots
 }
 
-/// Whether two instructions hold the same.
+/// Returns whether the instructions `one` and `other` hold the same.
 fn same_inst<A: Allocator>(one: &StoredInst<A>, other: &StoredInst<A>) -> bool {
     one.op == other.op && one.operands == other.operands && one.clobbers == other.clobbers
 }
 
-/// Whether two lists of instructions hold the same.
+/// Returns whether the instructions `one` and `other` hold the same, one by one.
 fn same_insts<A: Allocator>(one: &[StoredInst<A>], other: &[StoredInst<A>]) -> bool {
     if one.len() != other.len() {
         return false;
@@ -30,7 +30,7 @@ fn same_insts<A: Allocator>(one: &[StoredInst<A>], other: &[StoredInst<A>]) -> b
     true
 }
 
-/// Whether two functions have the same blocks.
+/// Returns whether the functions `one` and `other` have the same blocks.
 fn same_blocks<A: Allocator>(one: &StoredFunction<A>, other: &StoredFunction<A>) -> bool {
     one.blocks == other.blocks
         && one.block_preds == other.block_preds
@@ -39,7 +39,7 @@ fn same_blocks<A: Allocator>(one: &StoredFunction<A>, other: &StoredFunction<A>)
         && one.block_params_out == other.block_params_out
 }
 
-/// Whether two functions hold the same, their machines too.
+/// Returns whether the functions `one` and `other` hold the same, their machines included.
 pub(crate) fn same_function<A: Allocator>(
     one: &StoredFunction<A>,
     other: &StoredFunction<A>,
@@ -55,7 +55,7 @@ pub(crate) fn same_function<A: Allocator>(
         && one.allow_multiple_vreg_defs == other.allow_multiple_vreg_defs
 }
 
-/// Whether two outputs hold the same.
+/// Returns whether the outputs `one` and `other` hold the same.
 fn same_output<A: Allocator>(one: &StoredOutput<A>, other: &StoredOutput<A>) -> bool {
     one.num_spillslots == other.num_spillslots
         && one.edits == other.edits
@@ -64,7 +64,7 @@ fn same_output<A: Allocator>(one: &StoredOutput<A>, other: &StoredOutput<A>) -> 
         && one.debug_locations == other.debug_locations
 }
 
-/// Whether there is no output on either side, or two that hold the same.
+/// Returns whether `one` and `other` are two outputs that hold the same, or neither is an output.
 pub(crate) fn same_outputs<A: Allocator>(
     one: Option<&StoredOutput<A>>,
     other: Option<&StoredOutput<A>>,

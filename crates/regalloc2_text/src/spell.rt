@@ -1,15 +1,15 @@
-//! The texts of program points and of single stored numbers: the text of the name if the number is one's, else `bits(N)`.
+//! The texts of program points and of single stored numbers: the text of the name if the number is one's, else
+//! `bits(N)`.
 
 ghost use Rattle.std.specs.Prelude.{Some};
 ghost use Rattle.regalloc2_text.specs.Point.{point_text};
 
-use regalloc2_names::{
-    Allocation, InstPosition, Operand, OperandKind, OperandPos, PReg, ProgPoint, VReg, VRegText,
-};
+use crate::named::{operand_of, place_of, point_of, register_of, vreg_of};
+use regalloc2_names::{InstPosition, Operand, OperandKind, OperandPos, PReg, ProgPoint, VRegText};
 use std::fmt;
 
-/// Writes a number that names nothing.
-fn write_bits<W: fmt::Write>(bits: u64, f: &mut fmt::Formatter<W>) -> fmt::Result {
+/// Writes `bits`, which encode nothing.
+pub(crate) fn write_bits<W: fmt::Write>(bits: u64, f: &mut fmt::Formatter<W>) -> fmt::Result {
     write!(f, "bits({bits})")
 }
 
@@ -19,11 +19,10 @@ pub(crate) struct StoredRegister(pub u8);
 
 impl fmt::Display for StoredRegister {
     fn fmt<W: fmt::Write>(&self, f: &mut fmt::Formatter<W>) -> fmt::Result {
-        let index = usize::from(self.0);
-        if !PReg::is_index(index) {
-            return write_bits(u64::from(self.0), f);
+        match register_of(self.0) {
+            Some(register) => write!(f, "{register}"),
+            None => write_bits(u64::from(self.0), f),
         }
-        write!(f, "{}", PReg::from_index(index))
     }
 }
 
@@ -33,21 +32,20 @@ pub(crate) struct StoredVReg(pub u32);
 
 impl fmt::Display for StoredVReg {
     fn fmt<W: fmt::Write>(&self, f: &mut fmt::Formatter<W>) -> fmt::Result {
-        let bits = self.0;
-        if !VReg::is_bits(bits) {
-            return write_bits(u64::from(bits), f);
+        match vreg_of(self.0) {
+            Some(vreg) => write!(f, "{}", VRegText(vreg)),
+            None => write_bits(u64::from(self.0), f),
         }
-        write!(f, "{}", VRegText(VReg::from_bits(bits)))
     }
 }
 
 impl StoredVReg {
     /// One more than the number that the text shows, or 0 if it shows none.
     pub(crate) fn vregs(self) -> u64 {
-        if !VReg::is_bits(self.0) {
-            return 0;
+        match vreg_of(self.0) {
+            Some(vreg) => vreg.vreg() as u64 + 1,
+            None => 0,
         }
-        VReg::from_bits(self.0).vreg() as u64 + 1
     }
 }
 
@@ -59,12 +57,12 @@ impl StoredVReg {
 #[derive(Clone, Copy)]
 pub(crate) struct StoredOperand(pub u64);
 
-/// Returns whether an operand is read at the beginning of its instruction.
-fn is_early_use(operand: Operand) -> bool {
+/// Returns whether `operand` is read at the beginning of its instruction.
+pub(crate) fn is_early_use(operand: Operand) -> bool {
     operand.kind() == OperandKind::Use && operand.pos() == OperandPos::Early
 }
 
-/// Writes an operand under the fixed register `register` with its vreg.
+/// Writes `operand`, which is fixed to `register`, with its vreg.
 fn write_fixed<W: fmt::Write>(
     operand: Operand,
     register: PReg,
@@ -82,11 +80,9 @@ fn write_fixed<W: fmt::Write>(
 
 impl fmt::Display for StoredOperand {
     fn fmt<W: fmt::Write>(&self, f: &mut fmt::Formatter<W>) -> fmt::Result {
-        let bits = self.0;
-        if !Operand::is_bits(bits) {
-            return write_bits(bits, f);
-        }
-        let operand = Operand::from_bits(bits);
+        let Some(operand) = operand_of(self.0) else {
+            return write_bits(self.0, f);
+        };
         match operand.as_fixed_nonallocatable() {
             Some(register) if !is_early_use(operand) => write_fixed(operand, register, f),
             _ => write!(f, "{operand}"),
@@ -97,10 +93,9 @@ impl fmt::Display for StoredOperand {
 impl StoredOperand {
     /// One more than the number of the vreg that the text shows, or 0 if it shows none.
     pub(crate) fn vregs(self) -> u64 {
-        if !Operand::is_bits(self.0) {
+        let Some(operand) = operand_of(self.0) else {
             return 0;
-        }
-        let operand = Operand::from_bits(self.0);
+        };
         if operand.as_fixed_nonallocatable().is_some() && is_early_use(operand) {
             return 0;
         }
@@ -114,11 +109,10 @@ pub(crate) struct StoredPlace(pub u32);
 
 impl fmt::Display for StoredPlace {
     fn fmt<W: fmt::Write>(&self, f: &mut fmt::Formatter<W>) -> fmt::Result {
-        let bits = self.0;
-        if !Allocation::is_bits(bits) {
-            return write_bits(u64::from(bits), f);
+        match place_of(self.0) {
+            Some(place) => write!(f, "{place}"),
+            None => write_bits(u64::from(self.0), f),
         }
-        write!(f, "{}", Allocation::from_bits(bits))
     }
 }
 
@@ -144,11 +138,24 @@ pub(crate) struct StoredPoint(pub u32);
 
 impl fmt::Display for StoredPoint {
     fn fmt<W: fmt::Write>(&self, f: &mut fmt::Formatter<W>) -> fmt::Result {
-        let number = self.0;
-        if !ProgPoint::is_index(number) {
-            return write_bits(u64::from(number), f);
+        match point_of(self.0) {
+            Some(point) => write!(f, "{}", PointText(point)),
+            None => write_bits(u64::from(self.0), f),
         }
-        write!(f, "{}", PointText(ProgPoint::from_index(number)))
+    }
+}
+
+/// A stored move: the number of its point, the place that is read, and the place that is written.
+pub(crate) type StoredMove = (u32, u32, u32);
+
+/// A move from the first place to the second, as `move p0i -> stack1`.
+#[derive(Clone, Copy)]
+pub(crate) struct MoveText(pub u32, pub u32);
+
+impl fmt::Display for MoveText {
+    fn fmt<W: fmt::Write>(&self, f: &mut fmt::Formatter<W>) -> fmt::Result {
+        let (from, into) = (StoredPlace(self.0), StoredPlace(self.1));
+        write!(f, "move {from} -> {into}")
     }
 }
 

@@ -7,7 +7,7 @@ use crate::explain::StoredCause;
 use regalloc2_function::StoredFault;
 use std::fmt;
 
-/// The error number of a `StoredFault`, counted from 1 in the order of its variants.
+/// Returns the error number of `fault`, counted from 1 in the order of the variants.
 pub fn number_of(fault: StoredFault) -> u8
     ensures { result ≡ fault_number fault }
 {

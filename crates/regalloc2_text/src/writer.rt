@@ -6,7 +6,6 @@ mod lines;
 mod lists;
 mod machine;
 mod moves;
-mod page;
 mod places;
 mod preds;
 mod registers;

@@ -50,7 +50,7 @@ impl From<TextError<'_>> for WriteError {
     }
 }
 
-/// Tests that a text reads back as the function and the output that it was written from: `Differs` where it doesn't.
+/// Tests that `text` reads back as `function` and `output`; returns `Differs` if it doesn't.
 fn test_text<A: Allocator + Copy>(
     alloc: A,
     text: &str,
@@ -68,11 +68,15 @@ fn test_text<A: Allocator + Copy>(
     }
 }
 
-/// The text of a function with its machine, and of an output where there is one; [`read`] gives them back. Linear in them.
+/// Returns the text of `function` with its machine, and of `output` if there is one; [`read`] gives them back. Linear
+/// in them.
 ///
-/// A function may be ill-formed, and its numbers may name nothing. The text is read back before it
-/// is returned: `Differs` where that gives another function or output, as with 2^32 instructions or
-/// blocks. `Memory` where the system is out of memory.
+/// A function may be ill-formed, and its numbers may name nothing. The text is read back before it is returned.
+///
+/// # Errors
+///
+/// `Differs` if the text reads back as another function or output, as with 2^32 instructions or blocks; `Memory` if
+/// the system is out of memory.
 pub fn write<A: Allocator + Copy>(
     alloc: A,
     function: &StoredFunction<A>,

@@ -1,5 +1,6 @@
 -- What it says of a stored function and output that a call of `ra2_text` about them is accepted.
--- Read first: `IsAcceptedCall`; then `IsChecked`, an output that the checker accepts, and `IsAllocated`, one that the allocator returns.
+-- Read first: `IsAcceptedCall`; then `IsChecked`, an output that the checker accepts, and `IsAllocated`, one that the
+-- allocator returns.
 use Rattle.std.specs.Prelude.{◌≡◌, true, Option, Some, None}
 use Rattle.std.specs.Option.{option_map}
 use Rattle.std.specs.declared.alloc.Global.{Global}
@@ -93,7 +94,8 @@ pub record NamesBoth (s : StoredFunction Global) (f : FunctionValue) (env : Mach
 abbrev pub IsAcceptedCall : Call → Given → Type 0
 IsAcceptedCall call given = (f : FunctionValue) × (env : MachineValue) × NamesBoth given.function.now f env × IsAccepted call (output_given given) f env
 
--- the numbers that are given name a function and a machine, and they and the other numbers name outputs that are checked
+-- the numbers that are given name a function and a machine, and they and the other numbers name outputs that are
+-- checked
 abbrev pub AreAcceptedBoth : Given → Given → Type 0
 AreAcceptedBoth given other = (f : FunctionValue) × (env : MachineValue) × NamesBoth given.function.now f env
     × IsGivenChecked f env (output_given given) × IsGivenChecked f env (output_given other)

@@ -16,7 +16,7 @@ use regalloc2_text::PointText;
 use std::alloc::Allocator;
 use std::io::{self, Write};
 
-/// An instruction's kind, as `op`, `branch` or `ret`.
+/// Returns the kind of `inst`, as `op`, `branch` or `ret`.
 pub fn opcode_name<F: Function>(f: &F, inst: Inst) -> &'static str
     requires { inst < length (F.function f.now).insts }
     ensures { result.now ≡ opcode_text (inst_at (F.function f.now) inst) }
@@ -30,7 +30,7 @@ pub fn opcode_name<F: Function>(f: &F, inst: Inst) -> &'static str
     }
 }
 
-/// The place of an operand; `none` past the end of the list.
+/// Returns the place of operand `k` among `places`; `none` past the end of the list.
 fn place_at(places: &[Allocation], k: usize) -> Allocation
     ensures { result ≡ place_at places.now k }
 {
@@ -55,7 +55,7 @@ fn write_operand<W: Write>(
     write!(writer, "{before}{operand} [{place}]")
 }
 
-/// Writes an instruction's operands, each with its place.
+/// Writes `operands`, each with its place among `places`.
 fn write_operands<W: Write>(
     operands: &[Operand],
     places: &[Allocation],
@@ -69,7 +69,7 @@ fn write_operands<W: Write>(
     Ok(())
 }
 
-/// Writes an instruction with its operands, each with its place.
+/// Writes `inst` with its operands, each with its place in `output`.
 fn write_inst<F: Function, A: Allocator, W: Write>(
     f: &F,
     output: &Output<A>,
@@ -87,7 +87,7 @@ fn write_inst<F: Function, A: Allocator, W: Write>(
     writeln!(writer)
 }
 
-/// Writes a move.
+/// Writes the move `edit`.
 #[tactic(auto, unfolding(crate::specs::Listing::move_line))]
 fn write_move<W: Write>(edit: Edit, writer: &mut W) -> io::Result<()>
     ensures { OnOk result (Appends (W.contents writer.old) (W.contents writer.new) (move_line (move_of edit))) }
@@ -96,7 +96,7 @@ fn write_move<W: Write>(edit: Edit, writer: &mut W) -> io::Result<()>
     writeln!(writer, "  move {from} -> {to}")
 }
 
-/// Writes a block's instructions, each after the moves that run before it.
+/// Writes the instructions of `block`, each after the moves that run before it.
 fn write_block<F: Function, A: Allocator, W: Write>(
     f: &F,
     output: &Output<A>,
@@ -119,7 +119,7 @@ fn write_block<F: Function, A: Allocator, W: Write>(
     Ok(())
 }
 
-/// Writes the listings of all blocks.
+/// Writes the listings of all blocks of `f`.
 fn write_blocks<F: Function, A: Allocator, W: Write>(
     f: &F,
     output: &Output<A>,
@@ -135,7 +135,7 @@ fn write_blocks<F: Function, A: Allocator, W: Write>(
     Ok(())
 }
 
-/// Writes the location of a labelled value.
+/// Writes the debug location `location`.
 #[tactic(auto, unfolding(crate::specs::Listing::debug_line))]
 fn write_debug_location<W: Write>(
     location: (u32, ProgPoint, ProgPoint, Allocation),
@@ -150,7 +150,7 @@ fn write_debug_location<W: Write>(
     writeln!(writer, "debug {label} {from} {to} {place}")
 }
 
-/// Writes the locations of labelled values.
+/// Writes the debug locations of `output`.
 fn write_debug_locations<A: Allocator, W: Write>(
     output: &Output<A>,
     writer: &mut W,
@@ -163,9 +163,10 @@ fn write_debug_locations<A: Allocator, W: Write>(
     Ok(())
 }
 
-/// Writes the listing of a function that was allocated: block by block its instructions, each with
-/// its operands and their places, and the moves that run before it; then the units of its slots,
-/// and the locations of labelled values.
+/// Writes the listing of `f` with its allocation, `output`.
+///
+/// The listing has block by block the instructions, each with its operands and their places, and the moves that run
+/// before it; then the units of the slots, and the debug locations.
 pub fn write_listing<F: Function, A: Allocator, W: Write>(
     f: &F,
     output: &Output<A>,

@@ -81,26 +81,27 @@ before-step f b i n less within critical rest = by (nat_lt b n) refl
         let same : b ≡ n = omega (arith, less, up) in
         subst (λ m. IsAt (edges_before f (suc m)) at (edge b i)) same here
 
--- a critical edge is behind the critical edges of the blocks before its own, and behind the ones before it in its own block
+-- a critical edge is behind the critical edges of the blocks before its own, and behind the ones before it in its own
+-- block
 pub at-before : (f : FunctionValue) (b i n : ℕ) → b < n → i < length (block_at f b).succs → is_critical f b i ≡ true →
     IsAt (edges_before f n) (length (edges_before f b ++ edges_upto f b i)) (edge b i)
 at-before f b i zero less within critical = absurd (omega arith)
 at-before f b i (suc n) less within critical = before-step f b i n less within critical (λ lower. at-before f b i n lower within critical)
 
 -- the edge at a position of a block's critical edges
-pub record IsEdgeOf (f : FunctionValue) (b n j : ℕ) : Type 0 where
+pub record IsEdgeAmong (f : FunctionValue) (b n j : ℕ) : Type 0 where
   pub at : ℕ
   pub less : at < n
   pub critical : is_critical f b at ≡ true
   pub number : length (edges_upto f b at) ≡ j
 
-edge-step : (f : FunctionValue) (b n j : ℕ) → j < length (edges_upto f b (suc n)) → (j < length (edges_upto f b n) → IsEdgeOf f b n j) → IsEdgeOf f b (suc n) j
+edge-step : (f : FunctionValue) (b n j : ℕ) → j < length (edges_upto f b (suc n)) → (j < length (edges_upto f b n) → IsEdgeAmong f b n j) → IsEdgeAmong f b (suc n) j
 edge-step f b n j less rest = by (nat_lt j (length (edges_upto f b n))) refl
   where
     long : length (edges_upto f b (suc n)) ≡ length (edges_upto f b n) + length (cond (is_critical f b n) (edge b n ∷ []) [])
     long = length-append (edges_upto f b n) (cond (is_critical f b n) (edge b n ∷ []) [])
 
-    last : length (edges_upto f b n) ≤ j → (c : Bool) → is_critical f b n ≡ c → IsEdgeOf f b (suc n) j
+    last : length (edges_upto f b n) ≤ j → (c : Bool) → is_critical f b n ≡ c → IsEdgeAmong f b (suc n) j
     last past true e =
         let one : length (cond (is_critical f b n) (edge b n ∷ []) []) ≡ 1 = rw e refl in
         record { at = n; less = omega arith; critical = e; number = omega (arith, past, less, long, one) }
@@ -108,7 +109,7 @@ edge-step f b n j less rest = by (nat_lt j (length (edges_upto f b n))) refl
         let none : length (cond (is_critical f b n) (edge b n ∷ []) []) ≡ 0 = rw e refl in
         absurd (omega (arith, past, less, long, none))
 
-    by : (c : Bool) → nat_lt j (length (edges_upto f b n)) ≡ c → IsEdgeOf f b (suc n) j
+    by : (c : Bool) → nat_lt j (length (edges_upto f b n)) ≡ c → IsEdgeAmong f b (suc n) j
     by true e =
         let lower : j < length (edges_upto f b n) = grind (arith, nat_tests) in
         let h = rest lower in
@@ -117,7 +118,7 @@ edge-step f b n j less rest = by (nat_lt j (length (edges_upto f b n))) refl
         let past : length (edges_upto f b n) ≤ j = grind (arith, nat_tests) in
         last past (is_critical f b n) refl
 
-edge-of : (f : FunctionValue) (b n j : ℕ) → j < length (edges_upto f b n) → IsEdgeOf f b n j
+edge-of : (f : FunctionValue) (b n j : ℕ) → j < length (edges_upto f b n) → IsEdgeAmong f b n j
 edge-of f b zero j less = absurd (omega arith)
 edge-of f b (suc n) j less = edge-step f b n j less (λ lower. edge-of f b n j lower)
 

@@ -1,4 +1,5 @@
--- The partial blocks of a function whose critical edges are split: which block has which number, and that each is structurally valid.
+-- The partial blocks of a function whose critical edges are split: which block has which number, and that each is
+-- structurally valid.
 use Rattle.std.proofs.Common.{◌≡◌, ◌∙◌, ℕ, zero, suc, ◌+◌, ◌-◌, ◌<◌, ◌≤◌, inl, Bool, true, false, List, [], ◌∷◌, ◌++◌, length, get_or, map, refl, sym, ap, subst, arith}
 use Rattle.std.specs.Prelude.{nat_lt, slice_index, slice_index_or}
 use Rattle.std.specs.List.{range_with_len}

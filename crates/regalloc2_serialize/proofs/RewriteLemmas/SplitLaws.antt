@@ -21,7 +21,7 @@ use Rattle.regalloc2_serialize.proofs.RewriteLemmas.EdgeLists.{edge, edges-count
 use Rattle.regalloc2_serialize.proofs.RewriteLemmas.LaidLaws.{count-laid, framed-laid, laid-at}
 use Rattle.regalloc2_serialize.proofs.RewriteLemmas.SplitDrafts.{all, all-many, arguments-plain, arguments-split, count-kept, draft-between, draft-kept, edge-number, framed-all, long-kept, number-within, on-edge, start-kept, succ-plain, succ-split}
 use Rattle.regalloc2_serialize.proofs.RewriteLemmas.SplitInsts.{inst-same, insts-many}
-use Rattle.regalloc2_serialize.proofs.RewriteLemmas.SplitPaths.{paths-through}
+use Rattle.regalloc2_serialize.proofs.RewriteLemmas.SplitPaths.{split-paths}
 use Rattle.regalloc2_serialize.proofs.RewriteLemmas.SplitPreds.{agree, no-critical, single}
 
 span-same : (r s : Span) → r.first ≡ s.first → r.end ≡ s.end → r ≡ s
@@ -124,7 +124,7 @@ is-split none empty f g framed laid =
       named_by_last_slot = laid.named_by_last_slot;
       labels = laid.labels;
       allows_multiple_defs = laid.allows_multiple_defs;
-      paths = paths-through f g (record {
+      paths = split-paths f g (record {
         framed = framed;
         kept = kept-at none empty f framed g h;
         insts = λ i less. ap (λ (is : List InstValue). get_or is i no_inst) h.insts ∙ inst-same none f framed i less;

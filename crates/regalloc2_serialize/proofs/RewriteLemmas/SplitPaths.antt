@@ -9,7 +9,7 @@ use Rattle.regalloc2_function.specs.FunctionValue.{FunctionValue, InstValue, blo
 use Rattle.regalloc2_function.specs.Path.{Way, Onward, ToSuccessor, Location, first_of, next_of, end_of, HasWay, IsPath, last_inst}
 use Rattle.regalloc2_function.specs.SourceRun.{Source, Stamp, after_defs, arguments_at, assigned, over_edge, passed, source_after, source_before}
 use Rattle.regalloc2_function.specs.WellFormed.{IsFramed}
-use Rattle.regalloc2_serialize.specs.Rewrite.SplitEdges.{HasPathsThrough, IsBetween, IsKeptBlock, is_critical, stamp_through, step_through, through}
+use Rattle.regalloc2_serialize.specs.Rewrite.SplitEdges.{HasSplitPaths, IsBetween, IsKeptBlock, is_critical, split_stamp, split_step, split_path}
 use Rattle.regalloc2_serialize.proofs.RewriteLemmas.Numbers.{not-same, yes-same}
 use Rattle.regalloc2_serialize.proofs.RewriteLemmas.SplitInsts.{ends-within}
 
@@ -103,8 +103,8 @@ module _ (f g : FunctionValue) (h : HasSplitBlocks f g) where
   -- a path of the function over split edges, with what it does last
   record Goes (ws : List Way) : Type 0 where
     is : IsIn f (end_of f ws)
-    path : IsPath g (through f ws)
-    same : end_of g (through f ws) ≡ end_of f ws
+    path : IsPath g (split_path f ws)
+    same : end_of g (split_path f ws) ≡ end_of f ws
 
   onward : (ws : List Way) → Goes ws → HasWay f (end_of f ws) Onward → Goes (Onward ∷ ws)
   onward ws goes way =
@@ -136,7 +136,7 @@ module _ (f g : FunctionValue) (h : HasSplitBlocks f g) where
       by : (c : Bool) → is_critical f l.block k ≡ c → Goes (ToSuccessor k ∷ ws)
       by false e =
           let to : slice_index (block_at g l.block).succs k ≡ t = ((h.kept l.block goes.is.block).succs k way.1 e).0 in
-          let ways : through f (ToSuccessor k ∷ ws) ≡ ToSuccessor k ∷ through f ws = rw e refl in
+          let ways : split_path f (ToSuccessor k ∷ ws) ≡ ToSuccessor k ∷ split_path f ws = rw e refl in
           record {
             is = next-in l (ToSuccessor k) goes.is way;
             path = rw ways (goes.path, subst (λ m. HasWay g m (ToSuccessor k)) (sym goes.same) leaves);
@@ -145,8 +145,8 @@ module _ (f g : FunctionValue) (h : HasSplitBlocks f g) where
       by true e =
           let n : ℕ = slice_index (block_at g l.block).succs k in
           let between : IsBetween f l.block k g n = ((h.kept l.block goes.is.block).split k way.1 e).0 in
-          let ways : through f (ToSuccessor k ∷ ws) ≡ ToSuccessor 0 ∷ ToSuccessor k ∷ through f ws = rw e refl in
-          let at : end_of g (ToSuccessor k ∷ through f ws) ≡ first_of g n = ap (λ (m : Location). next_of g m (ToSuccessor k)) goes.same in
+          let ways : split_path f (ToSuccessor k ∷ ws) ≡ ToSuccessor 0 ∷ ToSuccessor k ∷ split_path f ws = rw e refl in
+          let at : end_of g (ToSuccessor k ∷ split_path f ws) ≡ first_of g n = ap (λ (m : Location). next_of g m (ToSuccessor k)) goes.same in
           let jump : HasWay g (first_of g n) (ToSuccessor 0) = (between.long, rw between.succs (omega arith)) in
           let to : slice_index (block_at g n).succs 0 ≡ t = ap (λ (ss : List ℕ). slice_index ss 0) between.succs in
           record {
@@ -172,7 +172,7 @@ module _ (f g : FunctionValue) (h : HasSplitBlocks f g) where
   record AtBlock (vs : List Way) : Type 0 where
     ws : List Way
     path : IsPath f ws
-    same : vs ≡ through f ws
+    same : vs ≡ split_path f ws
 
   -- a path of the other function that ends at a new block
   record AtJump (vs : List Way) : Type 0 where
@@ -181,7 +181,7 @@ module _ (f g : FunctionValue) (h : HasSplitBlocks f g) where
     path : IsPath f ws
     way : HasWay f (end_of f ws) (ToSuccessor k)
     critical : is_critical f (end_of f ws).block k ≡ true
-    same : vs ≡ ToSuccessor k ∷ through f ws
+    same : vs ≡ ToSuccessor k ∷ split_path f ws
 
   at-end : (vs : List Way) (b : AtBlock vs) → end_of g vs ≡ end_of f b.ws
   at-end vs b = ap (end_of g) b.same ∙ (goes b.ws b.path).same
@@ -205,7 +205,7 @@ module _ (f g : FunctionValue) (h : HasSplitBlocks f g) where
   leaves vs k b way true e =
       inr (record { ws = b.ws; k = k; path = b.path; way = way; critical = e; same = ap (λ xs. ToSuccessor k ∷ xs) b.same })
   leaves vs k b way false e =
-      let ways : through f (ToSuccessor k ∷ b.ws) ≡ ToSuccessor k ∷ through f b.ws = rw e refl in
+      let ways : split_path f (ToSuccessor k ∷ b.ws) ≡ ToSuccessor k ∷ split_path f b.ws = rw e refl in
       inl (record { ws = ToSuccessor k ∷ b.ws; path = (b.path, way); same = ap (λ xs. ToSuccessor k ∷ xs) b.same ∙ sym ways })
 
   farther : (vs : List Way) (w : Way) → AtBlock vs ⊎ AtJump vs → HasWay g (end_of g vs) w → AtBlock (w ∷ vs) ⊎ AtJump (w ∷ vs)
@@ -228,7 +228,7 @@ module _ (f g : FunctionValue) (h : HasSplitBlocks f g) where
       let there : HasWay g (first_of g n) (ToSuccessor i) = subst (λ (l : Location). HasWay g l (ToSuccessor i)) (jump-end vs j) way in
       let one : length (block_at g n).succs ≡ 1 = ap length (between-at vs j).succs in
       let zero-th : i ≡ 0 = omega (arith, there.1, one) in
-      let ways : through f (ToSuccessor j.k ∷ j.ws) ≡ ToSuccessor 0 ∷ ToSuccessor j.k ∷ through f j.ws = rw j.critical refl in
+      let ways : split_path f (ToSuccessor j.k ∷ j.ws) ≡ ToSuccessor 0 ∷ ToSuccessor j.k ∷ split_path f j.ws = rw j.critical refl in
       inl (record {
         ws = ToSuccessor j.k ∷ j.ws;
         path = (j.path, j.way);
@@ -239,14 +239,14 @@ module _ (f g : FunctionValue) (h : HasSplitBlocks f g) where
   comes [] path = inl (record { ws = []; path = tt; same = refl })
   comes (w ∷ vs) path = farther vs w (comes vs path.0) path.1
 
-  only-from : (vs : List Way) → AtBlock vs ⊎ AtJump vs → (end_of g vs).block < length f.blocks → (ws : List Way) × IsPath f ws × (vs ≡ through f ws)
+  only-from : (vs : List Way) → AtBlock vs ⊎ AtJump vs → (end_of g vs).block < length f.blocks → (ws : List Way) × IsPath f ws × (vs ≡ split_path f ws)
   only-from vs (inl b) less = (b.ws, b.path, b.same)
   only-from vs (inr j) less =
       let at = ap (λ (l : Location). l.block) (jump-end vs j) in
       absurd (omega (arith, less, at, (between-at vs j).new))
 
   over-plain : (ws : List Way) (k : ℕ) (m : Source) → (e : Goes ws) → HasWay f (end_of f ws) (ToSuccessor k) → is_critical f (end_of f ws).block k ≡ false →
-      over_edge g (end_of g (through f ws)) (ToSuccessor k) m ≡ over_edge f (end_of f ws) (ToSuccessor k) m
+      over_edge g (end_of g (split_path f ws)) (ToSuccessor k) m ≡ over_edge f (end_of f ws) (ToSuccessor k) m
   unfolding over_edge
   over-plain ws k m e way plain =
       let b : ℕ = (end_of f ws).block in
@@ -260,8 +260,8 @@ module _ (f g : FunctionValue) (h : HasSplitBlocks f g) where
   -- over a split edge, the jump passes what the edge does
   over-split : (ws : List Way) (k : ℕ) (m : Source) → (e : Goes ws) → HasWay f (end_of f ws) (ToSuccessor k) → is_critical f (end_of f ws).block k ≡ true →
       (s : ℕ) →
-      over_edge g (next_of g (end_of g (through f ws)) (ToSuccessor k)) (ToSuccessor 0)
-      (after_defs s 0 (last_inst g (ToSuccessor k ∷ through f ws)).operands (over_edge g (end_of g (through f ws)) (ToSuccessor k) m))
+      over_edge g (next_of g (end_of g (split_path f ws)) (ToSuccessor k)) (ToSuccessor 0)
+      (after_defs s 0 (last_inst g (ToSuccessor k ∷ split_path f ws)).operands (over_edge g (end_of g (split_path f ws)) (ToSuccessor k) m))
       ≡ over_edge f (end_of f ws) (ToSuccessor k) m
   unfolding over_edge passed after_defs
   over-split ws k m e way critical s =
@@ -269,46 +269,46 @@ module _ (f g : FunctionValue) (h : HasSplitBlocks f g) where
       let t : ℕ = slice_index (block_at f b).succs k in
       let n : ℕ = slice_index (block_at g b).succs k in
       let between : IsBetween f b k g n = ((h.kept b e.is.block).split k way.1 critical).0 in
-      let at : next_of g (end_of g (through f ws)) (ToSuccessor k) ≡ first_of g n = ap (λ (l : Location). next_of g l (ToSuccessor k)) e.same in
-      let first : over_edge g (end_of g (through f ws)) (ToSuccessor k) m ≡ m =
+      let at : next_of g (end_of g (split_path f ws)) (ToSuccessor k) ≡ first_of g n = ap (λ (l : Location). next_of g l (ToSuccessor k)) e.same in
+      let first : over_edge g (end_of g (split_path f ws)) (ToSuccessor k) m ≡ m =
       ap (λ (l : Location). passed (block_at g (slice_index (block_at g l.block).succs k)).params (arguments_at g l.block k) m m) e.same
       ∙ ap (λ ps. passed ps (arguments_at g b k) m m) between.params in
-      let operands : (last_inst g (ToSuccessor k ∷ through f ws)).operands ≡ [] = ap (λ (l : Location). (inst_at g l.inst).operands) at ∙ between.jump.operands in
+      let operands : (last_inst g (ToSuccessor k ∷ split_path f ws)).operands ≡ [] = ap (λ (l : Location). (inst_at g l.inst).operands) at ∙ between.jump.operands in
       let to : slice_index (block_at g n).succs 0 ≡ t = ap (λ (ss : List ℕ). slice_index ss 0) between.succs in
       let params : (block_at g (slice_index (block_at g n).succs 0)).params ≡ (block_at f t).params =
       ap (λ (c : ℕ). (block_at g c).params) to ∙ (h.kept t (h.framed.successors.1 b e.is.block k 0 way.1)).params in
-      ap (λ x. over_edge g (next_of g (end_of g (through f ws)) (ToSuccessor k)) (ToSuccessor 0)
-      (after_defs s 0 (last_inst g (ToSuccessor k ∷ through f ws)).operands x)) first
-      ∙ ap (λ os. over_edge g (next_of g (end_of g (through f ws)) (ToSuccessor k)) (ToSuccessor 0) (after_defs s 0 os m)) operands
+      ap (λ x. over_edge g (next_of g (end_of g (split_path f ws)) (ToSuccessor k)) (ToSuccessor 0)
+      (after_defs s 0 (last_inst g (ToSuccessor k ∷ split_path f ws)).operands x)) first
+      ∙ ap (λ os. over_edge g (next_of g (end_of g (split_path f ws)) (ToSuccessor k)) (ToSuccessor 0) (after_defs s 0 os m)) operands
       ∙ ap (λ (l : Location). over_edge g l (ToSuccessor 0) m) at
       ∙ ap (λ ps. passed ps (arguments_at g n 0) m m) params ∙ ap (λ xs. passed (block_at f t).params xs m m) between.arguments
 
-  last-same : (ws : List Way) → Goes ws → last_inst g (through f ws) ≡ last_inst f ws
+  last-same : (ws : List Way) → Goes ws → last_inst g (split_path f ws) ≡ last_inst f ws
   last-same ws e =
       let l : Location = end_of f ws in
       ap (λ (m : Location). inst_at g m.inst) e.same ∙ h.insts l.inst (omega (arith, e.is.end, ends-within f h.framed.follow l.block e.is.block))
 
-  last-step : (ws : List Way) → step_through f ws (length ws) ≡ length (through f ws)
+  last-step : (ws : List Way) → split_step f ws (length ws) ≡ length (split_path f ws)
   last-step [] = refl
   last-step (w ∷ ws) = let e : nat_eq (length (w ∷ ws)) (length (w ∷ ws)) ≡ true = yes-same (length (w ∷ ws)) in rw e refl
 
-  earlier-step : (w : Way) (ws : List Way) (s : ℕ) → s < length (w ∷ ws) → step_through f (w ∷ ws) s ≡ step_through f ws s
+  earlier-step : (w : Way) (ws : List Way) (s : ℕ) → s < length (w ∷ ws) → split_step f (w ∷ ws) s ≡ split_step f ws s
   earlier-step w ws s less =
       let e : nat_eq s (length (w ∷ ws)) ≡ false = not-same s (length (w ∷ ws)) (λ same. omega (arith, less, same)) in rw e refl
 
   after : (w : Way) (ws : List Way) → Goes ws →
-      Agree (length ws) (stamp_through f ws) (source_before g (through f ws)) (source_before f ws) →
-      Agree (length (w ∷ ws)) (stamp_through f (w ∷ ws)) (source_after g (through f ws)) (source_after f ws)
+      Agree (length ws) (split_stamp f ws) (source_before g (split_path f ws)) (source_before f ws) →
+      Agree (length (w ∷ ws)) (split_stamp f (w ∷ ws)) (source_after g (split_path f ws)) (source_after f ws)
   after w ws e before =
-      let next : Stamp → Stamp = stamp_through f (w ∷ ws) in
-      let moved : Agree (length (w ∷ ws)) next (source_before g (through f ws)) (source_before f ws) =
-      change (length ws) (length (w ∷ ws)) (stamp_through f ws) next (source_before g (through f ws)) (source_before f ws) (omega arith)
+      let next : Stamp → Stamp = split_stamp f (w ∷ ws) in
+      let moved : Agree (length (w ∷ ws)) next (source_before g (split_path f ws)) (source_before f ws) =
+      change (length ws) (length (w ∷ ws)) (split_stamp f ws) next (source_before g (split_path f ws)) (source_before f ws) (omega arith)
       (λ s less. ap (λ (n : ℕ). record { step = n; operand = s.operand }) (sym (earlier-step w ws s.step (omega (arith, less))))) before in
-      let named : (k : ℕ) → next (record { step = length ws; operand = k }) ≡ record { step = length (through f ws); operand = k } =
+      let named : (k : ℕ) → next (record { step = length ws; operand = k }) ≡ record { step = length (split_path f ws); operand = k } =
       λ k. ap (λ (n : ℕ). record { step = n; operand = k }) (earlier-step w ws (length ws) (omega arith) ∙ last-step ws) in
-      subst (λ (i : InstValue). Agree (length (w ∷ ws)) next (after_defs (length (through f ws)) 0 i.operands (source_before g (through f ws))) (source_after f ws))
+      subst (λ (i : InstValue). Agree (length (w ∷ ws)) next (after_defs (length (split_path f ws)) 0 i.operands (source_before g (split_path f ws))) (source_after f ws))
       (sym (last-same ws e))
-      (after_defs-agree (length (w ∷ ws)) next (length ws) (length (through f ws)) 0 (last_inst f ws).operands (source_before g (through f ws))
+      (after_defs-agree (length (w ∷ ws)) next (length ws) (length (split_path f ws)) 0 (last_inst f ws).operands (source_before g (split_path f ws))
       (source_before f ws) named (omega arith) moved)
 
   edge-agree : (bound : ℕ) (ws : List Way) (k : ℕ) (move : Stamp → Stamp) (m n : Source) → Agree bound move m n →
@@ -319,31 +319,31 @@ module _ (f g : FunctionValue) (h : HasSplitBlocks f g) where
       passed-agree bound move (block_at f (slice_index (block_at f b).succs k)).params (arguments_at f b k) m n m n agree agree
 
   over-agree : (ws : List Way) (k : ℕ) (e : Goes ws) → HasWay f (end_of f ws) (ToSuccessor k) → (c : Bool) → is_critical f (end_of f ws).block k ≡ c →
-      Agree (length (ToSuccessor k ∷ ws)) (stamp_through f (ToSuccessor k ∷ ws)) (source_after g (through f ws)) (source_after f ws) →
-      Agree (length (ToSuccessor k ∷ ws)) (stamp_through f (ToSuccessor k ∷ ws)) (source_before g (through f (ToSuccessor k ∷ ws))) (source_before f (ToSuccessor k ∷ ws))
+      Agree (length (ToSuccessor k ∷ ws)) (split_stamp f (ToSuccessor k ∷ ws)) (source_after g (split_path f ws)) (source_after f ws) →
+      Agree (length (ToSuccessor k ∷ ws)) (split_stamp f (ToSuccessor k ∷ ws)) (source_before g (split_path f (ToSuccessor k ∷ ws))) (source_before f (ToSuccessor k ∷ ws))
   unfolding source_before
   over-agree ws k e way true critical before =
-      let move : Stamp → Stamp = stamp_through f (ToSuccessor k ∷ ws) in
-      let ways : through f (ToSuccessor k ∷ ws) ≡ ToSuccessor 0 ∷ ToSuccessor k ∷ through f ws = rw critical refl in
-      let whole : source_before g (through f (ToSuccessor k ∷ ws)) ≡ over_edge f (end_of f ws) (ToSuccessor k) (source_after g (through f ws)) =
-      ap (source_before g) ways ∙ over-split ws k (source_after g (through f ws)) e way critical (length (ToSuccessor k ∷ through f ws)) in
+      let move : Stamp → Stamp = split_stamp f (ToSuccessor k ∷ ws) in
+      let ways : split_path f (ToSuccessor k ∷ ws) ≡ ToSuccessor 0 ∷ ToSuccessor k ∷ split_path f ws = rw critical refl in
+      let whole : source_before g (split_path f (ToSuccessor k ∷ ws)) ≡ over_edge f (end_of f ws) (ToSuccessor k) (source_after g (split_path f ws)) =
+      ap (source_before g) ways ∙ over-split ws k (source_after g (split_path f ws)) e way critical (length (ToSuccessor k ∷ split_path f ws)) in
       subst (λ m. Agree (length (ToSuccessor k ∷ ws)) move m (source_before f (ToSuccessor k ∷ ws))) (sym whole)
-      (edge-agree (length (ToSuccessor k ∷ ws)) ws k move (source_after g (through f ws)) (source_after f ws) before)
+      (edge-agree (length (ToSuccessor k ∷ ws)) ws k move (source_after g (split_path f ws)) (source_after f ws) before)
   over-agree ws k e way false plain before =
-      let move : Stamp → Stamp = stamp_through f (ToSuccessor k ∷ ws) in
-      let ways : through f (ToSuccessor k ∷ ws) ≡ ToSuccessor k ∷ through f ws = rw plain refl in
-      let whole : source_before g (through f (ToSuccessor k ∷ ws)) ≡ over_edge f (end_of f ws) (ToSuccessor k) (source_after g (through f ws)) =
-      ap (source_before g) ways ∙ over-plain ws k (source_after g (through f ws)) e way plain in
+      let move : Stamp → Stamp = split_stamp f (ToSuccessor k ∷ ws) in
+      let ways : split_path f (ToSuccessor k ∷ ws) ≡ ToSuccessor k ∷ split_path f ws = rw plain refl in
+      let whole : source_before g (split_path f (ToSuccessor k ∷ ws)) ≡ over_edge f (end_of f ws) (ToSuccessor k) (source_after g (split_path f ws)) =
+      ap (source_before g) ways ∙ over-plain ws k (source_after g (split_path f ws)) e way plain in
       subst (λ m. Agree (length (ToSuccessor k ∷ ws)) move m (source_before f (ToSuccessor k ∷ ws))) (sym whole)
-      (edge-agree (length (ToSuccessor k ∷ ws)) ws k move (source_after g (through f ws)) (source_after f ws) before)
+      (edge-agree (length (ToSuccessor k ∷ ws)) ws k move (source_after g (split_path f ws)) (source_after f ws) before)
 
   onward-agree : (ws : List Way) →
-      Agree (length (Onward ∷ ws)) (stamp_through f (Onward ∷ ws)) (source_after g (through f ws)) (source_after f ws) →
-      Agree (length (Onward ∷ ws)) (stamp_through f (Onward ∷ ws)) (source_before g (through f (Onward ∷ ws))) (source_before f (Onward ∷ ws))
+      Agree (length (Onward ∷ ws)) (split_stamp f (Onward ∷ ws)) (source_after g (split_path f ws)) (source_after f ws) →
+      Agree (length (Onward ∷ ws)) (split_stamp f (Onward ∷ ws)) (source_before g (split_path f (Onward ∷ ws))) (source_before f (Onward ∷ ws))
   unfolding source_before over_edge
   onward-agree ws before = before
 
-  writes : (ws : List Way) → IsPath f ws → Agree (length ws) (stamp_through f ws) (source_before g (through f ws)) (source_before f ws)
+  writes : (ws : List Way) → IsPath f ws → Agree (length ws) (split_stamp f ws) (source_before g (split_path f ws)) (source_before f ws)
   unfolding source_before
   writes [] path = record { same = λ q. refl; under = λ q. tt }
   writes (Onward ∷ ws) path = onward-agree ws (after Onward ws (goes ws path.0) (writes ws path.0))
@@ -352,8 +352,8 @@ module _ (f g : FunctionValue) (h : HasSplitBlocks f g) where
       (after (ToSuccessor k) ws (goes ws path.0) (writes ws path.0))
 
   -- each path goes through, and no other reaches an old block
-  pub paths-through : HasPathsThrough f g
-  paths-through = record {
+  pub split-paths : HasSplitPaths f g
+  split-paths = record {
     paths = λ ws path. (goes ws path).path;
     ends = λ ws path. (goes ws path).same;
     only = λ vs path less. only-from vs (comes vs path) less;

@@ -78,7 +78,8 @@ blocks_more bs cs is ys d i b c =
     let n : length is ≡ 0 + length (insts_of (map draft_of ys)) = omega (arith, sym (length-map is inst_of_table) ∙ ap length i) in
     rw (c, b, n, map-append) (sym (blocks_from-push 0 (map draft_of ys) (draft_of d)))
 
--- the instructions of the first partial blocks, and then of the next, are the instructions of the partial blocks with it
+-- the instructions of the first partial blocks, and then of the next, are the instructions of the partial blocks with
+-- it
 pub insts_more : {A B : Type 0} (js is : List (TableInst A)) (ys : List (BlockDraft B)) (d : BlockDraft B) → map inst_of_table is ≡ insts_of (map draft_of ys) →
     map inst_of_table js ≡ map inst_of_table is ++ (draft_of d).insts → map inst_of_table js ≡ insts_of (map draft_of (ys ++ d ∷ []))
 insts_more js is ys d i j = rw (j, i, map-append) (sym (insts_of-push (map draft_of ys) (draft_of d)))

@@ -66,7 +66,8 @@ edges_more b pred succs k to l is =
     let split : take (k + 1) succs ≡ take k succs ++ to ∷ [] = take_more succs k to l ∙ ap (λ (s : ℕ). take k succs ++ s ∷ []) (sym is) in
     rw split (sym (flat_map-append f (take k succs) (to ∷ []) ∙ ap (λ (p : List ℕ). edges_to b pred (take k succs) ++ p) (append-nil (one_edge to pred b))))
 
--- the predecessors so far and the predecessors that later edges add stay one list while the edges of block `n` are added
+-- the predecessors so far and the predecessors that later edges add stay one list while the edges of block `n` are
+-- added
 pub preds_step : (all : List (List ℕ)) (n b : ℕ) (succs p q r : List ℕ) → n < length all → succs ≡ get_or all n [] → q ≡ p ++ edges_to b n succs → p
     ++ preds_from b n (drop n all) ≡ r → q ++ preds_from b (n + 1) (drop (n + 1) all) ≡ r
 preds_step all n b succs p q r l is e h =

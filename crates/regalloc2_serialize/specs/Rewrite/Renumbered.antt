@@ -36,7 +36,8 @@ pub record IsRenumberedBlock (f : FunctionValue) (order : List ℕ) (b : ℕ) (g
   pub insts : (j : ℕ) → (block_at f b).range.first + j < (block_at f b).range.end →
       inst_at g ((block_at g n).range.first + j) ≡ inst_at f ((block_at f b).range.first + j)
 
--- a list of ways is a path of both functions or of neither; after each path both are at one instruction, and each vreg has the same last write
+-- a list of ways is a path of both functions or of neither; after each path both are at one instruction, and each
+-- vreg has the same last write
 pub record HasSamePaths (f g : FunctionValue) : Type 0 where
   pub paths : (ws : List Way) → IsPath f ws ↔ IsPath g ws
   pub insts : (ws : List Way) → IsPath f ws → last_inst g ws ≡ last_inst f ws

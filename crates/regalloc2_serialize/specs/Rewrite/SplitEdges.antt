@@ -1,5 +1,6 @@
 -- A function whose critical edges are split.
--- An edge is critical if its block has several successors and its end is entered in several ways, as for upstream; paths are this project's.
+-- An edge is critical if its block has several successors and its end is entered in several ways, as for upstream;
+-- paths are this project's.
 use Rattle.std.specs.Prelude.{ℕ, zero, suc, ◌≡◌, ◌+◌, ◌-◌, ◌<◌, ◌≤◌, ◌^◌, Bool, true, false, ◌&&◌, if◌then◌else◌, nat_eq, nat_lt, List, [], ◌∷◌, ◌++◌, length, map}
 use Rattle.std.specs.Prelude.{count_by, slice_index, sum_by}
 use Rattle.std.specs.List.{range_with_len}
@@ -24,15 +25,15 @@ abbrev pub AgreeUpToTwo : ℕ → ℕ → Type 0
 AgreeUpToTwo m n = (m < 2 → m ≡ n) × (n < 2 → m ≡ n)
 
 -- how many edges enter each block, counted up to two
-pub record AreEntries (f : FunctionValue) (counts : List ℕ) : Type 0 where
+pub record AreEntryCounts (f : FunctionValue) (counts : List ℕ) : Type 0 where
   pub long : length counts ≡ length f.blocks
   pub counted : (t : ℕ) → t < length f.blocks → AgreeUpToTwo (slice_index counts t) (entries_into f t)
 
 -- a block of a valid function, with the counts of edges into all blocks
-pub record IsCounted (f : FunctionValue) (b : ℕ) (counts : List ℕ) : Type 0 where
+pub record IsCountedBlock (f : FunctionValue) (b : ℕ) (counts : List ℕ) : Type 0 where
   pub framed : IsFramed f
   pub block : b < length f.blocks
-  pub entries : AreEntries f counts
+  pub entries : AreEntryCounts f counts
 
 -- whether the edge from a block to its successor at a position is critical
 abbrev pub is_critical : FunctionValue → ℕ → ℕ → Bool
@@ -45,7 +46,8 @@ pub record IsJump (i : InstValue) : Type 0 where
   pub is_branch : i.is_branch ≡ true
   pub is_ret : i.is_ret ≡ false
 
--- block `n` of `g` stands on the edge from block `b` of `f` at position `k`: it is a jump, takes no arguments, and passes the edge's
+-- block `n` of `g` stands on the edge from block `b` of `f` at position `k`: it is a jump, takes no arguments, and
+-- passes the edge's
 pub record IsBetween (f : FunctionValue) (b k : ℕ) (g : FunctionValue) (n : ℕ) : Type 0 where
   pub new : length f.blocks ≤ n
   pub block : n < length g.blocks
@@ -56,7 +58,8 @@ pub record IsBetween (f : FunctionValue) (b k : ℕ) (g : FunctionValue) (n : �
   pub succs : (block_at g n).succs ≡ slice_index (block_at f b).succs k ∷ []
   pub arguments : arguments_at g n 0 ≡ arguments_at f b k
 
--- block `b` is the same, but for the ends of its critical edges, each of which is a block of its own that takes no arguments
+-- block `b` is the same, but for the ends of its critical edges, each of which is a block of its own that takes no
+-- arguments
 pub record IsKeptBlock (f : FunctionValue) (b : ℕ) (g : FunctionValue) : Type 0 where
   pub range : (block_at g b).range ≡ (block_at f b).range
   pub params : (block_at g b).params ≡ (block_at f b).params
@@ -76,29 +79,29 @@ pub record IsOfEdge (f g : FunctionValue) (n : ℕ) : Type 0 where
   pub end : slice_index (block_at g from).succs position ≡ n
 
 -- the path over the split edges
-abbrev pub through : FunctionValue → List Way → List Way
-through f [] = []
-through f (Onward ∷ ws) = Onward ∷ through f ws
-through f (ToSuccessor k ∷ ws) =
-    if is_critical f (end_of f ws).block k then ToSuccessor 0 ∷ ToSuccessor k ∷ through f ws else ToSuccessor k ∷ through f ws
+abbrev pub split_path : FunctionValue → List Way → List Way
+split_path f [] = []
+split_path f (Onward ∷ ws) = Onward ∷ split_path f ws
+split_path f (ToSuccessor k ∷ ws) =
+    if is_critical f (end_of f ws).block k then ToSuccessor 0 ∷ ToSuccessor k ∷ split_path f ws else ToSuccessor k ∷ split_path f ws
 
 -- the step on that path of a step on this one
-abbrev pub step_through : FunctionValue → List Way → ℕ → ℕ
-step_through f [] s = 0
-step_through f (w ∷ ws) s = if nat_eq s (length (w ∷ ws)) then length (through f (w ∷ ws)) else step_through f ws s
+abbrev pub split_step : FunctionValue → List Way → ℕ → ℕ
+split_step f [] s = 0
+split_step f (w ∷ ws) s = if nat_eq s (length (w ∷ ws)) then length (split_path f (w ∷ ws)) else split_step f ws s
 
 -- a write, by its step on that path
-abbrev pub stamp_through : FunctionValue → List Way → Stamp → Stamp
-stamp_through f ws s = record { step = step_through f ws s.step; operand = s.operand }
+abbrev pub split_stamp : FunctionValue → List Way → Stamp → Stamp
+split_stamp f ws s = record { step = split_step f ws s.step; operand = s.operand }
 
--- each path of `f` is one of `g` with a jump on each split edge, and each path of `g` that ends in a block of `f` is of that form;
--- the paths end at the same instruction of the same block, and each vreg has the same last write
-pub record HasPathsThrough (f g : FunctionValue) : Type 0 where
-  pub paths : (ws : List Way) → IsPath f ws → IsPath g (through f ws)
-  pub ends : (ws : List Way) → IsPath f ws → end_of g (through f ws) ≡ end_of f ws
-  pub only : (vs : List Way) → IsPath g vs → (end_of g vs).block < length f.blocks → (ws : List Way) × IsPath f ws × (vs ≡ through f ws)
+-- each path of `f` is one of `g` with a jump on each split edge, and each path of `g` that ends in a block of `f` is
+-- of that form; the paths end at the same instruction of the same block, and each vreg has the same last write
+pub record HasSplitPaths (f g : FunctionValue) : Type 0 where
+  pub paths : (ws : List Way) → IsPath f ws → IsPath g (split_path f ws)
+  pub ends : (ws : List Way) → IsPath f ws → end_of g (split_path f ws) ≡ end_of f ws
+  pub only : (vs : List Way) → IsPath g vs → (end_of g vs).block < length f.blocks → (ws : List Way) × IsPath f ws × (vs ≡ split_path f ws)
   pub writes : (ws : List Way) → IsPath f ws → (v : VirtualRegister) →
-      source_before g (through f ws) v ≡ option_map (stamp_through f ws) (source_before f ws v)
+      source_before g (split_path f ws) v ≡ option_map (split_stamp f ws) (source_before f ws v)
 
 -- `g` is `f` with a block on each critical edge, and no other change
 pub record HasSplitEdges (f g : FunctionValue) : Type 0 where
@@ -115,7 +118,7 @@ pub record HasSplitEdges (f g : FunctionValue) : Type 0 where
   pub named_by_last_slot : g.named_by_last_slot ≡ f.named_by_last_slot
   pub labels : g.labels ≡ f.labels
   pub allows_multiple_defs : g.allows_multiple_defs ≡ f.allows_multiple_defs
-  pub paths : HasPathsThrough f g
+  pub paths : HasSplitPaths f g
 
 -- an edge, by its block and the position of its successor
 pub record Edge : Type 0 where
@@ -151,7 +154,7 @@ AreJumps none f b k jumps = jumps ≡ map (jump_on none f) (edges_before f b ++ 
 
 -- the edge from block `b` at position `k` is split next: the new blocks so far are on the edges before it
 pub record IsToSplit (none : PRegSet) (f : FunctionValue) (b k : ℕ) (counts : List ℕ) (jumps : List DraftValue) : Type 0 where
-  pub counted : IsCounted f b counts
+  pub counted : IsCountedBlock f b counts
   pub before : AreJumps none f b k jumps
 
 -- a successor and its arguments, where the edge is split if it is critical

@@ -3,6 +3,7 @@
 //! `specs/Flat/Columns.antt` has the layout and the function that words lay out.
 
 mod cut;
+mod kinds;
 mod pieces;
 mod read;
 mod sound;
@@ -11,6 +12,7 @@ mod typed;
 ghost use Rattle.std.specs.Prelude.{◌≡◌, ℕ, ◌+◌, ◌/◌, ◌<◌, ◌≤◌, ◌^◌, All, slice_index, vec_len};
 
 use crate::table_function::SlotUnits;
+use kinds::{BRANCH, RET, SET_STEP};
 use pieces::Pieces;
 use regalloc2_function::{Function, MachineEnv};
 use regalloc2_index::{Block, Inst, InstRange};
@@ -92,11 +94,11 @@ impl<A: Allocator> Function for FlatFunction<A> {
     }
 
     fn is_ret(&self, inst: Inst) -> bool {
-        self.kinds[inst.index()] % 4 == 1
+        self.kinds[inst.index()] % SET_STEP == RET
     }
 
     fn is_branch(&self, inst: Inst) -> bool {
-        self.kinds[inst.index()] % 4 == 2
+        self.kinds[inst.index()] % SET_STEP == BRANCH
     }
 
     fn branch_blockparams(&self, block: Block, _inst: Inst, succ_idx: usize) -> &[VReg] {
@@ -109,7 +111,7 @@ impl<A: Allocator> Function for FlatFunction<A> {
     }
 
     fn inst_clobbers(&self, inst: Inst) -> PRegSet {
-        self.sets[(self.kinds[inst.index()] / 4) as usize]
+        self.sets[(self.kinds[inst.index()] / SET_STEP) as usize]
     }
 
     fn debug_value_labels(&self) -> &[(VReg, Inst, Inst, u32)] {

@@ -5,38 +5,29 @@ ghost use Rattle.regalloc2_function.specs.FunctionValue.{block_at};
 ghost use Rattle.regalloc2_function.specs.WellFormed.{IsFramed, SuccessorsAreBlocks, times_in};
 ghost use Rattle.regalloc2_serialize.specs.TableFunction.Table.{function_of_table};
 ghost use Rattle.regalloc2_serialize.specs.TableFunction.Draft.{draft_of};
-ghost use Rattle.regalloc2_serialize.specs.Rewrite.SplitEdges.{AgreeUpToTwo, AreEntries, AreJumps, HasSplitEdges, IsCounted, IsToSplit, IsUnsplit, is_critical, kept_block, split_arguments, split_drafts, split_succ};
+ghost use Rattle.regalloc2_serialize.specs.Rewrite.SplitEdges.{AgreeUpToTwo, AreEntryCounts, AreJumps, HasSplitEdges, IsCountedBlock, IsToSplit, IsUnsplit, is_critical, kept_block, split_arguments, split_drafts, split_succ};
 
 use crate::InstOpcode;
+use crate::limits::BLOCK_LIMIT;
 use crate::rewrite::copied::{copied_insts, laid_like};
 use crate::rewrite::error::RewriteError;
-use crate::table_function::{BLOCK_LIMIT, BlockDraft, TableFunction, TableInst};
+use crate::table_function::{BlockDraft, TableFunction, TableInst};
 use regalloc2_function::{Function, is_framed};
 use regalloc2_index::Block;
 use regalloc2_names::{PRegSet, VReg};
 use std::alloc::{AllocError, Allocator};
 
-/// Returns `count + 1`, or a number from 2 on if that is from 2 on.
-fn one_more(count: usize) -> usize
-    ensures { AgreeUpToTwo result (count + 1) }
-{
-    if count < 2 {
-        return count + 1;
-    }
-    count
-}
-
-/// Counts one more edge into `block`, up to two.
+/// Counts one more edge into `block`.
 fn count_entry<A: Allocator>(counts: &mut Vec<usize, A>, block: Block)
     requires { block < length counts.old.items }
     ensures long { length counts.new.items ≡ length counts.old.items }
     ensures counted { (t : ℕ) → t < length counts.old.items → AgreeUpToTwo (slice_index counts.new.items t) (slice_index counts.old.items t + times_in t (block ∷ [])) }
 {
     let count = counts[block.index()];
-    counts[block.index()] = one_more(count);
+    counts[block.index()] = count.saturating_add(1);
 }
 
-/// Counts one more edge into each of the blocks `succs`, up to two.
+/// Counts one more edge into each of the blocks `succs`.
 fn count_entries<A: Allocator>(counts: &mut Vec<usize, A>, succs: &[Block])
     requires { All (λ s. s < length counts.old.items) succs.now }
     ensures long { length counts.new.items ≡ length counts.old.items }
@@ -47,10 +38,12 @@ fn count_entries<A: Allocator>(counts: &mut Vec<usize, A>, succs: &[Block])
     }
 }
 
-/// How many edges enter each block, counted up to two. The function's start is an edge into the entry.
+/// Returns how many edges enter each block of `f`; the function's start is an edge into the entry.
+///
+/// Only whether there are none, one or several matters, so the contract speaks of counts up to two.
 fn entries_of<F: Function, A: Allocator>(alloc: A, f: &F) -> Result<Vec<usize, A>, AllocError>
     requires { SuccessorsAreBlocks (F.function f.now) }
-    ensures { IfOk result (λ counts. AreEntries (F.function f.now) counts.items) }
+    ensures { IfOk result (λ counts. AreEntryCounts (F.function f.now) counts.items) }
 {
     let mut counts = Vec::from_elem(alloc, 0usize, f.num_blocks())?;
     for block in 0..f.num_blocks() {
@@ -60,9 +53,10 @@ fn entries_of<F: Function, A: Allocator>(alloc: A, f: &F) -> Result<Vec<usize, A
     Ok(counts)
 }
 
-/// Whether the edge from `block` to its successor `k` is critical. `entries` counts the edges into each block.
+/// Returns whether the edge from `block` to its successor `k` is critical. `entries` counts the edges into each
+/// block.
 fn has_critical_edge<F: Function>(f: &F, block: Block, k: usize, entries: &[usize]) -> bool
-    requires counted { IsCounted (F.function f.now) block entries.now }
+    requires counted { IsCountedBlock (F.function f.now) block entries.now }
     requires position { k < length (block_at (F.function f.now) block).succs }
     ensures { result ≡ is_critical (F.function f.now) block k }
 {
@@ -74,7 +68,7 @@ fn has_critical_edge<F: Function>(f: &F, block: Block, k: usize, entries: &[usiz
     entered > 1
 }
 
-/// A block that jumps to `to` and passes `arguments`. `none` is the empty set of clobbers.
+/// Returns a block that jumps to `to` and passes `arguments`. `none` is the empty set of clobbers.
 fn jump_to<A: Allocator + Copy>(
     alloc: A,
     none: PRegSet,
@@ -104,8 +98,8 @@ fn jump_to<A: Allocator + Copy>(
     })
 }
 
-/// Returns where the edge from `block` to its successor `k` goes and what it passes. If the edge is critical, adds a block on
-/// it to `jumps`.
+/// Returns the block to which the edge from `block` to its successor `k` leads in the result, with the arguments that
+/// it passes. If the edge is critical, adds a block on it to `jumps`.
 fn split_edge<F: Function, A: Allocator + Copy>(
     alloc: A,
     f: &F,
@@ -136,7 +130,8 @@ fn split_edge<F: Function, A: Allocator + Copy>(
     Ok((Block::new(number), Vec::new(alloc)))
 }
 
-/// Returns where the edges of `block` go and what they pass, and adds a block on each critical edge to `jumps`.
+/// Returns the blocks to which the edges of `block` lead in the result, with the arguments that they pass. Adds a
+/// block on each critical edge to `jumps`.
 fn split_edges<F: Function, A: Allocator + Copy>(
     alloc: A,
     f: &F,
@@ -159,7 +154,7 @@ fn split_edges<F: Function, A: Allocator + Copy>(
     Ok((succs, lists))
 }
 
-/// `block` with its critical edges split. The new blocks are added to `jumps`.
+/// Returns `block` with its critical edges split. Adds the new blocks to `jumps`.
 fn split_block<F: Function, A: Allocator + Copy>(
     alloc: A,
     f: &F,
@@ -182,7 +177,7 @@ fn split_block<F: Function, A: Allocator + Copy>(
     })
 }
 
-/// All blocks with their critical edges split, and behind them the new blocks.
+/// Returns the blocks of `f` with their critical edges split, followed by the new blocks, whose clobbers are `none`.
 fn split_blocks<F: Function, A: Allocator + Copy>(
     alloc: A,
     f: &F,
@@ -211,18 +206,19 @@ fn split_blocks<F: Function, A: Allocator + Copy>(
 
 /// Returns a function with a new block on each critical edge.
 ///
-/// An edge is critical if its block has several successors and its end is entered in several ways; the function's start is
-/// a way into the entry. Blocks and instructions of `f` keep their numbers. The new blocks follow them, by the number of the
-/// block that the edge leaves and the position of the edge: each has no parameters and one instruction, a branch without
-/// operands, and passes the arguments of its edge. Predecessors are listed anew, by the successors of all blocks. Each path
-/// of `f` is a path of the result with a step more on each split edge: it executes the same instructions besides, and each
-/// vreg has the same last write.
+/// An edge is critical if its block has several successors and its end is entered in several ways; the function's
+/// start is a way into the entry. Blocks and instructions of `f` keep their numbers. The new blocks follow them, by
+/// the number of the block that the edge leaves and the position of the edge: each has no parameters and one
+/// instruction, a branch without operands, and passes the arguments of its edge. Predecessors are listed anew, by the
+/// successors of all blocks. Each path of `f` is a path of the result with a step more on each split edge: it
+/// executes the same instructions besides, and each vreg has the same last write.
 ///
 /// `f` is structurally valid: [`is_framed`] tests it. Linear in the function.
 ///
 /// # Errors
 ///
-/// `Unframed`; `TooManyBlocks` or `TooManyInsts` if the result passes a limit; `Memory` if memory runs out. `f` is unchanged.
+/// `Unframed`; `TooManyBlocks` or `TooManyInsts` if the result passes a limit; `Memory` if memory runs out. `f` is
+/// unchanged.
 pub fn split_critical_edges<F: Function, A: Allocator + Copy>(
     alloc: A,
     f: &F,

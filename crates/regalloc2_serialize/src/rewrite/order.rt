@@ -109,10 +109,10 @@ fn renamed_blocks<F: Function, A: Allocator + Copy>(
 
 /// Returns a function with its blocks in another order, and their instructions with them.
 ///
-/// Block `n` of the result is block `order[n]` of `f`: it has the same parameters, instructions and arguments, and its
-/// successors by their new numbers. The blocks' instructions follow one another, and predecessors are listed anew, by the
-/// successors of all blocks. Each list of ways is a path of both functions or of neither; on a path both functions execute
-/// the same instructions, and each vreg has the same last write.
+/// Block `n` of the result is block `order[n]` of `f`: it has the same parameters, instructions and arguments, and
+/// its successors by their new numbers. The blocks' instructions follow one another, and predecessors are listed
+/// anew, by the successors of all blocks. Each list of ways is a path of both functions or of neither; on a path both
+/// functions execute the same instructions, and each vreg has the same last write.
 ///
 /// `f` is structurally valid ([`is_framed`] tests it), and `order` lists each block once. Linear in the function.
 ///

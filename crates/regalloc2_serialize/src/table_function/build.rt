@@ -101,9 +101,9 @@ impl SlotUnits {
 }
 
 impl<A: Allocator> TableFunction<A> {
-    /// The function of `blocks` and `insts` that starts at block 0. `slots` has the sizes of slots for integers, floating-point
-    /// numbers and vectors, which are named by their first units. Vregs are below `num_vregs` and have one definition, and
-    /// there are no labels.
+    /// The function of `blocks` and `insts` that starts at block 0. `slots` has the sizes of slots for integers,
+    /// floating-point numbers and vectors, which are named by their first units. Vregs are below `num_vregs` and have
+    /// one definition, and there are no labels.
     pub fn of_blocks(
         alloc: A,
         num_vregs: usize,

@@ -8,17 +8,12 @@ ghost use Rattle.regalloc2_serialize.specs.TableFunction.Steps.{HasPreds, one_ed
 
 use super::build::{branch, op, ret};
 use super::table::{SlotUnits, TableBlock, TableFunction, TableInst};
+use crate::limits::{BLOCK_LIMIT, INST_LIMIT, VREG_LIMIT};
 use regalloc2_index::{Block, Inst, InstRange};
 use regalloc2_names::{Operand, PRegSet, VReg};
 use std::alloc::{AllocError, AllocFailed, Allocator, Global};
 use std::error::Error;
 use std::fmt;
-
-/// A function has fewer instructions, and fewer vregs.
-const LIMIT: usize = 1 << 30;
-
-/// A function has fewer blocks.
-pub(crate) const BLOCK_LIMIT: usize = 0xffff_ffff;
 
 /// Why a builder returns an error.
 #[derive(Clone, Copy, Debug, PartialEq, Eq)]
@@ -173,7 +168,8 @@ impl<A: Allocator + Copy> TableBuilder<A> {
         self.inst(block, inst)
     }
 
-    /// Adds a branch with the operands `operands` to `block`: the last instruction of a block that goes on to its successors.
+    /// Adds a branch with the operands `operands` to `block`: the last instruction of a block that goes on to its
+    /// successors.
     pub fn branch(&mut self, block: Block, operands: &[Operand]) -> Result<(), BuildError>
         ensures ok { OnOk result (HasMore (drafts_of self.old) block operands.now true false (drafts_of self.new)) }
         ensures err { IfErr result (λ e. IsUnadded (length (drafts_of self.old)) block e) }
@@ -214,8 +210,8 @@ impl<A: Allocator + Copy> TableBuilder<A> {
 
     /// The function, with slots of one unit and vregs below `num_vregs`, without labels.
     ///
-    /// The blocks' ranges follow one another. A block's predecessors are the blocks that go on to it, by their numbers, each
-    /// listed once for each edge.
+    /// The blocks' ranges follow one another. A block's predecessors are the blocks that go on to it, by their
+    /// numbers, each listed once for each edge.
     pub fn finish(self, num_vregs: usize) -> Result<TableFunction<A>, BuildError>
         ensures ok { IfOk result (λ f. IsBuilt (drafts_of self) num_vregs (function_of_table f)) }
         ensures err { IfErr result (λ e. IsUnbuilt (drafts_of self) num_vregs e) }
@@ -224,7 +220,7 @@ impl<A: Allocator + Copy> TableBuilder<A> {
         if blocks.len() >= BLOCK_LIMIT {
             return Err(BuildError::TooManyBlocks);
         }
-        if num_vregs >= LIMIT {
+        if num_vregs >= VREG_LIMIT {
             return Err(BuildError::TooManyVRegs);
         }
         let (mut blocks, insts) = lay_out(alloc, blocks)?;
@@ -255,7 +251,7 @@ fn place<A: Allocator + Copy>(
     } = draft;
     let first = Inst::new(insts.len());
     insts.extend(added)?;
-    if insts.len() >= LIMIT {
+    if insts.len() >= INST_LIMIT {
         return Err(BuildError::TooManyInsts);
     }
     blocks.push(TableBlock {
@@ -268,7 +264,7 @@ fn place<A: Allocator + Copy>(
     Ok(())
 }
 
-/// The blocks and the instructions one after another. The blocks have no predecessors yet.
+/// Returns the blocks and the instructions of `drafts`, one after another. The blocks have no predecessors yet.
 fn lay_out<A: Allocator + Copy>(
     alloc: A,
     drafts: Vec<BlockDraft<A>, A>,
@@ -320,7 +316,7 @@ fn link_one<A: Allocator + Copy>(
     Ok(())
 }
 
-/// Gives each block its predecessors.
+/// Gives each of `blocks` its predecessors.
 fn link<A: Allocator + Copy>(blocks: &mut Vec<TableBlock<A>, A>) -> Result<(), BuildError>
     requires { vec_len blocks.old < 2 ^ 32 - 1 }
     ensures ok { let succs = map (λ b. b.succs) (map block_of_table blocks.old.items) in

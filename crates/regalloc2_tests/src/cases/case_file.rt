@@ -26,14 +26,14 @@ pub struct Case<'t> {
     pub calls: Vec<Expectation<'t>>,
 }
 
-/// A line without its comment, which begins with `# `, and the blanks before that.
+/// Returns `line` without its comment, which begins with `# `, and the blanks before it.
 fn without_comment(line: &str) -> &str {
     let shown = line.split_once("# ").map_or(line, |(front, _)| front);
     shown.trim_end()
 }
 
 impl<'t> Expectation<'t> {
-    /// Takes a line of the result.
+    /// Adds `line` to the result.
     fn add(&mut self, line: &'t str) -> Result<(), AllocError> {
         let shown = without_comment(line);
         if !shown.is_empty() {
@@ -54,14 +54,15 @@ impl<'t> Case<'t> {
         }
     }
 
-    /// Adds a call of no result yet.
+    /// Adds `call`, of line `line`, with no result yet.
     fn add_call(&mut self, alloc: Global, line: usize, call: &'t str) -> Result<(), AllocError> {
         let answer = Vec::new(alloc);
         self.calls.push(Expectation { line, call, answer })?;
         Ok(())
     }
 
-    /// Takes the next line, which begins no case: a call, a line of the last call's result, or a line of the text.
+    /// Adds `line`, with the number `number`, which begins no case: a call, a line of the last call's result, or a
+    /// line of the text.
     fn add(&mut self, alloc: Global, number: usize, line: &'t str) -> Result<(), AllocError> {
         if let Some(call) = line.strip_prefix("== ") {
             return self.add_call(alloc, number, call.trim());
@@ -74,7 +75,7 @@ impl<'t> Case<'t> {
     }
 }
 
-/// Takes the next line of a file: it begins a case, or belongs to the last one.
+/// Adds `line`, with the number `number`, to `cases`: it begins a case, or belongs to the last one.
 fn take<'t>(
     alloc: Global,
     number: usize,
@@ -91,7 +92,9 @@ fn take<'t>(
     }
 }
 
-/// The cases of a file. What is before the first title is one too; if it is comment alone it has no calls.
+/// Returns the cases of `file`.
+///
+/// The lines before the first title are a case, too; if they are comments alone, it has no calls.
 pub fn cases_of<'t>(alloc: Global, file: &'t str) -> Result<Vec<Case<'t>>, AllocError> {
     let mut cases = vec![in alloc; Case::new(alloc, "untitled", 1)]?;
     let mut next = 1usize;

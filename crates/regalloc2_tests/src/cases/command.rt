@@ -8,7 +8,7 @@ use std::alloc::{AllocError, Global};
 use std::fmt::Display;
 use std::io::Write;
 
-/// The bytes of a text, in which `%` is written for a byte that is part of no character.
+/// Returns the bytes of `text`, in which `%` stands for a byte that is part of no character.
 fn bytes_of(alloc: Global, text: &str) -> Result<Vec<u8>, AllocError> {
     let mut bytes = Vec::new(alloc);
     for byte in text.bytes() {
@@ -17,7 +17,7 @@ fn bytes_of(alloc: Global, text: &str) -> Result<Vec<u8>, AllocError> {
     Ok(bytes)
 }
 
-/// Writes the first line of an error's text.
+/// Writes the first line of the text of `error`.
 fn write_first_line<E: Display>(
     alloc: Global,
     error: &E,
@@ -29,7 +29,7 @@ fn write_first_line<E: Display>(
     Ok(())
 }
 
-/// Writes what a program wrote to standard error, and its status.
+/// Writes `err`, what a program wrote to standard error, and `status`.
 fn write_end(err: &[u8], status: u8, to: &mut Vec<u8>) -> Result<(), CallError> {
     to.extend_from_slice(err)?;
     writeln!(to, "status {status}")?;
@@ -46,17 +46,14 @@ fn write_done(
 ) -> Result<(), CallError> {
     let bytes = bytes_of(alloc, text)?;
     let mut err = Vec::new(alloc);
-    let other = match task.other {
-        Some(name) => Some((name, before.as_bytes())),
-        None => None,
-    };
+    let other = task.other.map(|name| (name, before.as_bytes()));
     let status = perform_task(alloc, task, bytes.as_slice(), other, to, &mut err);
     write_end(err.as_slice(), status, to)
 }
 
-/// Writes what the program writes for the command line `line`, in which the first file is `text` and the second file of `diff` is
-/// `before`: its standard output, then its standard error, and its status. If the words name no task, it writes the error's first line
-/// alone.
+/// Writes what the program writes for the command line `line`, in which the first file is `text` and the second file
+/// of `diff` is `before`: its standard output, then its standard error, and its status. If the words name no task, it
+/// writes the error's first line alone.
 pub fn write_program(
     alloc: Global,
     line: &str,
@@ -71,7 +68,7 @@ pub fn write_program(
     }
 }
 
-/// Takes a word of `compile run`. Returns whether it is right.
+/// Reads `word`, a word of `compile run`, into `options`. Returns whether it is right.
 fn take(options: &mut RunOptions, word: &str) -> Result<bool, AllocError> {
     if word == "--memory" {
         options.shows_memory = true;
@@ -89,7 +86,7 @@ fn take(options: &mut RunOptions, word: &str) -> Result<bool, AllocError> {
     Ok(true)
 }
 
-/// The options of `compile run` in its words, the file left out, or nothing where one is wrong.
+/// Returns the options of `compile run` in `words`, in which the file is left out, or `None` if a word is wrong.
 fn options_of(alloc: Global, words: &str) -> Result<Option<RunOptions>, AllocError> {
     let mut options = RunOptions {
         arguments: Vec::new(alloc),
@@ -104,7 +101,7 @@ fn options_of(alloc: Global, words: &str) -> Result<Option<RunOptions>, AllocErr
     Ok(Some(options))
 }
 
-/// The action that the words of `compile` name, the file left out, or nothing where one is wrong.
+/// Returns the action that `words`, the words of `compile` without the file, name, or `None` if a word is wrong.
 fn action_of(alloc: Global, words: &str) -> Result<Option<Action>, AllocError> {
     match words {
         "" => return Ok(Some(Action::Write)),
@@ -120,8 +117,8 @@ fn action_of(alloc: Global, words: &str) -> Result<Option<Action>, AllocError> {
     }
 }
 
-/// Writes what `compile` writes for its words, in which the file is left out: what it writes to standard output, behind that
-/// what it writes to standard error, and its status.
+/// Writes what `compile` writes for `words`, in which the file is left out, and `text`: standard output, then
+/// standard error, and the status.
 pub fn write_compiler(
     alloc: Global,
     words: &str,

@@ -24,7 +24,7 @@ impl Tally {
         self.failed == 0
     }
 
-    /// Counts a call.
+    /// Counts a call, which passed if `has_passed`.
     fn count(&mut self, has_passed: bool) {
         if has_passed {
             self.passed = self.passed.saturating_add(1);
@@ -60,7 +60,7 @@ impl fmt::Display for Shown<'_> {
     }
 }
 
-/// Does a call with what a case's text gives, and writes the result.
+/// Performs `call` with what `text` gives, and writes the result.
 fn write_answer(
     alloc: Global,
     call: Call,
@@ -78,7 +78,7 @@ fn write_answer(
     Ok(to.extend_from_slice(err.as_slice())?)
 }
 
-/// Does a call with the function in a case's text, and writes the result or what is wrong with the text.
+/// Performs `call` with the function in the text of `case`, and writes the result or what is wrong with the text.
 fn write_call(
     alloc: Global,
     call: Call,
@@ -93,7 +93,8 @@ fn write_call(
     }
 }
 
-/// The call of a name, and the case's text if the name ends in ` why`: then what is rejected or found is explained.
+/// Returns the call that `name` names, and the text of `case` if the name ends in ` why`: then what is rejected or
+/// found is explained.
 fn call_of<'t>(case: &'t Case<'_>, name: &str) -> (Option<Call>, Option<Source<'t>>) {
     let Some(word) = name.strip_suffix(" why") else {
         return (Call::named(name), None);
@@ -106,9 +107,10 @@ fn call_of<'t>(case: &'t Case<'_>, name: &str) -> (Option<Call>, Option<Source<'
     (Call::named(word), Some(source))
 }
 
-/// Writes the result of a call of a case: what is written, and after that the text's error. A name of which the first word is
-/// `ra2_text` is that program's command line; `before` is the text of the case before. A name of which it is `compile` is
-/// that program's, in which the file is left out.
+/// Writes the result of the call `name` of `case`: what is written, followed by the text's error.
+///
+/// A name that begins with `ra2_text` is this program's command line; `before` is the text of the case before. A name
+/// that begins with `compile` is this program's command line, in which the file is left out.
 fn write_result(
     alloc: Global,
     case: &Case<'_>,
@@ -128,7 +130,7 @@ fn write_result(
     }
 }
 
-/// A result without its blank lines.
+/// Returns the result `came` without its blank lines.
 fn without_blank_lines(alloc: Global, came: &str) -> Result<String, AllocError> {
     let mut shown = String::new(alloc);
     for line in came.lines() {
@@ -140,7 +142,7 @@ fn without_blank_lines(alloc: Global, came: &str) -> Result<String, AllocError> 
     Ok(shown)
 }
 
-/// The first line at which a result differs: the expected one and the actual one.
+/// Returns the first line at which the result `came` differs from `wanted`: the expected line and the actual one.
 fn first_difference<'a>(wanted: &[&'a str], came: &'a str) -> Option<(Shown<'a>, Shown<'a>)> {
     let mut lines = came.lines();
     for line in wanted {
@@ -153,7 +155,7 @@ fn first_difference<'a>(wanted: &[&'a str], came: &'a str) -> Option<(Shown<'a>,
     Some((Shown(None), Shown(Some(next))))
 }
 
-/// The result of a call of a case, without its blank lines.
+/// Returns the result of the call `name` of `case`, without its blank lines.
 fn result_of(
     alloc: Global,
     case: &Case<'_>,
@@ -166,7 +168,7 @@ fn result_of(
     Ok(without_blank_lines(alloc, came.as_str())?)
 }
 
-/// Writes how a call's result differs from the expected one.
+/// Writes that a call's result has the line `got` where `wanted` has `want`.
 fn write_difference<O: Write>(
     path: &str,
     title: &str,
@@ -181,7 +183,8 @@ fn write_difference<O: Write>(
     )
 }
 
-/// Runs a call of a case, and writes how its result differs from the expected one. Returns whether it doesn't.
+/// Runs the call `wanted` of `case`, and writes how its result differs from the expected one. Returns whether it is
+/// the same.
 fn run_call<O: Write>(
     alloc: Global,
     path: &str,
@@ -200,7 +203,7 @@ fn run_call<O: Write>(
     }
 }
 
-/// Runs the calls of a case, and counts them.
+/// Runs the calls of `case`, and counts them in `tally`.
 fn run_case<O: Write>(
     alloc: Global,
     path: &str,
@@ -215,10 +218,11 @@ fn run_case<O: Write>(
     Ok(())
 }
 
-/// Runs the cases of a file, writes what differs, and counts the file and its calls.
+/// Runs the cases of `text`, the file with the path `path`, writes what differs, and counts the file and its calls in
+/// `tally`.
 ///
-/// For each call whose result differs the first such line is written, expected and actual, under the file, the
-/// line of the call, the title of its case and its name.
+/// For each call whose result differs the first such line is written, expected and actual, under the file, the line
+/// of the call, the title of its case and its name.
 pub fn run_file<O: Write>(
     alloc: Global,
     path: &str,

@@ -6,7 +6,8 @@ use std::alloc::Global;
 use std::io::BufWriter;
 use std::{fmt, str};
 
-/// The lines that say that memory ran out: first the lines of status 2, on the standard error, then the lines of status 1.
+/// The lines that say that memory ran out: first the lines of status 2, on the standard error, then the lines of
+/// status 1.
 pub static LACKS: [&str; 5] = [
     "ra2: input unreadable\n",
     "ra2: bad function 5\n",
@@ -23,7 +24,7 @@ pub struct Answer {
     err: Vec<u8>,
 }
 
-/// The arguments between `+`.
+/// Returns the arguments that are between `+` in `line`.
 fn words_of(global: Global, line: &str) -> Option<Vec<String>> {
     let mut words = Vec::new(global);
     for word in line.split('+') {
@@ -32,7 +33,7 @@ fn words_of(global: Global, line: &str) -> Option<Vec<String>> {
     Some(words)
 }
 
-/// Calls the function that `main` calls, with the arguments between `+`, over an allocator.
+/// Runs `ra2` with the arguments between `+` in `line`, the input `text` and the allocator `alloc`.
 pub fn ask(global: Global, alloc: &Refusing<Global>, line: &str, text: &[u8]) -> Option<Answer> {
     let words = words_of(global, line)?;
     let out = BufWriter::new(global, Vec::new(global)).ok()?;
@@ -41,7 +42,7 @@ pub fn ask(global: Global, alloc: &Refusing<Global>, line: &str, text: &[u8]) ->
     Some(Answer { status, out, err })
 }
 
-/// What a stream got, as text.
+/// Returns what was written to `stream`, as text.
 fn text_of(stream: &[u8]) -> &str {
     str::from_utf8(stream).unwrap_or("no text")
 }
@@ -81,7 +82,8 @@ impl Answer {
             _ => false,
         }
     }
-    /// Which of the lines says that memory ran out, behind a part of what is written with ample memory.
+    /// Returns the index in [`LACKS`] of the line that was written, after a part of what `ample`, the answer with
+    /// ample memory, has.
     pub fn lack(&self, ample: &Answer) -> Option<usize> {
         let (out, err) = (text_of(&self.out), text_of(&self.err));
         let said = match self.status {

@@ -8,7 +8,7 @@ static BYTES: [u8; 16] = [
     b'[', b']', b'{', b'}', b',', b':', b'"', b'0', b'1', b'9', b'-', b'.', b'e', b' ', b'n', b'\\',
 ];
 
-/// The text with one part replaced, of which as much counts as there is.
+/// Returns `text` with the part from `from` to `to`, as far as there is one, replaced by `piece`.
 fn replaced(alloc: Global, text: &[u8], from: usize, to: usize, piece: &[u8]) -> Option<Vec<u8>> {
     let mut made = Vec::new(alloc);
     made.extend_from_slice(text.get(..from)?).ok()?;
@@ -17,7 +17,7 @@ fn replaced(alloc: Global, text: &[u8], from: usize, to: usize, piece: &[u8]) ->
     Some(made)
 }
 
-/// Whether a digit stands at a position.
+/// Returns whether a digit is at `at` of `text`.
 fn is_digit(text: &[u8], at: usize) -> bool {
     match text.get(at) {
         Some(byte) => byte.is_ascii_digit(),
@@ -25,12 +25,12 @@ fn is_digit(text: &[u8], at: usize) -> bool {
     }
 }
 
-/// Whether a number ends at a position.
+/// Returns whether a number ends at `at` of `text`.
 fn ends_number(text: &[u8], at: usize) -> bool {
     is_digit(text, at) && !is_digit(text, at.saturating_add(1))
 }
 
-/// The text with another last digit of the first number from a position on.
+/// Returns `text` with another last digit of the first number from `at` on.
 fn with_other_number(
     alloc: Global,
     random: &mut Random,
@@ -46,8 +46,9 @@ fn with_other_number(
     text.to_vec(alloc).ok()
 }
 
-/// The text with one change: most often of a number's last digit; or a byte is changed, put in or taken out, a part is repeated, or an
-/// end is cut off.
+/// Returns `text` with one change: most often of a number's last digit.
+///
+/// Else a byte is changed, put in or taken out, a part is repeated, or an end is cut off.
 fn changed_once(alloc: Global, random: &mut Random, text: &[u8]) -> Option<Vec<u8>> {
     let at = random.below(text.len().max(1));
     let other = random.below(text.len().max(1));
@@ -63,7 +64,7 @@ fn changed_once(alloc: Global, random: &mut Random, text: &[u8]) -> Option<Vec<u
     }
 }
 
-/// The text with up to three changes.
+/// Returns `text` with up to three changes.
 pub fn changed(alloc: Global, random: &mut Random, text: &[u8]) -> Option<Vec<u8>> {
     let mut made = changed_once(alloc, random, text)?;
     for _ in 0..random.below(3) {

@@ -10,8 +10,8 @@ use crate::test_alloc::Refusing;
 use std::alloc::Global;
 use std::io::{self, Write};
 
-/// Whether each memory allocation that fails ends in a line that says so, which is then marked; and
-/// there is one.
+/// Returns whether some memory allocation can fail, and each failure ends in a line that says so, which is then
+/// marked in `met`.
 fn is_each_told(global: Global, words: &str, text: &[u8], met: &mut [bool; 5]) -> Option<bool> {
     let ample = ask(global, &Refusing::counting(global), words, text)?;
     for nth in 1..10_000u64 {
@@ -28,7 +28,8 @@ fn is_each_told(global: Global, words: &str, text: &[u8], met: &mut [bool; 5]) -
     None
 }
 
-/// For how many whole texts each failed allocation is reported, and for how many it isn't; the lines that say so are marked.
+/// Returns for how many whole texts of `lines` each failed allocation is reported, and for how many it isn't; marks
+/// in `met` the lines that say so.
 fn told_and_untold(global: Global, lines: &str, met: &mut [bool; 5]) -> (u32, u32) {
     let (mut told, mut untold) = (0u32, 0u32);
     for line in lines.lines() {
@@ -43,7 +44,7 @@ fn told_and_untold(global: Global, lines: &str, met: &mut [bool; 5]) -> (u32, u3
     (told, untold)
 }
 
-/// Writes of each line whether it is met.
+/// Writes of each line of [`LACKS`] whether it is marked in `met`.
 fn show_met<W: Write>(met: [bool; 5], out: &mut W) -> io::Result<()> {
     for at in 0..met.len() {
         let word = if met[at] { "met" } else { "NOT MET" };
@@ -52,8 +53,8 @@ fn show_met<W: Write>(met: [bool; 5], out: &mut W) -> io::Result<()> {
     Ok(())
 }
 
-/// Writes for how many whole texts each failed allocation is reported, for how many it isn't, and of
-/// each line whether it is met.
+/// Writes for how many whole texts of `lines` each failed allocation is reported, for how many it isn't, and of each
+/// line of [`LACKS`] whether it is met.
 pub fn show_refused<W: Write>(global: Global, lines: &str, out: &mut W) -> io::Result<()> {
     let mut met = [false; 5];
     let (told, untold) = told_and_untold(global, lines, &mut met);

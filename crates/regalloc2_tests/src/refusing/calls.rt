@@ -62,7 +62,7 @@ impl<F: Function> Call for Given<'_, F> {
     }
 }
 
-/// The text of an error. That memory ran out is passed on.
+/// Returns the text of `error`. That memory ran out is passed on.
 fn told(global: Global, error: RegAllocError) -> Result<String, AllocError> {
     if error == RegAllocError::Memory {
         return Err(AllocError);
@@ -84,7 +84,7 @@ fn text_of<A: Allocator>(global: Global, out: &Output<A>) -> Result<String, Allo
     format!(in global; "{slots} {edits:?} {allocs:?} {offsets:?} {labels:?}")
 }
 
-/// The text of errors. That memory ran out, which has to be the only one, is passed on.
+/// Returns the text of `errors`. That memory ran out, which has to be the only error, is passed on.
 fn faults<A: Allocator>(global: Global, errors: &[CheckerError<A>]) -> Result<String, AllocError> {
     if matches!(errors, [CheckerError::Memory]) {
         return Err(AllocError);
@@ -115,7 +115,7 @@ impl<F: Function> Given<'_, F> {
         }
     }
 
-    /// The result of a call that isn't made, or breaks a rule.
+    /// Returns `words`, the result of a call that isn't made, or breaks a rule.
     fn words(&self, words: &str) -> Result<String, AllocError> {
         String::from_str(self.global, words)
     }
@@ -128,7 +128,7 @@ impl<F: Function> Given<'_, F> {
         }
     }
 
-    /// Runs with a context. An error leaves the whole output that it had.
+    /// Runs with `ctx`. An error leaves the whole output that it had.
     fn run_once<A: Allocator + Copy>(&self, ctx: &mut Ctx<A>) -> Result<String, AllocError> {
         let had = text_of(self.global, &ctx.output)?;
         let Some(answer) = run_with_ctx_fitting(self.f, self.env, ctx) else {
@@ -142,7 +142,8 @@ impl<F: Function> Given<'_, F> {
         }
     }
 
-    /// Runs three times with a context, so that the second call finds an output, and the third one shows that the context still serves.
+    /// Runs three times with `ctx`: the second run finds an output, and the third one shows that the context still
+    /// serves.
     fn run_thrice<A: Allocator + Copy>(&self, ctx: &mut Ctx<A>) -> Result<String, AllocError> {
         let (first, second) = (self.run_once(ctx), self.run_once(ctx));
         let third = self.run_once(ctx)?;
@@ -238,7 +239,7 @@ impl<F: Function> Given<'_, F> {
         }
     }
 
-    /// The result of a check by a new checker.
+    /// Returns the result of a check of `out` by `checker`, which is new.
     fn check_by<A: Allocator + Copy>(
         &self,
         mut checker: Checker<'_, F, A>,
@@ -250,7 +251,8 @@ impl<F: Function> Given<'_, F> {
         }
     }
 
-    /// The text of a checker's report. If memory ran out before it, the report has to be the usual one.
+    /// Returns the text of the checker's `report`. If `is_refused`, memory ran out before it, and the report has to
+    /// be the usual one.
     fn verdict<A: Allocator>(
         &self,
         report: Result<(), CheckerErrors<A>>,
@@ -267,7 +269,7 @@ impl<F: Function> Given<'_, F> {
     }
 }
 
-/// Whether memory runs out as a checker prepares an output; nothing if it then serves no more.
+/// Returns whether memory runs out as `checker` prepares `out`; `None` if the checker then serves no more.
 fn lacks_memory<F: Function, A: Allocator + Copy>(
     checker: &mut Checker<'_, F, A>,
     out: &Output,
@@ -281,14 +283,14 @@ fn lacks_memory<F: Function, A: Allocator + Copy>(
     }
 }
 
-/// The text of tables.
+/// Returns the text of the tables `info`.
 fn tables_text<A: Allocator>(global: Global, info: &CFGInfo<A>) -> Result<String, AllocError> {
     let (blocks, insts) = (info.postorder.as_slice(), info.insn_block.as_slice());
     let (first, last) = (info.block_entry.as_slice(), info.block_exit.as_slice());
     format!(in global; "{blocks:?} {insts:?} {first:?} {last:?}")
 }
 
-/// What is said of tables that should be empty, if they aren't.
+/// Returns what is said of the tables `info`, which should be empty, if they aren't.
 fn left_in<A: Allocator>(info: &CFGInfo<A>) -> Option<&'static str> {
     if !info.postorder.is_empty() || !info.insn_block.is_empty() {
         Some("a table is left")

@@ -46,7 +46,7 @@ static CHANGES: [(&str, usize, u32); 18] = [
     ("a slot too large", 14, 25),
 ];
 
-/// Adds a line's words, but for the one of that index.
+/// Adds the words of `line`, with `word` in place of the word at `at`.
 fn push_line(words: &mut Vec<u32>, line: &str, at: usize, word: u32) -> Result<(), AllocError> {
     for text in line.split(' ') {
         let number = text.parse::<u32>().unwrap_or(0);
@@ -55,7 +55,7 @@ fn push_line(words: &mut Vec<u32>, line: &str, at: usize, word: u32) -> Result<(
     Ok(())
 }
 
-/// The words of the function, with one replaced.
+/// Returns the words of the function, with `word` in place of the word at `at`.
 fn words_with(alloc: Global, at: usize, word: u32) -> Result<Vec<u32>, AllocError> {
     let mut words = Vec::new(alloc);
     for (_, line) in &LINES {
@@ -64,7 +64,7 @@ fn words_with(alloc: Global, at: usize, word: u32) -> Result<Vec<u32>, AllocErro
     Ok(words)
 }
 
-/// Writes what is read of words.
+/// Writes what is read of `words`.
 fn write_read(alloc: Global, words: &[u32], out: &mut Report) {
     match FlatFunction::read(alloc, words) {
         Ok(f) => {
@@ -97,7 +97,7 @@ pub fn write_all(alloc: Global, out: &mut Report) -> Result<(), AllocError> {
     Ok(())
 }
 
-/// Writes why words are refused.
+/// Writes why `words` are rejected, with `name` before it.
 fn write_fault(alloc: Global, name: &str, words: &[u32], out: &mut Report) {
     match FlatFunction::read(alloc, words) {
         Ok(_) => out.row(name, &"taken"),
@@ -105,7 +105,7 @@ fn write_fault(alloc: Global, name: &str, words: &[u32], out: &mut Report) {
     }
 }
 
-/// Writes what comes where a request for memory is refused, the first, the second and so on.
+/// Writes the result for `words` if the first memory allocation fails, the second and so on.
 fn write_refusals(alloc: Global, words: &[u32], out: &mut Report) {
     for at in 0..20 {
         let refusing = Refusing::new(alloc, at);
@@ -114,7 +114,7 @@ fn write_refusals(alloc: Global, words: &[u32], out: &mut Report) {
     }
 }
 
-/// Writes what all calls about a block give.
+/// Writes what all calls about `block` return.
 fn write_block<F: Function>(f: &F, block: Block, out: &mut Report)
     requires { block < length (F.function f.now).blocks }
 {
@@ -122,7 +122,7 @@ fn write_block<F: Function>(f: &F, block: Block, out: &mut Report)
     out.row("succs", &(f.block_succs(block), f.block_params(block)));
 }
 
-/// Writes what all calls about an instruction give.
+/// Writes what all calls about `inst` return.
 fn write_inst<F: Function>(f: &F, inst: Inst, out: &mut Report)
     requires { inst < length (F.function f.now).insts }
 {

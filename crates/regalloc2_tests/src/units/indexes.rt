@@ -30,7 +30,7 @@ impl ContainerComparator for Falling {
     }
 }
 
-/// The lower of two indexes by an order.
+/// Returns the lower of `a` and `b` by `order`.
 fn lower<C: ContainerComparator>(order: &C, a: C::Ix, b: C::Ix) -> C::Ix {
     match order.compare(a, b) {
         Ordering::Greater => b,
@@ -57,7 +57,7 @@ fn write_numbers(out: &mut Report) {
     out.row("lower of falling blocks", &low.index());
 }
 
-/// The numbers of a list, written one after the other in base 10, after a 1.
+/// Returns the numbers of `items`, written one after the other in base 10, after a 1.
 fn digits<I: Iterator<Item = Inst>>(items: I) -> u64
     requires can { I.can_next items }
     requires ends { IsFinite (I.remaining items) }
@@ -87,7 +87,7 @@ fn write_ranges(out: &mut Report) {
     out.row("range walked", &walked);
 }
 
-/// The first squares: a call that allocates through any allocator.
+/// Returns the first `n` squares, allocated by any allocator.
 fn squares<A: Allocator + Copy>(alloc: A, n: u8) -> Result<Vec<u32, A>, AllocError> {
     let mut all = Vec::new(alloc);
     for i in 0..n {

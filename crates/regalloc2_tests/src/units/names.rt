@@ -27,10 +27,7 @@ fn write_places(out: &mut Report) {
             continue;
         }
         let p = Allocation::from_bits(word);
-        let slot = match p.as_stack() {
-            Some(slot) => Some(slot.index()),
-            None => None,
-        };
+        let slot = p.as_stack().map(|slot| slot.index());
         let is = (p.is_none(), p.is_some(), p.is_reg(), p.is_stack());
         let row = (p, p.kind(), p.index(), p.as_reg(), slot, p.bits(), is);
         out.row("place", &row);

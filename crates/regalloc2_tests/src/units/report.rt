@@ -22,24 +22,24 @@ impl Report {
         }
     }
 
-    /// Writes a value as it prints.
+    /// Writes `value` as it is displayed.
     pub fn put<T: Display>(&mut self, value: &T) {
         if write!(self.text, "{value}").is_err() {
             self.is_out_of_memory = true;
         }
     }
 
-    /// Writes words.
+    /// Writes `words`.
     pub fn words(&mut self, words: &str) {
         self.put(&words);
     }
 
-    /// Writes what a call returns, for programmers.
+    /// Writes the row `name` with `value`, what a call returns, for programmers.
     pub fn row<T: Debug>(&mut self, name: &str, value: &T) {
         self.put(&format_args!("{name}: {value:?}\n"));
     }
 
-    /// Writes values as they print, and as they print for programmers.
+    /// Writes each of `values` as it is displayed, and for programmers.
     pub fn texts<T: Display + Debug>(&mut self, values: &[T]) {
         for value in values {
             self.put(&format_args!("{value} = {value:?}\n"));

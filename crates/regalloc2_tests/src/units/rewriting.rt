@@ -13,7 +13,7 @@ const TURNING: &str = "block0:\n  op: Def: v0i reg\n  branch block1(v0i)\n\
     block1(v1i):\n  branch block1(v1i), block2()\n\
     block2:\n  ret: Use: v1i reg\n";
 
-/// Writes the function with its blocks in an order.
+/// Writes `f` with its blocks in `order`.
 fn write_renumbered<F: Function>(alloc: Global, f: &F, order: &[Block], out: &mut Report) {
     match renumber(alloc, f, order) {
         Ok(g) => write_function(&g, out),

@@ -1,13 +1,11 @@
 //! Sets of registers, and sparse sets of numbers.
 
+use crate::random::CLASSES;
 use crate::test_alloc::Refusing;
 use crate::units::report::Report;
 use regalloc2_function::indexset::{IndexSet, SetBitsIter};
 use regalloc2_names::{PReg, PRegSet, RegClass};
 use std::alloc::{AllocError, Allocator, Global};
-
-/// The classes.
-static CLASSES: [RegClass; 3] = [RegClass::Int, RegClass::Float, RegClass::Vector];
 
 /// Writes what sets return.
 pub fn write_all(alloc: Global, out: &mut Report) -> Result<(), AllocError> {
@@ -22,7 +20,7 @@ pub fn write_all(alloc: Global, out: &mut Report) -> Result<(), AllocError> {
     write_members(out, &mut IndexSet::new(alloc), &mut IndexSet::new(alloc))
 }
 
-/// Writes sets with the results of all their queries.
+/// Writes `sets` with the results of all their queries.
 fn write_sets(out: &mut Report, sets: &[(&str, PRegSet)]) {
     for (name, set) in sets {
         out.put(&format_args!("{name}: {set}\n"));
@@ -32,7 +30,8 @@ fn write_sets(out: &mut Report, sets: &[(&str, PRegSet)]) {
     }
 }
 
-/// Writes sets that others are changed to, and what walks of one give: by reference its last register, by value how many.
+/// Writes sets that others are changed to, and what walks of one give: by reference its last register, by value how
+/// many.
 fn write_changes(alloc: Global, out: &mut Report) -> Result<(), AllocError> {
     let (p4, p5) = (PReg::new(4, RegClass::Int), PReg::new(5, RegClass::Int));
     let list = [p4, PReg::new(3, RegClass::Vector), p4];
@@ -62,7 +61,7 @@ fn write_changes(alloc: Global, out: &mut Report) -> Result<(), AllocError> {
     Ok(())
 }
 
-/// How many registers a walk gives.
+/// Returns how many registers a walk of `set` yields.
 fn count_of(set: PRegSet) -> u32 {
     let mut count = 0u32;
     for p in set {
@@ -99,7 +98,7 @@ fn write_ranges(out: &mut Report) {
     }
 }
 
-/// How many members a set has, and their sum.
+/// Returns how many members `set` has, and their sum.
 pub fn count_and_sum<A: Allocator + Copy>(set: &IndexSet<A>) -> (usize, usize) {
     let (mut count, mut sum) = (0usize, 0usize);
     for number in set.iter() {
@@ -109,7 +108,7 @@ pub fn count_and_sum<A: Allocator + Copy>(set: &IndexSet<A>) -> (usize, usize) {
     (count, sum)
 }
 
-/// Adds the first multiples of a number to a set, 0 the first of them, each taken below 2^20.
+/// Adds the first `count` multiples of `of` to `set`, 0 the first of them, each taken below 2^20.
 pub fn add_multiples<A: Allocator + Copy>(
     set: &mut IndexSet<A>,
     of: usize,
@@ -121,7 +120,7 @@ pub fn add_multiples<A: Allocator + Copy>(
     Ok(())
 }
 
-/// Writes an empty set that stays within its twelve words, where the first allocation fails, and then goes
+/// Writes `set`, which is empty, as it stays within its twelve words, where the first allocation fails, and then goes
 /// past them.
 fn write_inline<A: Allocator + Copy>(
     out: &mut Report,
@@ -141,8 +140,8 @@ fn write_inline<A: Allocator + Copy>(
     Ok(())
 }
 
-/// Writes what is left of an empty set to which a member is added, and then a set is assigned or added, if
-/// an allocation fails. Of a union the words for which there is room are left.
+/// Writes what is left of `set`, which is empty, if a member is added, and then `other` is assigned to it if
+/// `assigns`, else added, and an allocation fails. Of a union, the words for which there is room are left.
 fn write_left_in<A: Allocator + Copy>(
     out: &mut Report,
     other: &IndexSet<A>,
@@ -159,8 +158,8 @@ fn write_left_in<A: Allocator + Copy>(
     Ok(())
 }
 
-/// Writes what is left of a set of one member, to which a set of 40 words is assigned or added, if
-/// an allocation of its own allocator fails.
+/// Writes what is left of a set of one member if a set of 40 words is assigned to it if `assigns`, else added, and an
+/// allocation of its own allocator fails.
 fn write_left<'a>(
     out: &mut Report,
     ample: &'a Refusing<Global>,
@@ -172,7 +171,7 @@ fn write_left<'a>(
     write_left_in(out, &other, &mut IndexSet::new(short), assigns)
 }
 
-/// Writes the multiples of 17, which are added to an empty set, their union with another one, and the bits of a word.
+/// Writes the multiples of 17, which are added to `set`, their union with `small`, and the bits of a word.
 fn write_members<A: Allocator + Copy>(
     out: &mut Report,
     set: &mut IndexSet<A>,

@@ -9,10 +9,6 @@ use Rattle.regalloc2_text.specs.declared.explain.faults.StoredCause.TheVariants.
 use Rattle.regalloc2_text.specs.declared.explain.faults.StoredCause.TheVariants.{Register, OperandWord, Clobber, VRegWord, LabelWord, TooMany, SlotSize}
 use Rattle.regalloc2_text.specs.declared.explain.faults.StoredCause.TheVariants.{Move, Place, Location, Known}
 
--- the class of a number, from 0
-abbrev pub numbered_class : ℕ → RegClass
-numbered_class n = if nat_eq n 0 then Int else (if nat_eq n 1 then Float else Vector)
-
 -- as a text names a class
 abbrev pub class_word : RegClass → List ℕ
 class_word Int = codes "int"
@@ -23,29 +19,29 @@ class_word Vector = codes "vector"
 abbrev pub counted_text : ℕ → List ℕ → List ℕ
 counted_text n noun = decimal n ++ codes " " ++ noun ++ (if nat_eq n 1 then [] else codes "s")
 
-abbrev pub cause_text : StoredCause → List ℕ
-cause_text (BlockList list n blocks) = list.now ++ codes " has " ++ counted_text n (codes "member") ++ codes " for " ++ counted_text blocks (codes "block")
-cause_text (ArgumentLists b lists succs) = codes "block" ++ decimal b ++ codes " has " ++ counted_text lists (codes "list") ++ codes " of arguments for "
+abbrev pub stored_cause_text : StoredCause → List ℕ
+stored_cause_text (BlockList list n blocks) = list.now ++ codes " has " ++ counted_text n (codes "member") ++ codes " for " ++ counted_text blocks (codes "block")
+stored_cause_text (ArgumentLists b lists succs) = codes "block" ++ decimal b ++ codes " has " ++ counted_text lists (codes "list") ++ codes " of arguments for "
     ++ counted_text succs (codes "successor")
-cause_text (ClassList list n) = list.now ++ codes " has " ++ counted_text n (codes "member") ++ codes " for 3 classes"
-cause_text (Entry b blocks) = codes "the entry is block" ++ decimal b ++ codes ", and the function has " ++ counted_text blocks (codes "block")
-cause_text (Neighbour b role named blocks) = codes "block" ++ decimal b ++ codes " lists block" ++ decimal named ++ codes " as a " ++ role.now
+stored_cause_text (ClassList list n) = list.now ++ codes " has " ++ counted_text n (codes "member") ++ codes " for 3 classes"
+stored_cause_text (Entry b blocks) = codes "the entry is block" ++ decimal b ++ codes ", and the function has " ++ counted_text blocks (codes "block")
+stored_cause_text (Neighbour b role named blocks) = codes "block" ++ decimal b ++ codes " lists block" ++ decimal named ++ codes " as a " ++ role.now
     ++ codes ", and the function has " ++ counted_text blocks (codes "block")
-cause_text (Range b first end insts) = codes "block" ++ decimal b ++ codes " goes from instruction " ++ decimal first ++ codes " up to " ++ decimal end
+stored_cause_text (Range b first end insts) = codes "block" ++ decimal b ++ codes " goes from instruction " ++ decimal first ++ codes " up to " ++ decimal end
     ++ codes " of " ++ decimal insts
-cause_text (LabelPastCount i v n) = codes "label " ++ decimal i ++ codes ", counted from 0, is of v" ++ decimal v
+stored_cause_text (LabelPastCount i v n) = codes "label " ++ decimal i ++ codes ", counted from 0, is of v" ++ decimal v
     ++ codes ", and only numbers below " ++ decimal n ++ codes " are defined"
-cause_text (Register list index) = list.now ++ codes " has " ++ decimal index ++ codes ", which is no register's index"
-cause_text (OperandWord inst i word) = codes "operand " ++ decimal i ++ codes " of inst" ++ decimal inst ++ codes ", counted from 0, is " ++ decimal word
+stored_cause_text (Register list index) = list.now ++ codes " has " ++ decimal index ++ codes ", which is no register's index"
+stored_cause_text (OperandWord inst i word) = codes "operand " ++ decimal i ++ codes " of inst" ++ decimal inst ++ codes ", counted from 0, is " ++ decimal word
     ++ codes ", which is no operand's word"
-cause_text (Clobber inst index) = codes "inst" ++ decimal inst ++ codes " clobbers " ++ decimal index ++ codes ", which is no register's index"
-cause_text (VRegWord b role word) = codes "block" ++ decimal b ++ codes " has " ++ decimal word ++ codes " as " ++ role.now
+stored_cause_text (Clobber inst index) = codes "inst" ++ decimal inst ++ codes " clobbers " ++ decimal index ++ codes ", which is no register's index"
+stored_cause_text (VRegWord b role word) = codes "block" ++ decimal b ++ codes " has " ++ decimal word ++ codes " as " ++ role.now
     ++ codes ", which is no virtual register's word"
-cause_text (LabelWord i word) = codes "label " ++ decimal i ++ codes ", counted from 0, is of " ++ decimal word ++ codes ", which is no virtual register's word"
-cause_text (TooMany n what limit) = codes "there are " ++ decimal n ++ codes " " ++ what.now ++ codes ", and the limit is " ++ limit.now
-cause_text (SlotSize c size) = codes "a slot of the class " ++ class_word (numbered_class c) ++ codes " takes " ++ decimal size
+stored_cause_text (LabelWord i word) = codes "label " ++ decimal i ++ codes ", counted from 0, is of " ++ decimal word ++ codes ", which is no virtual register's word"
+stored_cause_text (TooMany n what limit) = codes "there are " ++ decimal n ++ codes " " ++ what.now ++ codes ", and the limit is " ++ limit.now
+stored_cause_text (SlotSize c size) = codes "a slot of the class " ++ class_word c ++ codes " takes " ++ decimal size
     ++ codes " units, which is no power of two from 1 to 2^24"
-cause_text (Move i) = codes "move " ++ decimal i ++ codes ", counted from 0, has a word of no point or place"
-cause_text (Place i word) = codes "place " ++ decimal i ++ codes ", counted from 0, is " ++ decimal word ++ codes ", which is no place's word"
-cause_text (Location i) = codes "debug location " ++ decimal i ++ codes ", counted from 0, has a word of no point or place"
-cause_text (Known e) = fault_reason e
+stored_cause_text (Move i) = codes "move " ++ decimal i ++ codes ", counted from 0, has a word of no point or place"
+stored_cause_text (Place i word) = codes "place " ++ decimal i ++ codes ", counted from 0, is " ++ decimal word ++ codes ", which is no place's word"
+stored_cause_text (Location i) = codes "debug location " ++ decimal i ++ codes ", counted from 0, has a word of no point or place"
+stored_cause_text (Known e) = fault_reason e

@@ -82,7 +82,7 @@ impl<'a, 't> Cursor<'a, 't> {
         self.at = self.tokens.len();
     }
 
-    /// Notes that the next token doesn't fit.
+    /// Notes that the next token doesn't fit, and that `expected` is needed in its place.
     pub fn fault(&mut self, expected: Expected)
         ensures { tokens_left self.new ≤ tokens_left self.old }
     {
@@ -94,14 +94,14 @@ impl<'a, 't> Cursor<'a, 't> {
         self.fail(Flaw::new(column, expected, found));
     }
 
-    /// Notes that the next token doesn't fit; `expected` says what is expected in its place.
+    /// Notes that the next token doesn't fit, and that the words `expected` say what is needed in its place.
     pub fn misfit(&mut self, expected: &'static str)
         ensures { tokens_left self.new ≤ tokens_left self.old }
     {
         self.fault(Expected::Words(expected));
     }
 
-    /// Notes that the token before the next one doesn't fit.
+    /// Notes that the token before the next one doesn't fit, and that `expected` is needed in its place.
     pub fn fault_before(&mut self, expected: Expected)
         ensures { tokens_left self.new ≤ tokens_left self.old }
     {
@@ -113,7 +113,7 @@ impl<'a, 't> Cursor<'a, 't> {
         }
     }
 
-    /// Notes that the token before the next one doesn't fit; `expected` says what is expected in its
+    /// Notes that the token before the next one doesn't fit, and that the words `expected` say what is needed in its
     /// place.
     pub fn misfit_before(&mut self, expected: &'static str)
         ensures { tokens_left self.new ≤ tokens_left self.old }
@@ -197,10 +197,8 @@ impl<'a, 't> Cursor<'a, 't> {
 
     /// Returns `value` if the line ends here and has no flaw; else its first flaw.
     pub(crate) fn finish_with<T: Drop>(self, value: T) -> Result<T, Flaw<'t>> {
-        match self.finish() {
-            Ok(()) => Ok(value),
-            Err(flaw) => Err(flaw),
-        }
+        self.finish()?;
+        Ok(value)
     }
 
     /// A number up to `max`, as a token of its own.
@@ -234,7 +232,8 @@ impl<'a, 't> Cursor<'a, 't> {
         self.number(u64::from(u32::MAX)) as u32
     }
 
-    /// The number of 32 bits in a word that is made of `name` and a number, as `inst3`; `expected` says what the word names.
+    /// The number of 32 bits in a word that is made of `name` and a number, as `inst3`; `expected` says what the word
+    /// names.
     pub fn named(&mut self, name: &str, expected: &'static str) -> u32
         ensures { tokens_left self.new ≤ tokens_left self.old }
     {
@@ -257,7 +256,7 @@ impl<'a, 't> Cursor<'a, 't> {
     }
 }
 
-/// Whether a text is a number without leading zeros.
+/// Returns whether `text` is a number without leading zeros.
 pub(crate) fn is_numeral(text: &str) -> bool {
     match text.as_bytes() {
         [b'0'] => true,

@@ -66,7 +66,7 @@ pub enum Found<'t> {
 /// The most characters of a token that a message shows.
 const SHOWN: usize = 60;
 
-/// The part of a token that a message shows, and what follows it: `..` if the token is longer.
+/// Returns the part of `token` that a message shows, and `..` if the token is longer.
 fn shown(token: &str) -> (&str, &'static str) {
     match token.get(..SHOWN) {
         Some(front) if front.len() < token.len() => (front, ".."),

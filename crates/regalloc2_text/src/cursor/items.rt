@@ -10,9 +10,7 @@ use regalloc2_names::{
     Allocation, InstPosition, Operand, OperandConstraint, OperandKind, OperandPos, PReg, ProgPoint,
     RegClass, SpillSlot, VReg,
 };
-
-/// The numbers of instructions that have points are below this.
-const INST_LIMIT: usize = 1 << 30;
+use regalloc2_serialize::limits::INST_LIMIT;
 
 /// A register or a vreg: one word of a letter, a number and the class's letter.
 #[derive(Clone, Copy)]
@@ -46,7 +44,7 @@ const NO_VREG: Misnamed = Misnamed {
     too_great: "a virtual register with a number up to 1073741823",
 };
 
-/// The class of a letter, if it has one.
+/// Returns the class of `letter`, if it has one.
 fn class_of_letter(letter: Option<char>) -> Option<RegClass> {
     match letter? {
         'i' => Some(RegClass::Int),
@@ -56,7 +54,7 @@ fn class_of_letter(letter: Option<char>) -> Option<RegClass> {
     }
 }
 
-/// The class that `name` names, if any.
+/// Returns the class that `name` names, if any.
 pub fn class_named(name: &str) -> Option<RegClass> {
     match name {
         "int" => Some(RegClass::Int),
@@ -87,7 +85,7 @@ fn kind_named(name: &str) -> Option<(OperandKind, OperandPos)> {
     }
 }
 
-/// A word without the small letter at its end, and the letter, if there is one.
+/// Returns `word` without the small letter at its end, and the letter, if there is one.
 fn split_letter(word: &str) -> (&str, Option<char>) {
     let Some(last) = word.chars().next_back() else {
         return (word, None);
@@ -101,7 +99,7 @@ fn split_letter(word: &str) -> (&str, Option<char>) {
     }
 }
 
-/// Whether the text of an operand is `Fixed: ` and its register, so that it shows no vreg.
+/// Returns whether the text of `operand` is `Fixed: ` and its register. If so, it shows no vreg.
 fn is_fixed_alone(operand: Operand) -> bool {
     match operand.as_fixed_nonallocatable() {
         Some(register) => operand == Operand::fixed_nonallocatable(register),
@@ -127,7 +125,7 @@ fn name_in(word: &str, letter: char, max: usize, misnamed: &Misnamed) -> Result<
 }
 
 impl Cursor<'_, '_> {
-    /// The number in `bits(N)` up to `max`, where that is next; the bracket after it is not passed.
+    /// Returns the number in `bits(N)` up to `max`, if `bits(N)` is next. The closing bracket isn't consumed.
     fn bits(&mut self, max: u64) -> Option<u64>
         ensures left { tokens_left self.new ≤ tokens_left self.old }
         ensures up_to { IfSome result (λ n. n ≤ max) }
@@ -139,7 +137,7 @@ impl Cursor<'_, '_> {
         Some(self.number(max))
     }
 
-    /// The bracket after a number in `bits(N)`, which is not that of a name.
+    /// Consumes the closing bracket of `bits(N)`. A number of which `is_named` is true has a name, and doesn't fit.
     fn bits_end(&mut self, is_named: bool)
         ensures { tokens_left self.new ≤ tokens_left self.old }
     {

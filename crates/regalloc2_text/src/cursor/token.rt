@@ -30,12 +30,12 @@ pub struct Token<'t> {
     pub ghost from_one: { 1 ≤ column },
 }
 
-/// Whether a byte may stand in a word.
+/// Returns whether `byte` may stand in a word.
 fn is_word_byte(byte: u8) -> bool {
     byte.is_ascii_alphanumeric() || byte == b'_' || byte == b'@'
 }
 
-/// How many bytes at the front may stand in a word.
+/// Returns how many bytes at the front of `bytes` may stand in a word.
 fn word_len(bytes: &[u8]) -> usize
     ensures { result ≤ length bytes.now }
 {
@@ -47,7 +47,7 @@ fn word_len(bytes: &[u8]) -> usize
     bytes.len()
 }
 
-/// How many digits are at the front.
+/// Returns how many digits are at the front of `bytes`.
 fn digits_len(bytes: &[u8]) -> usize
     ensures { result ≤ length bytes.now }
 {
@@ -59,9 +59,17 @@ fn digits_len(bytes: &[u8]) -> usize
     bytes.len()
 }
 
-/// Whether all bytes are digits.
+/// Returns whether `bytes` are digits.
 pub(crate) fn are_digits(bytes: &[u8]) -> bool {
     digits_len(bytes) == bytes.len()
+}
+
+/// Returns whether `word` is made of `name` and digits.
+pub(crate) fn is_numbered(word: &str, name: &str) -> bool {
+    match word.strip_prefix(name) {
+        Some(digits) => !digits.is_empty() && are_digits(digits.as_bytes()),
+        None => false,
+    }
 }
 
 /// The number of bytes of the sign that begins with `first`, before the bytes `after`.
@@ -77,7 +85,7 @@ fn sign_len(first: u8, after: &[u8]) -> Option<usize>
     }
 }
 
-/// The kind of token that the bytes begin with, and its number of bytes.
+/// Returns the kind of the token at the front of `bytes`, and its number of bytes.
 fn measured(bytes: &[u8]) -> Option<(TokenKind, usize)>
     ensures { IfSome result (λ found. 1 ≤ found.1) }
 {
@@ -92,7 +100,7 @@ fn measured(bytes: &[u8]) -> Option<(TokenKind, usize)>
     }
 }
 
-/// The token or the blank at the front of a text, and the text after it.
+/// Returns the kind and the text of the token or the blank at the front of `text`, and the text after it.
 fn split_token(text: &str) -> Option<(TokenKind, &str, &str)>
     ensures { IfSome result (λ parts. length parts.2.now < length text.now) }
 {
@@ -101,8 +109,8 @@ fn split_token(text: &str) -> Option<(TokenKind, &str, &str)>
     Some((kind, front, after))
 }
 
-/// A line without its comment and the carriage return at its end.
-fn without_comment(line: &str) -> &str {
+/// Returns `line` without its comment and the carriage return at its end.
+pub(crate) fn without_comment(line: &str) -> &str {
     let line = line.strip_suffix('\r').unwrap_or(line);
     match line.split_once('#') {
         Some((front, _)) => front,
@@ -110,7 +118,7 @@ fn without_comment(line: &str) -> &str {
     }
 }
 
-/// What stands at the front of a text that is no token.
+/// Returns what is at the front of `text`, which is no token.
 fn unknown(text: &str) -> Found<'_> {
     match text.chars().next() {
         Some(character) => Found::Character(character),
@@ -118,7 +126,7 @@ fn unknown(text: &str) -> Found<'_> {
     }
 }
 
-/// The first line of a text, and what follows its line feed, where it has one.
+/// Returns the first line of `text`, and what follows its line feed, if it has one.
 pub fn split_line(text: &str) -> (&str, Option<&str>)
     ensures { IfSome result.1 (λ after. length after.now < length text.now) }
 {
@@ -128,7 +136,7 @@ pub fn split_line(text: &str) -> (&str, Option<&str>)
     }
 }
 
-/// Puts the tokens of a line into `tokens`, in place of what is there.
+/// Puts the tokens of `line` into `tokens`, in place of what is there.
 pub fn tokenize<'t, A: Allocator>(
     line: &'t str,
     tokens: &mut Vec<Token<'t>, A>,
@@ -136,7 +144,8 @@ pub fn tokenize<'t, A: Allocator>(
     tokenize_from(line, 1, tokens)
 }
 
-/// Puts the tokens of a line's part that begins at a column into `tokens`, in place of what is there.
+/// Puts the tokens of `part`, the part of a line from the column `first_column` on, into `tokens`, in place of what
+/// is there.
 pub fn tokenize_from<'t, A: Allocator>(
     part: &'t str,
     first_column: usize,

@@ -1,18 +1,19 @@
 //! Invalid blocks and edges.
 
 use crate::explain::cause::{Cause, Site};
-use crate::explain::stored::{arguments_of, block_of, list_of, operands_at, range_of, vreg_of};
+use crate::explain::stored::{arguments_of, block_of, operands_at, range_of};
+use crate::named::{list_at, vreg_of};
 use regalloc2_serialize::{InstOpcode, StoredFunction};
 
-/// How many edges enter a block: one from each predecessor, and for the entry one more from the
-/// function's start.
+/// Returns how many edges enter `block`: one from each predecessor, and for the entry one more from the function's
+/// start.
 fn ways_into(function: &StoredFunction, block: usize) -> usize {
-    let preds = list_of(function.block_preds.as_slice(), block).len();
+    let preds = list_at(function.block_preds.as_slice(), block).len();
     let starts = usize::from(block == function.entry_block as usize);
     preds.saturating_add(starts)
 }
 
-/// The site of a block's last instruction, or of its line if it has none.
+/// Returns the site of the last instruction of `block`, or of the block's line if it has none.
 pub(crate) fn end_of(function: &StoredFunction, block: usize) -> Site {
     let (first, end) = range_of(function, block);
     if first < end {
@@ -22,18 +23,18 @@ pub(crate) fn end_of(function: &StoredFunction, block: usize) -> Site {
     }
 }
 
-/// The cause of `CritEdge`.
+/// Returns the cause of `CritEdge` for the edge from block `from` to block `to`.
 pub(crate) fn crit_edge_cause(function: &StoredFunction, from: usize, to: usize) -> (Cause, Site) {
     let cause = Cause::CriticalEdge {
         from,
         to,
-        succs: list_of(function.block_succs.as_slice(), from).len(),
+        succs: list_at(function.block_succs.as_slice(), from).len(),
         ways: ways_into(function, to),
     };
     (cause, end_of(function, from))
 }
 
-/// The cause if a block's instructions don't follow the last instruction of the block before.
+/// Returns the cause if the instructions of `block` don't follow the last instruction of the block before.
 fn range_cause(function: &StoredFunction, block: usize) -> Option<Cause> {
     let (first, end) = range_of(function, block);
     if first >= end {
@@ -58,20 +59,16 @@ fn range_cause(function: &StoredFunction, block: usize) -> Option<Cause> {
     None
 }
 
-/// How often `block` is in `list`.
+/// Returns how often `block` is in `list`.
 fn count_in(list: &[u32], block: usize) -> usize {
-    let mut count = 0usize;
-    for listed in list {
-        if *listed as usize == block {
-            count = count.saturating_add(1);
-        }
-    }
-    count
+    list.iter()
+        .filter(|listed| **listed as usize == block)
+        .count()
 }
 
 /// How many edges lead from block `from` to block `to`.
 fn edges_between(function: &StoredFunction, from: usize, to: usize) -> usize {
-    count_in(list_of(function.block_succs.as_slice(), from), to)
+    count_in(list_at(function.block_succs.as_slice(), from), to)
 }
 
 /// How many edges lead to `block`.
@@ -94,9 +91,9 @@ fn each_has_edges(function: &StoredFunction, preds: &[u32], block: usize) -> boo
     true
 }
 
-/// The cause if a block's predecessors aren't the blocks with an edge to it.
+/// Returns the cause if the predecessors of `block` aren't the blocks with an edge to it.
 fn preds_cause(function: &StoredFunction, block: usize) -> Option<Cause> {
-    let preds = list_of(function.block_preds.as_slice(), block);
+    let preds = list_at(function.block_preds.as_slice(), block);
     let listed = preds.len();
     let leading = edges_into(function, block);
     if listed == leading && each_has_edges(function, preds, block) {
@@ -109,7 +106,7 @@ fn preds_cause(function: &StoredFunction, block: usize) -> Option<Cause> {
     })
 }
 
-/// The first instruction before a block's last that branches or returns.
+/// Returns the first instruction from `first` until `last` that branches or returns.
 fn ends_within(function: &StoredFunction, first: usize, last: usize) -> Option<usize> {
     for inst in first..last {
         if let Some(data) = function.insts.get(inst) {
@@ -121,11 +118,11 @@ fn ends_within(function: &StoredFunction, first: usize, last: usize) -> Option<u
     None
 }
 
-/// The cause if a block doesn't end with a valid last instruction, and the site.
+/// Returns the cause if `block` doesn't end with a valid last instruction, and the site.
 fn end_cause(function: &StoredFunction, block: usize) -> Option<(Cause, Site)> {
     let (first, end) = range_of(function, block);
     let last = end.checked_sub(1)?;
-    let succs = list_of(function.block_succs.as_slice(), block).len();
+    let succs = list_at(function.block_succs.as_slice(), block).len();
     let op = function.insts.get(last)?.op;
     if op == InstOpcode::Op {
         return Some((Cause::OpenEnd { block, inst: last }, Site::Inst(last)));
@@ -137,7 +134,7 @@ fn end_cause(function: &StoredFunction, block: usize) -> Option<(Cause, Site)> {
     Some((Cause::EndsWithin { block, inst }, Site::Inst(inst)))
 }
 
-/// The cause of `BB`.
+/// Returns the cause of `BB` for `block`.
 pub(crate) fn block_cause(function: &StoredFunction, block: usize) -> (Cause, Site) {
     if let Some(cause) = range_cause(function, block) {
         return (cause, Site::Block(block));
@@ -152,7 +149,7 @@ pub(crate) fn block_cause(function: &StoredFunction, block: usize) -> (Cause, Si
     end_cause(function, block).unwrap_or((Cause::Other, Site::Block(block)))
 }
 
-/// The cause if arguments don't fit the parameters of a successor.
+/// Returns the cause if `arguments` don't fit the parameters `params` of the successor `succ`.
 fn passed_cause(succ: usize, arguments: &[u32], params: &[u32]) -> Option<Cause> {
     if arguments.len() != params.len() {
         return Some(Cause::ArgumentCount {
@@ -175,16 +172,16 @@ fn passed_cause(succ: usize, arguments: &[u32], params: &[u32]) -> Option<Cause>
     None
 }
 
-/// The cause of `Branch`: the arguments of the block that ends with the instruction `inst`.
+/// Returns the cause of `Branch`: the arguments of the block that ends with `inst`.
 pub(crate) fn branch_cause(function: &StoredFunction, inst: usize) -> (Cause, Site) {
     let site = Site::Inst(inst);
     let Some(block) = block_of(function, inst) else {
         return (Cause::Other, site);
     };
-    let succs = list_of(function.block_succs.as_slice(), block);
+    let succs = list_at(function.block_succs.as_slice(), block);
     for (position, succ) in succs.iter().enumerate() {
         let succ = *succ as usize;
-        let params = list_of(function.block_params_in.as_slice(), succ);
+        let params = list_at(function.block_params_in.as_slice(), succ);
         if let Some(cause) = passed_cause(succ, arguments_of(function, block, position), params) {
             return (cause, site);
         }
@@ -192,13 +189,13 @@ pub(crate) fn branch_cause(function: &StoredFunction, inst: usize) -> (Cause, Si
     (Cause::Other, site)
 }
 
-/// The cause of `DisallowedBranchArg`.
+/// Returns the cause of `DisallowedBranchArg` for the branch `inst`.
 pub(crate) fn disallowed_branch_arg_cause(function: &StoredFunction, inst: usize) -> (Cause, Site) {
     let site = Site::Inst(inst);
     let Some(block) = block_of(function, inst) else {
         return (Cause::Other, site);
     };
-    for succ in list_of(function.block_succs.as_slice(), block) {
+    for succ in list_at(function.block_succs.as_slice(), block) {
         let succ = *succ as usize;
         let ways = ways_into(function, succ);
         if ways > 1 {
@@ -214,9 +211,9 @@ pub(crate) fn disallowed_branch_arg_cause(function: &StoredFunction, inst: usize
     (Cause::Other, site)
 }
 
-/// The cause of `EntryLivein`.
+/// Returns the cause of `EntryLivein` for `function`.
 pub(crate) fn entry_livein_cause(function: &StoredFunction) -> (Cause, Site) {
     let entry = function.entry_block as usize;
-    let count = list_of(function.block_params_in.as_slice(), entry).len();
+    let count = list_at(function.block_params_in.as_slice(), entry).len();
     (Cause::EntryParams { count }, Site::Block(entry))
 }

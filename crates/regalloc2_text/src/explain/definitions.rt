@@ -1,7 +1,8 @@
 //! Invalid definitions and uses.
 
 use crate::explain::cause::{Cause, Site};
-use crate::explain::stored::{list_of, operand_of, operands_at, range_of, vreg_of};
+use crate::explain::stored::{operands_at, range_of};
+use crate::named::{list_at, operand_of, vreg_of};
 use regalloc2_index::Inst;
 use regalloc2_names::VReg;
 use regalloc2_serialize::StoredFunction;
@@ -14,7 +15,7 @@ struct Definitions {
 }
 
 impl Definitions {
-    /// Records a definition.
+    /// Records a definition of `vreg` at `site`.
     fn note(&mut self, site: Site, vreg: VReg) {
         if self.first.is_none() {
             self.first = Some((site, vreg));
@@ -25,7 +26,7 @@ impl Definitions {
 
     /// Records the parameters of a block that have the vreg number `number`.
     fn note_params(&mut self, function: &StoredFunction, block: usize, number: usize) {
-        for bits in list_of(function.block_params_in.as_slice(), block) {
+        for bits in list_at(function.block_params_in.as_slice(), block) {
             if let Some(vreg) = vreg_of(*bits) {
                 if vreg.vreg() == number {
                     self.note(Site::Block(block), vreg);
@@ -55,7 +56,7 @@ impl Definitions {
     }
 }
 
-/// The first two definitions of a number.
+/// Returns the first two definitions of the vreg number `number`.
 fn definitions_of(function: &StoredFunction, number: usize) -> Definitions {
     let mut definitions = Definitions {
         first: None,
@@ -67,7 +68,7 @@ fn definitions_of(function: &StoredFunction, number: usize) -> Definitions {
     definitions
 }
 
-/// Returns whether the operand of an encoding reads a vreg.
+/// Returns whether `bits` encode an operand that reads `vreg`.
 fn reads(bits: u64, vreg: VReg) -> bool {
     match operand_of(bits) {
         Some(operand) => operand.is_reading() && operand.vreg() == vreg,
@@ -75,7 +76,7 @@ fn reads(bits: u64, vreg: VReg) -> bool {
     }
 }
 
-/// The operand of an instruction that reads a vreg, or the instruction.
+/// Returns the operand of `inst` that reads `vreg`, or the instruction.
 fn read_site(function: &StoredFunction, vreg: VReg, inst: Inst) -> Site {
     let number = inst.index();
     for (k, bits) in operands_at(function, number).iter().enumerate() {
@@ -86,7 +87,8 @@ fn read_site(function: &StoredFunction, vreg: VReg, inst: Inst) -> Site {
     Site::Inst(number)
 }
 
-/// The cause of `SSA`, the site, and another definition or the only definition, if there is any.
+/// Returns the cause of `SSA` for `vreg` at `inst`, the site, and another definition or the only definition, if there
+/// is any.
 pub(crate) fn ssa_cause(
     function: &StoredFunction,
     vreg: VReg,

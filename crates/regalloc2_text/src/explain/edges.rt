@@ -1,6 +1,6 @@
 //! The edges on paths from the entry.
 
-use crate::explain::stored::list_of;
+use crate::named::list_at;
 use regalloc2_serialize::StoredFunction;
 use std::alloc::{AllocError, Global};
 use std::fmt;
@@ -17,7 +17,7 @@ struct Reached {
 }
 
 impl Reached {
-    /// Adds a block, unless it is there.
+    /// Adds `block`, unless it is reached already.
     fn add(&mut self, block: u32) -> Result<(), AllocError> {
         if let Some(is_reached) = self.is_reached.get_mut(block as usize) {
             if !*is_reached {
@@ -28,7 +28,7 @@ impl Reached {
         Ok(())
     }
 
-    /// Follows the edges from a block to its successors.
+    /// Follows the edges from `block` to its successors, `succs`.
     fn follow(&mut self, block: u32, succs: &[u32]) -> Result<(), AllocError> {
         for succ in succs {
             if let Some(preds) = self.preds.get_mut(*succ as usize) {
@@ -39,20 +39,21 @@ impl Reached {
         Ok(())
     }
 
-    /// Follows the edges of the reached blocks.
+    /// Follows the edges of the reached blocks of `function`.
     fn run(&mut self, function: &StoredFunction) -> Result<(), AllocError> {
-        for index in 0..usize::MAX {
-            let Some(block) = self.order.get(index).copied() else {
-                break;
-            };
-            let succs = list_of(function.block_succs.as_slice(), block as usize);
+        let mut index = 0;
+        while index < self.order.len() {
+            let block = self.order[index];
+            let succs = list_at(function.block_succs.as_slice(), block as usize);
             self.follow(block, succs)?;
+            index += 1;
         }
         Ok(())
     }
 }
 
-/// The predecessors of each block on paths from the entry, once for each edge. Linear in the edges.
+/// Returns the predecessors of each block of `function` on paths from the entry, once for each edge. Linear in the
+/// edges.
 pub(crate) fn edges_into(
     alloc: Global,
     function: &StoredFunction,

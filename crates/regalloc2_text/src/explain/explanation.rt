@@ -6,8 +6,9 @@ use crate::explain::pressure::{
     spare,
 };
 use crate::explain::source::Source;
-use crate::explain::stored::{ClassName, operand_of, operands_at};
+use crate::explain::stored::{ClassName, operands_at};
 use crate::explain::{blocks, definitions, operands};
+use crate::named::operand_of;
 use regalloc2_function::MachineMisfit;
 use regalloc2_names::{PReg, RegAllocError, RegClass, VRegText};
 use regalloc2_serialize::StoredFunction;
@@ -26,7 +27,7 @@ pub struct Explanation {
 }
 
 impl Explanation {
-    /// An explanation of a cause at a site.
+    /// An explanation of a cause at a site, which are `found`.
     fn of(found: (Cause, Site)) -> Explanation {
         let (cause, site) = found;
         Explanation {
@@ -37,9 +38,10 @@ impl Explanation {
     }
 }
 
-/// Why the allocator rejects a function with that error: it searches for what the error names.
-/// Linear in the function, except for a block with wrong predecessors: each of them is counted
-/// among the block's.
+/// Returns why the allocator rejects `function` with `error`.
+///
+/// Searches for what the error names. Linear in the function, except for a block with wrong predecessors: each of
+/// them is counted among the block's predecessors.
 pub fn explain(function: &StoredFunction, error: &RegAllocError) -> Explanation {
     let found = match error {
         RegAllocError::SSA(vreg, inst) => {
@@ -74,7 +76,7 @@ pub fn explain(function: &StoredFunction, error: &RegAllocError) -> Explanation 
     Explanation::of(found)
 }
 
-/// The first operand of the class that a machine has no register for, if that is why the machine doesn't fit.
+/// Returns the first operand of a class without registers, if `misfit` says that a class has none.
 pub fn misfit_at(function: &StoredFunction, misfit: MachineMisfit) -> Option<Site> {
     let MachineMisfit::NoRegister(class) = misfit else {
         return None;
@@ -133,13 +135,7 @@ impl fmt::Display for Named<'_> {
     }
 }
 
-/// Writes a line with a value behind words.
-fn write_line<T: fmt::Display, W: Write>(words: &str, value: &T, to: &mut W) -> io::Result<()> {
-    writeln!(to, "  {words}{value}")
-}
-
-/// Writes the operands and clobbers for which an instruction needs registers of a class, a line for
-/// each kind.
+/// Writes the operands and clobbers for which `inst` needs registers of `class`, a line for each kind.
 fn write_needs<W: Write>(
     function: &StoredFunction,
     inst: usize,
@@ -147,9 +143,8 @@ fn write_needs<W: Write>(
     to: &mut W,
 ) -> io::Result<()> {
     let operands = operands_at(function, inst);
-    let in_any = InAny { operands, class };
     if count_in_any(operands, class) > 0 {
-        write_line("in any register: ", &in_any, to)?;
+        writeln!(to, "  in any register: {}", InAny { operands, class })?;
     }
     let named = Named {
         function,
@@ -157,16 +152,16 @@ fn write_needs<W: Write>(
         class,
     };
     if count_named(function, inst, class) > 0 {
-        write_line("fixed or clobbered: ", &named, to)?;
+        writeln!(to, "  fixed or clobbered: {named}")?;
     }
-    if spare(function, class) == 0 {
-        return Ok(());
+    if spare(function, class) > 0 {
+        let class = ClassName(class);
+        writeln!(
+            to,
+            "  one register is kept for moves between stack places of the class {class}"
+        )?;
     }
-    write_line(
-        "one register is kept for moves between stack places of the class ",
-        &ClassName(class),
-        to,
-    )
+    Ok(())
 }
 
 impl Explanation {
@@ -182,15 +177,13 @@ impl Explanation {
         let cause = self.cause;
         writeln!(to, "{before}{cause}")?;
         if let Some(line) = source.find(self.site) {
-            write_line("", &line, to)?;
+            writeln!(to, "  {line}")?;
         }
         if let Cause::Registers { inst, class, .. } = cause {
             write_needs(function, inst, class, to)?;
         }
-        if let Some(site) = self.against {
-            if let Some(line) = source.find(site) {
-                return write_line("defined: ", &line, to);
-            }
+        if let Some(line) = self.against.and_then(|site| source.find(site)) {
+            writeln!(to, "  defined: {line}")?;
         }
         Ok(())
     }

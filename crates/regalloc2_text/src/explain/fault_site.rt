@@ -3,22 +3,21 @@
 use crate::explain::blocks::end_of;
 use crate::explain::cause::Site;
 use crate::explain::faults::StoredCause;
-use crate::explain::stored::list_of;
+use crate::named::list_at;
 use regalloc2_function::StoredOutput;
 use regalloc2_serialize::StoredFunction;
 
-/// The block's own line if its list among these has the number, else the line of the block's last
-/// instruction, which has successors and arguments.
+/// Returns the own line of `block` if its list among `lists` has `number`, else the line of its last instruction,
+/// which has the block's successors and arguments.
 fn number_site(function: &StoredFunction, lists: &[Vec<u32>], block: usize, number: u32) -> Site {
-    if list_of(lists, block).contains(&number) {
+    if list_at(lists, block).contains(&number) {
         Site::Block(block)
     } else {
         end_of(function, block)
     }
 }
 
-/// The operand that a place of an output belongs to: that of the last instruction whose places
-/// begin no later.
+/// Returns the operand whose place is at `index`: an operand of the last instruction whose places begin no later.
 fn place_site(output: &StoredOutput, index: usize) -> Site {
     let mut site = Site::Function;
     for (inst, start) in output.inst_alloc_offsets.iter().enumerate() {
@@ -30,8 +29,8 @@ fn place_site(output: &StoredOutput, index: usize) -> Site {
 }
 
 impl StoredCause {
-    /// The block, instruction or operand of a function that the cause is about, or the function.
-    /// Linear in a block's numbers.
+    /// Returns the block, instruction or operand of `function` that the cause is about, or the function. Linear in
+    /// the numbers of a block.
     pub fn site(&self, function: &StoredFunction) -> Site {
         match *self {
             Self::Neighbour { block, named, .. } => {
@@ -47,8 +46,7 @@ impl StoredCause {
         }
     }
 
-    /// The operand or move that the cause in an output is about, or the function. Linear in the
-    /// instructions.
+    /// Returns the operand or move of `output` that the cause is about, or the function. Linear in the instructions.
     pub fn output_site(&self, output: &StoredOutput) -> Site {
         match *self {
             Self::Place { index, .. } => place_site(output, index),

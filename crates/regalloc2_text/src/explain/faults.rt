@@ -3,25 +3,15 @@
 ghost use Rattle.std.specs.Prelude.{Some};
 ghost use Rattle.std.specs.Fmt.{WritesOnOk};
 ghost use Rattle.regalloc2_text.specs.Explain.FaultGroup.{IsIndexCause, IsLengthCause, IsLimitCause, IsOutputCause, IsWordCause};
-ghost use Rattle.regalloc2_text.specs.Explain.FaultText.{cause_text};
+ghost use Rattle.regalloc2_text.specs.Explain.FaultText.{stored_cause_text};
 
-use crate::explain::stored::{ClassName, Counted, class_of_number};
+use crate::explain::stored::{ClassName, Counted};
+use crate::named::{CLASSES, register_of};
 use regalloc2_function::{StoredFault, StoredOutput};
-use regalloc2_names::{Allocation, Operand, PReg, ProgPoint, SpillSlot, VReg};
-use regalloc2_serialize::{StoredFunction, StoredInst, StoredMachine};
+use regalloc2_names::{Allocation, Operand, PReg, ProgPoint, RegClass, VReg};
+use regalloc2_serialize::limits::{BLOCK_LIMIT, INST_LIMIT, LARGEST_SLOT, VREG_LIMIT};
+use regalloc2_serialize::{StoredFunction, StoredInst, StoredMachine, vreg_number};
 use std::fmt;
-
-/// The number of instructions is below this limit.
-const INST_LIMIT: u64 = 1 << 30;
-
-/// The number of blocks is below this limit.
-const BLOCK_LIMIT: u64 = 0xffff_ffff;
-
-/// The numbers of vregs are below this.
-const VREG_LIMIT: u64 = VReg::MAX as u64 + 1;
-
-/// The greatest number of units of a slot.
-const LARGEST_SLOT: u64 = SpillSlot::MAX as u64 + 1;
 
 /// What is wrong with stored numbers: each variant is one of the several causes of an error.
 #[derive(Clone, Copy)]
@@ -103,7 +93,7 @@ pub enum StoredCause {
     },
     /// The size of a class's slots isn't a power of two up to 2^24.
     SlotSize {
-        class: usize,
+        class: RegClass,
         size: u64,
     },
     /// The encoding of a move's point or place is invalid.
@@ -127,7 +117,7 @@ impl StoredCause {
     /// Writes what is wrong with the length of a list.
     fn write_length<W: fmt::Write>(&self, f: &mut fmt::Formatter<W>) -> fmt::Result
         requires { IsLengthCause self.now }
-        ensures { WritesOnOk W.write_str_gives f.old result (cause_text self.now) f.new }
+        ensures { WritesOnOk W.write_str_gives f.old result (stored_cause_text self.now) f.new }
     {
         match *self {
             Self::BlockList {
@@ -157,28 +147,24 @@ impl StoredCause {
     /// Writes what is wrong with a number that is out of range.
     fn write_index<W: fmt::Write>(&self, f: &mut fmt::Formatter<W>) -> fmt::Result
         requires { IsIndexCause self.now }
-        ensures { WritesOnOk W.write_str_gives f.old result (cause_text self.now) f.new }
+        ensures { WritesOnOk W.write_str_gives f.old result (stored_cause_text self.now) f.new }
     {
         match *self {
-            Self::Entry { entry, blocks } => {
-                let blocks = Counted(blocks, "block");
-                write!(
-                    f,
-                    "the entry is block{entry}, and the function has {blocks}"
-                )
-            }
+            Self::Entry { entry, blocks } => write!(
+                f,
+                "the entry is block{entry}, and the function has {}",
+                Counted(blocks, "block")
+            ),
             Self::Neighbour {
                 block,
                 role,
                 named,
                 blocks,
-            } => {
-                let blocks = Counted(blocks, "block");
-                write!(
-                    f,
-                    "block{block} lists block{named} as a {role}, and the function has {blocks}"
-                )
-            }
+            } => write!(
+                f,
+                "block{block} lists block{named} as a {role}, and the function has {}",
+                Counted(blocks, "block")
+            ),
             Self::Range {
                 block,
                 first,
@@ -203,7 +189,7 @@ impl StoredCause {
     /// Writes which encoding or index names nothing.
     fn write_word<W: fmt::Write>(&self, f: &mut fmt::Formatter<W>) -> fmt::Result
         requires { IsWordCause self.now }
-        ensures { WritesOnOk W.write_str_gives f.old result (cause_text self.now) f.new }
+        ensures { WritesOnOk W.write_str_gives f.old result (stored_cause_text self.now) f.new }
     {
         match *self {
             Self::Register { list, index } => {
@@ -240,14 +226,14 @@ impl StoredCause {
     /// Writes which limit is exceeded.
     fn write_limit<W: fmt::Write>(&self, f: &mut fmt::Formatter<W>) -> fmt::Result
         requires { IsLimitCause self.now }
-        ensures { WritesOnOk W.write_str_gives f.old result (cause_text self.now) f.new }
+        ensures { WritesOnOk W.write_str_gives f.old result (stored_cause_text self.now) f.new }
     {
         match *self {
             Self::TooMany { count, what, limit } => {
                 write!(f, "there are {count} {what}, and the limit is {limit}")
             }
             Self::SlotSize { class, size } => {
-                let class = ClassName(class_of_number(class));
+                let class = ClassName(class);
                 write!(
                     f,
                     "a slot of the class {class} takes {size} units, which is no power of two from 1 to 2^24"
@@ -260,7 +246,7 @@ impl StoredCause {
     /// Writes what is wrong with an output.
     fn write_output<W: fmt::Write>(&self, f: &mut fmt::Formatter<W>) -> fmt::Result
         requires { IsOutputCause self.now }
-        ensures { WritesOnOk W.write_str_gives f.old result (cause_text self.now) f.new }
+        ensures { WritesOnOk W.write_str_gives f.old result (stored_cause_text self.now) f.new }
     {
         match *self {
             Self::Move { index } => {
@@ -288,7 +274,7 @@ impl StoredCause {
 
 /// As `block1 lists block7 as a successor, and the function has 3 blocks`.
 impl fmt::Display for StoredCause {
-    ghost output = { λ c. Some (cause_text c) };
+    ghost output = { λ c. Some (stored_cause_text c) };
 
     fn fmt<W: fmt::Write>(&self, f: &mut fmt::Formatter<W>) -> fmt::Result {
         match *self {
@@ -310,7 +296,7 @@ impl fmt::Display for StoredCause {
     }
 }
 
-/// The first block that has another number of lists of arguments than successors.
+/// Returns the cause if a block of `function` has another number of lists of arguments than successors.
 fn argument_lists_cause(function: &StoredFunction) -> Option<StoredCause> {
     let (arguments, succs) = (&function.block_params_out, &function.block_succs);
     for block in 0..arguments.len().min(succs.len()) {
@@ -326,7 +312,7 @@ fn argument_lists_cause(function: &StoredFunction) -> Option<StoredCause> {
     None
 }
 
-/// The first list that has another length than it should have.
+/// Returns the cause if a list of `function` has a wrong length.
 fn lengths_cause(function: &StoredFunction) -> Option<StoredCause> {
     let blocks = function.blocks.len();
     let lists = [
@@ -344,14 +330,10 @@ fn lengths_cause(function: &StoredFunction) -> Option<StoredCause> {
             });
         }
     }
-    let arguments = argument_lists_cause(function);
-    if arguments.is_some() {
-        return arguments;
-    }
-    class_lists_cause(function)
+    argument_lists_cause(function).or_else(|| class_lists_cause(function))
 }
 
-/// The first list by class that has another length than 3.
+/// Returns the cause if a list by class of `function` doesn't have an item for each class.
 fn class_lists_cause(function: &StoredFunction) -> Option<StoredCause> {
     let machine = &function.machine_env;
     let lists = [
@@ -374,17 +356,13 @@ fn class_lists_cause(function: &StoredFunction) -> Option<StoredCause> {
     None
 }
 
-/// The first number in a list that isn't a block's.
+/// Returns the first number in `list` that is no number of one of `blocks` blocks.
 fn first_past(list: &[u32], blocks: usize) -> Option<u32> {
-    for named in list {
-        if *named as usize >= blocks {
-            return Some(*named);
-        }
-    }
-    None
+    list.iter().copied().find(|named| *named as usize >= blocks)
 }
 
-/// The first number in lists by block that isn't a block's.
+/// Returns the cause if one of `lists`, the blocks' neighbours in the role `role`, has a number that is no number of
+/// one of `blocks` blocks.
 fn neighbours_cause(lists: &[Vec<u32>], role: &'static str, blocks: usize) -> Option<StoredCause> {
     for (block, list) in lists.iter().enumerate() {
         if let Some(named) = first_past(list.as_slice(), blocks) {
@@ -399,7 +377,7 @@ fn neighbours_cause(lists: &[Vec<u32>], role: &'static str, blocks: usize) -> Op
     None
 }
 
-/// The first range that is descending, or ends past the instructions, of which there are this many.
+/// Returns the cause if one of `ranges` is descending, or ends past the first `insts` instructions.
 fn ranges_cause(ranges: &[(u32, u32)], insts: usize) -> Option<StoredCause> {
     for (block, (first, end)) in ranges.iter().enumerate() {
         if first > end || *end as usize > insts {
@@ -414,10 +392,10 @@ fn ranges_cause(ranges: &[(u32, u32)], insts: usize) -> Option<StoredCause> {
     None
 }
 
-/// The first label of a vreg whose number isn't below a count.
+/// Returns the cause if one of `labels` is of a vreg whose number isn't below `count`.
 fn label_counts_cause(labels: &[(u32, u32, u32, u32)], count: u64) -> Option<StoredCause> {
     for (label, (word, _, _, _)) in labels.iter().enumerate() {
-        let number = *word >> 2;
+        let number = vreg_number(*word);
         if u64::from(number) >= count {
             return Some(StoredCause::LabelPastCount {
                 label,
@@ -429,45 +407,36 @@ fn label_counts_cause(labels: &[(u32, u32, u32, u32)], count: u64) -> Option<Sto
     None
 }
 
-/// The first number of a block, an instruction or a labelled vreg that is out of range.
+/// Returns the cause if the number of a block, an instruction or a labelled vreg of `function` is out of range.
 fn index_cause(function: &StoredFunction) -> Option<StoredCause> {
     let (blocks, insts) = (function.blocks.len(), function.insts.len());
     let entry = function.entry_block;
     if entry as usize >= blocks {
         return Some(StoredCause::Entry { entry, blocks });
     }
-    let preds = neighbours_cause(function.block_preds.as_slice(), "predecessor", blocks);
-    if preds.is_some() {
-        return preds;
-    }
-    let succs = neighbours_cause(function.block_succs.as_slice(), "successor", blocks);
-    if succs.is_some() {
-        return succs;
-    }
-    let ranges = ranges_cause(function.blocks.as_slice(), insts);
-    if ranges.is_some() {
-        return ranges;
-    }
-    label_counts_cause(function.debug_value_labels.as_slice(), function.num_vregs)
+    neighbours_cause(function.block_preds.as_slice(), "predecessor", blocks)
+        .or_else(|| neighbours_cause(function.block_succs.as_slice(), "successor", blocks))
+        .or_else(|| ranges_cause(function.blocks.as_slice(), insts))
+        .or_else(|| {
+            label_counts_cause(function.debug_value_labels.as_slice(), function.num_vregs)
+        })
 }
 
-/// The first index that isn't a register's.
+/// Returns the first of `indexes` that is no index of a register.
 fn first_unnamed(indexes: &[u8]) -> Option<u8> {
-    for index in indexes {
-        if !PReg::is_index(usize::from(*index)) {
-            return Some(*index);
-        }
-    }
-    None
+    indexes
+        .iter()
+        .copied()
+        .find(|index| register_of(*index).is_none())
 }
 
-/// The first index in a list that isn't a register's.
+/// Returns the cause if one of `indexes`, the list with the name `list`, is no index of a register.
 fn register_cause(list: &'static str, indexes: &[u8]) -> Option<StoredCause> {
     let index = first_unnamed(indexes)?;
     Some(StoredCause::Register { list, index })
 }
 
-/// The first index in lists that isn't a register's.
+/// Returns the cause if one of `lists`, which have the name `list`, has an item that is no index of a register.
 fn register_lists_cause(list: &'static str, lists: &[Vec<u8>]) -> Option<StoredCause> {
     for indexes in lists {
         if let Some(index) = first_unnamed(indexes.as_slice()) {
@@ -477,35 +446,29 @@ fn register_lists_cause(list: &'static str, lists: &[Vec<u8>]) -> Option<StoredC
     None
 }
 
-/// The first index of a scratch register that isn't a register's.
+/// Returns the cause if one of `indexes`, the scratch registers by class, is no index of a register.
 fn scratch_cause(indexes: &[Option<u8>]) -> Option<StoredCause> {
     let list = "scratch_by_class";
     for index in indexes {
         let Some(index) = *index else { continue };
-        if !PReg::is_index(usize::from(index)) {
+        if register_of(index).is_none() {
             return Some(StoredCause::Register { list, index });
         }
     }
     None
 }
 
-/// The first index of a machine that isn't a register's.
+/// Returns the cause if a number of `machine` is no index of a register.
 fn machine_cause(machine: &StoredMachine) -> Option<StoredCause> {
     let preferred = machine.preferred_regs_by_class.as_slice();
-    if let Some(cause) = register_lists_cause("preferred_regs_by_class", preferred) {
-        return Some(cause);
-    }
     let others = machine.non_preferred_regs_by_class.as_slice();
-    if let Some(cause) = register_lists_cause("non_preferred_regs_by_class", others) {
-        return Some(cause);
-    }
-    if let Some(cause) = scratch_cause(machine.scratch_by_class.as_slice()) {
-        return Some(cause);
-    }
-    register_cause("fixed_stack_slots", machine.fixed_stack_slots.as_slice())
+    register_lists_cause("preferred_regs_by_class", preferred)
+        .or_else(|| register_lists_cause("non_preferred_regs_by_class", others))
+        .or_else(|| scratch_cause(machine.scratch_by_class.as_slice()))
+        .or_else(|| register_cause("fixed_stack_slots", machine.fixed_stack_slots.as_slice()))
 }
 
-/// The first encoding or index of one instruction that names nothing.
+/// Returns the cause if an encoding or an index in `data`, instruction `inst`, names nothing.
 fn inst_cause(inst: usize, data: &StoredInst) -> Option<StoredCause> {
     for (operand, word) in data.operands.iter().enumerate() {
         if !Operand::is_bits(*word) {
@@ -520,7 +483,7 @@ fn inst_cause(inst: usize, data: &StoredInst) -> Option<StoredCause> {
     Some(StoredCause::Clobber { inst, index })
 }
 
-/// The first encoding of a block's parameters or arguments that isn't a vreg's.
+/// Returns the cause if one of `words`, which `block` has as `role`, encodes no vreg.
 fn vregs_cause(block: usize, role: &'static str, words: &[u32]) -> Option<StoredCause> {
     for word in words {
         if !VReg::is_bits(*word) {
@@ -534,7 +497,7 @@ fn vregs_cause(block: usize, role: &'static str, words: &[u32]) -> Option<Stored
     None
 }
 
-/// The first encoding or index of an instruction that names nothing.
+/// Returns the cause if an encoding or an index of one of `insts` names nothing.
 fn insts_cause(insts: &[StoredInst]) -> Option<StoredCause> {
     for (inst, data) in insts.iter().enumerate() {
         if let Some(cause) = inst_cause(inst, data) {
@@ -544,7 +507,7 @@ fn insts_cause(insts: &[StoredInst]) -> Option<StoredCause> {
     None
 }
 
-/// The first encoding of a parameter that isn't a vreg's.
+/// Returns the cause if a parameter among `lists`, a list for each block, encodes no vreg.
 fn params_cause(lists: &[Vec<u32>]) -> Option<StoredCause> {
     for (block, words) in lists.iter().enumerate() {
         if let Some(cause) = vregs_cause(block, "a parameter", words.as_slice()) {
@@ -554,7 +517,7 @@ fn params_cause(lists: &[Vec<u32>]) -> Option<StoredCause> {
     None
 }
 
-/// The first encoding of a block's arguments that isn't a vreg's.
+/// Returns the cause if an argument that `block` passes, among `passed`, encodes no vreg.
 fn block_arguments_cause(block: usize, passed: &[Vec<u32>]) -> Option<StoredCause> {
     for words in passed {
         if let Some(cause) = vregs_cause(block, "an argument", words.as_slice()) {
@@ -564,7 +527,7 @@ fn block_arguments_cause(block: usize, passed: &[Vec<u32>]) -> Option<StoredCaus
     None
 }
 
-/// The first encoding of an argument that isn't a vreg's.
+/// Returns the cause if an argument among `lists`, the lists of each block, encodes no vreg.
 fn arguments_cause(lists: &[Vec<Vec<u32>>]) -> Option<StoredCause> {
     for (block, passed) in lists.iter().enumerate() {
         if let Some(cause) = block_arguments_cause(block, passed.as_slice()) {
@@ -574,7 +537,7 @@ fn arguments_cause(lists: &[Vec<Vec<u32>>]) -> Option<StoredCause> {
     None
 }
 
-/// The first label whose encoding isn't a vreg's.
+/// Returns the cause if the word of one of `labels` encodes no vreg.
 fn label_words_cause(labels: &[(u32, u32, u32, u32)]) -> Option<StoredCause> {
     for (label, (word, _, _, _)) in labels.iter().enumerate() {
         if !VReg::is_bits(*word) {
@@ -584,55 +547,46 @@ fn label_words_cause(labels: &[(u32, u32, u32, u32)]) -> Option<StoredCause> {
     None
 }
 
-/// The first encoding that names nothing.
+/// Returns the cause if an encoding of `function` names nothing.
 fn bits_cause(function: &StoredFunction) -> Option<StoredCause> {
-    let machine = machine_cause(&function.machine_env);
-    if machine.is_some() {
-        return machine;
-    }
-    let insts = insts_cause(function.insts.as_slice());
-    if insts.is_some() {
-        return insts;
-    }
-    let params = params_cause(function.block_params_in.as_slice());
-    if params.is_some() {
-        return params;
-    }
-    let passed = arguments_cause(function.block_params_out.as_slice());
-    if passed.is_some() {
-        return passed;
-    }
-    label_words_cause(function.debug_value_labels.as_slice())
+    machine_cause(&function.machine_env)
+        .or_else(|| insts_cause(function.insts.as_slice()))
+        .or_else(|| params_cause(function.block_params_in.as_slice()))
+        .or_else(|| arguments_cause(function.block_params_out.as_slice()))
+        .or_else(|| label_words_cause(function.debug_value_labels.as_slice()))
 }
 
-/// The first size of a class's slots that isn't a power of two up to 2^24.
+/// Returns the cause if one of `sizes`, by class, isn't a power of two from 1 to 2^24.
 fn slot_sizes_cause(sizes: &[u64]) -> Option<StoredCause> {
-    for (class, size) in sizes.iter().enumerate() {
-        if *size > LARGEST_SLOT || !size.is_power_of_two() {
-            return Some(StoredCause::SlotSize { class, size: *size });
+    for (class, size) in CLASSES.iter().zip(sizes) {
+        if *size > LARGEST_SLOT as u64 || !size.is_power_of_two() {
+            return Some(StoredCause::SlotSize {
+                class: *class,
+                size: *size,
+            });
         }
     }
     None
 }
 
-/// The first limit that is exceeded.
+/// Returns the cause if `function` exceeds a limit.
 fn limits_cause(function: &StoredFunction) -> Option<StoredCause> {
     let limits = [
         (
             function.insts.len() as u64,
-            INST_LIMIT,
+            INST_LIMIT as u64,
             "instructions",
             "2^30 - 1",
         ),
         (
             function.blocks.len() as u64,
-            BLOCK_LIMIT,
+            BLOCK_LIMIT as u64,
             "blocks",
             "2^32 - 2",
         ),
         (
             function.num_vregs,
-            VREG_LIMIT,
+            VREG_LIMIT as u64,
             "virtual registers",
             "2^30 - 1",
         ),
@@ -645,7 +599,7 @@ fn limits_cause(function: &StoredFunction) -> Option<StoredCause> {
     slot_sizes_cause(function.spillslot_size.as_slice())
 }
 
-/// The cause of an error in a stored function. Linear in the function.
+/// Returns the cause of the error `fault` in `function`. Linear in the function.
 pub fn explain_function(function: &StoredFunction, fault: StoredFault) -> StoredCause {
     let found = match fault {
         StoredFault::Lengths => lengths_cause(function),
@@ -657,7 +611,7 @@ pub fn explain_function(function: &StoredFunction, fault: StoredFault) -> Stored
     found.unwrap_or(StoredCause::Known(fault))
 }
 
-/// The first move with an encoding that names nothing.
+/// Returns the cause if an encoding in one of `moves` names nothing.
 fn moves_cause(moves: &[(u32, u32, u32)]) -> Option<StoredCause> {
     for (index, (point, from, to)) in moves.iter().enumerate() {
         let are_places = Allocation::is_bits(*from) && Allocation::is_bits(*to);
@@ -668,7 +622,7 @@ fn moves_cause(moves: &[(u32, u32, u32)]) -> Option<StoredCause> {
     None
 }
 
-/// The first encoding that isn't a place's.
+/// Returns the cause if one of `places` encodes no place.
 fn places_cause(places: &[u32]) -> Option<StoredCause> {
     for (index, word) in places.iter().enumerate() {
         if !Allocation::is_bits(*word) {
@@ -678,7 +632,7 @@ fn places_cause(places: &[u32]) -> Option<StoredCause> {
     None
 }
 
-/// The first debug location with an encoding that names nothing.
+/// Returns the cause if an encoding in one of the debug locations `locations` names nothing.
 fn locations_cause(locations: &[(u32, u32, u32, u32)]) -> Option<StoredCause> {
     for (index, (_, from, until, place)) in locations.iter().enumerate() {
         let are_points = ProgPoint::is_index(*from) && ProgPoint::is_index(*until);
@@ -689,18 +643,14 @@ fn locations_cause(locations: &[(u32, u32, u32, u32)]) -> Option<StoredCause> {
     None
 }
 
-/// The first encoding of an output that names nothing.
+/// Returns the cause if an encoding of `output` names nothing.
 fn output_bits_cause(output: &StoredOutput) -> Option<StoredCause> {
-    if let Some(cause) = moves_cause(output.edits.as_slice()) {
-        return Some(cause);
-    }
-    if let Some(cause) = places_cause(output.allocs.as_slice()) {
-        return Some(cause);
-    }
-    locations_cause(output.debug_locations.as_slice())
+    moves_cause(output.edits.as_slice())
+        .or_else(|| places_cause(output.allocs.as_slice()))
+        .or_else(|| locations_cause(output.debug_locations.as_slice()))
 }
 
-/// The cause of an error in a stored output. Linear in the output.
+/// Returns the cause of the error `fault` in `output`. Linear in the output.
 pub fn explain_output(output: &StoredOutput, fault: StoredFault) -> StoredCause {
     let found = match fault {
         StoredFault::Bits => output_bits_cause(output),

@@ -1,11 +1,13 @@
 //! Operands of a form that the allocator doesn't support.
 
 use crate::explain::cause::{Cause, Site};
-use crate::explain::stored::{is_allocatable, operand_of, operands_at};
+use crate::explain::stored::{is_allocatable, operands_at};
+use crate::named::{has_register, operand_of};
+use crate::spell::is_early_use;
 use regalloc2_names::{Operand, OperandConstraint, OperandKind, OperandPos};
 use regalloc2_serialize::{InstOpcode, StoredFunction};
 
-/// The index that a reuse names.
+/// Returns the index of the operand that `operand` reuses, if it is a reuse.
 fn reused_index(operand: Operand) -> Option<usize> {
     match operand.constraint() {
         OperandConstraint::Reuse(index) => Some(index),
@@ -13,12 +15,7 @@ fn reused_index(operand: Operand) -> Option<usize> {
     }
 }
 
-/// Returns whether an operand is an early use.
-fn is_early_use(operand: Operand) -> bool {
-    operand.kind() == OperandKind::Use && operand.pos() == OperandPos::Early
-}
-
-/// Returns whether a reuse may take the place of an operand.
+/// Returns whether the reuse `by` may take the place of `operand`.
 fn may_be_reused(function: &StoredFunction, by: Operand, operand: Operand) -> bool {
     if !is_early_use(operand) || operand.as_fixed_nonallocatable().is_some() {
         return false;
@@ -33,7 +30,7 @@ fn may_be_reused(function: &StoredFunction, by: Operand, operand: Operand) -> bo
     }
 }
 
-/// Returns whether the operand of an encoding reuses the operand at `index`.
+/// Returns whether `bits` encode an operand that reuses the operand at `index`.
 fn reuses(bits: u64, index: usize) -> bool {
     match operand_of(bits) {
         Some(operand) => reused_index(operand) == Some(index),
@@ -41,22 +38,17 @@ fn reuses(bits: u64, index: usize) -> bool {
     }
 }
 
-/// Returns whether an operand before the index `k` reuses the operand at `index`.
+/// Returns whether one of the first `k` of `operands` reuses the operand at `index`.
 fn is_reused_before(operands: &[u64], k: usize, index: usize) -> bool {
-    for bits in operands.iter().take(k) {
-        if reuses(*bits, index) {
-            return true;
-        }
-    }
-    false
+    operands.iter().take(k).any(|bits| reuses(*bits, index))
 }
 
-/// Returns whether an operand reuses the operand at `index`, which is below 32 then.
+/// Returns whether one of `operands` reuses the operand at `index`. A reuse names an index below 32.
 pub(crate) fn is_reused(operands: &[u64], index: usize) -> bool {
     index < 32 && is_reused_before(operands, operands.len(), index)
 }
 
-/// The cause if an operand at the index `k` is an invalid reuse.
+/// Returns the cause if `operand`, at the index `k` of `inst`, is an invalid reuse.
 fn reuse_cause(
     function: &StoredFunction,
     inst: usize,
@@ -88,7 +80,7 @@ fn reuse_cause(
     None
 }
 
-/// The cause if an operand is fixed to a clobber.
+/// Returns the cause if `operand`, at the index `k` of `inst`, is fixed to a clobber.
 fn clobber_cause(
     function: &StoredFunction,
     inst: usize,
@@ -101,33 +93,26 @@ fn clobber_cause(
     if is_early_use(operand) && !is_reused(operands_at(function, inst), k) {
         return None;
     }
-    let index = register.index() as u8;
     match function.insts.get(inst) {
-        Some(data) if data.clobbers.as_slice().contains(&index) => {
+        Some(data) if has_register(data.clobbers.as_slice(), register) => {
             Some(Cause::FixedClobbered { inst, register })
         }
         _ => None,
     }
 }
 
-/// The cause if an operand has a limit constraint.
-fn limit_cause(
-    _function: &StoredFunction,
-    inst: usize,
-    _k: usize,
-    operand: Operand,
-) -> Option<Cause> {
+/// Returns the cause if `operand` has a limit constraint.
+fn limit_cause(inst: usize, operand: Operand) -> Option<Cause> {
     match operand.constraint() {
         OperandConstraint::Limit(_) => Some(Cause::Limited { inst }),
         _ => None,
     }
 }
 
-/// The cause if a branch defines in any register, or by a reuse.
+/// Returns the cause if `inst` is a branch and `operand` defines in any register, or by a reuse.
 fn branch_definition_cause(
     function: &StoredFunction,
     inst: usize,
-    _k: usize,
     operand: Operand,
 ) -> Option<Cause> {
     if function.insts.get(inst)?.op != InstOpcode::Branch || !operand.is_def() {
@@ -149,7 +134,7 @@ enum Test {
 }
 
 impl Test {
-    /// The cause if an operand fails the test.
+    /// Returns the cause if `operand`, at the index `k` of `inst`, fails the test.
     fn cause(
         self,
         function: &StoredFunction,
@@ -160,13 +145,13 @@ impl Test {
         match self {
             Test::Reuses => reuse_cause(function, inst, k, operand),
             Test::Clobbers => clobber_cause(function, inst, k, operand),
-            Test::Limits => limit_cause(function, inst, k, operand),
-            Test::Branches => branch_definition_cause(function, inst, k, operand),
+            Test::Limits => limit_cause(inst, operand),
+            Test::Branches => branch_definition_cause(function, inst, operand),
         }
     }
 }
 
-/// The first operand of an instruction that fails a test.
+/// Returns the cause at the first operand of `inst` that fails `test`.
 fn first_failing(function: &StoredFunction, inst: usize, test: Test) -> Option<(Cause, Site)> {
     for (k, bits) in operands_at(function, inst).iter().enumerate() {
         if let Some(operand) = operand_of(*bits) {
@@ -178,7 +163,7 @@ fn first_failing(function: &StoredFunction, inst: usize, test: Test) -> Option<(
     None
 }
 
-/// The cause of `Unsupported`.
+/// Returns the cause of `Unsupported` for `inst`.
 pub(crate) fn unsupported_cause(function: &StoredFunction, inst: usize) -> (Cause, Site) {
     for test in [Test::Reuses, Test::Clobbers, Test::Limits, Test::Branches] {
         if let Some(found) = first_failing(function, inst, test) {

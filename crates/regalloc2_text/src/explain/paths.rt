@@ -2,7 +2,8 @@
 
 use crate::explain::cause::Site;
 use crate::explain::edges::{Along, edges_into};
-use crate::explain::stored::{arguments_of, list_of, operand_of, operands_at, range_of, vreg_of};
+use crate::explain::stored::{arguments_of, operands_at, range_of};
+use crate::named::{list_at, operand_of, vreg_of};
 use regalloc2_names::{OperandPos, VReg, VRegText};
 use regalloc2_serialize::StoredFunction;
 use std::alloc::{AllocError, Global};
@@ -54,7 +55,7 @@ struct Search {
 }
 
 impl Search {
-    /// Adds a need, if its block has no need of its vreg yet.
+    /// Adds `need`, if its block has no need of its vreg yet.
     fn add(&mut self, need: Need) -> Result<(), AllocError> {
         let pair = (need.block, need.vreg);
         if self.known.contains(&pair) {
@@ -65,7 +66,7 @@ impl Search {
         Ok(())
     }
 
-    /// Adds a need of a read, unless the block writes the vreg earlier.
+    /// Adds the need of the read of `vreg` at `site`, unless `block` writes the vreg earlier.
     fn read(&mut self, block: u32, vreg: u32, site: Site) -> Result<(), AllocError> {
         if self.written.contains(&(block, vreg)) {
             return Ok(());
@@ -78,7 +79,7 @@ impl Search {
         })
     }
 
-    /// Adds the needs of an instruction's operands that read at a position.
+    /// Adds the needs of the operands of `inst` that read at `pos`.
     fn read_operands(
         &mut self,
         function: &StoredFunction,
@@ -97,7 +98,7 @@ impl Search {
         Ok(())
     }
 
-    /// Records what an instruction's operands write.
+    /// Records what the operands of `inst` write.
     fn write_operands(
         &mut self,
         function: &StoredFunction,
@@ -114,7 +115,7 @@ impl Search {
         Ok(())
     }
 
-    /// Adds the needs of the arguments that a block passes to a successor.
+    /// Adds the needs of the arguments that `block` passes to its successor at `position`.
     fn read_arguments(
         &mut self,
         function: &StoredFunction,
@@ -128,15 +129,15 @@ impl Search {
         Ok(())
     }
 
-    /// Records a block's parameters as written.
+    /// Records the parameters of `block` as written.
     fn write_params(&mut self, function: &StoredFunction, block: u32) -> Result<(), AllocError> {
-        for bits in list_of(function.block_params_in.as_slice(), block as usize) {
+        for bits in list_at(function.block_params_in.as_slice(), block as usize) {
             self.written.insert((block, *bits))?;
         }
         Ok(())
     }
 
-    /// Walks over a block's instructions.
+    /// Walks over the instructions of `block`.
     fn walk_insts(&mut self, function: &StoredFunction, block: u32) -> Result<(), AllocError> {
         let (first, end) = range_of(function, block as usize);
         for inst in first..end.min(function.insts.len()) {
@@ -147,18 +148,19 @@ impl Search {
         Ok(())
     }
 
-    /// Walks over the arguments that a block passes.
+    /// Walks over the arguments that `block` passes.
     fn walk_passed(&mut self, function: &StoredFunction, block: u32) -> Result<(), AllocError> {
         let (_, end) = range_of(function, block as usize);
         let site = Site::Inst(end.saturating_sub(1));
-        let succs = list_of(function.block_succs.as_slice(), block as usize).len();
+        let succs = list_at(function.block_succs.as_slice(), block as usize).len();
         for position in 0..succs {
             self.read_arguments(function, block, position, site)?;
         }
         Ok(())
     }
 
-    /// Finds what each block reads before writing it. Nothing writes the parameters of the entry where the function starts.
+    /// Finds what each block of `function` reads before writing it. Nothing writes the parameters of the entry where
+    /// the function starts.
     fn walk(&mut self, function: &StoredFunction) -> Result<(), AllocError> {
         for block in 0..function.blocks.len() {
             if let Ok(block) = u32::try_from(block) {
@@ -172,7 +174,8 @@ impl Search {
         Ok(())
     }
 
-    /// Passes a need on to the predecessors of its block, unless they write the vreg.
+    /// Passes `need`, at `index` of the needs, on to the predecessors `preds` of its block, unless they write the
+    /// vreg.
     fn pass(&mut self, index: usize, need: Need, preds: &[u32]) -> Result<(), AllocError> {
         for pred in preds {
             if !self.written.contains(&(*pred, need.vreg)) {
@@ -187,31 +190,31 @@ impl Search {
         Ok(())
     }
 
-    /// Passes needs on until one of the entry is found, and returns its index.
+    /// Passes needs on against `edges` until a need of the entry is found, and returns its index.
     fn run(
         &mut self,
         function: &StoredFunction,
         edges: &[Vec<u32>],
     ) -> Result<Option<usize>, AllocError> {
-        for index in 0..usize::MAX {
-            let Some(need) = self.needs.get(index).copied() else {
-                break;
-            };
+        let mut index = 0;
+        while index < self.needs.len() {
+            let need = self.needs[index];
             if need.block == function.entry_block {
                 return Ok(Some(index));
             }
-            self.pass(index, need, list_of(edges, need.block as usize))?;
+            self.pass(index, need, list_at(edges, need.block as usize))?;
+            index += 1;
         }
         Ok(None)
     }
 
-    /// The blocks from that of a need to the block that reads.
+    /// Returns the blocks from the block of the need at `index` to the block that reads.
     fn path(&self, alloc: Global, index: usize) -> Result<Vec<u32>, AllocError> {
         let mut path = Vec::new(alloc);
         let mut next = Some(index);
+        // a need is behind one that was found before it, so no need is visited twice
         for _ in 0..self.needs.len() {
-            let Some(index) = next else { break };
-            let Some(need) = self.needs.get(index) else {
+            let Some(need) = next.and_then(|index| self.needs.get(index)) else {
                 break;
             };
             path.push(need.block)?;
@@ -221,11 +224,10 @@ impl Search {
     }
 }
 
-/// A read or an argument before each write on a path from the entry, with a shortest such path.
-/// Nothing if there is none.
+/// Returns a read or an argument of `function` before each write on a path from the entry, with a shortest such path.
 ///
-/// Each pair of a block and a vreg that it needs at its beginning is handled once for each edge
-/// into the block. An error means out of memory.
+/// Returns `None` if there is none. Each pair of a block and a vreg that it needs at its beginning is handled once
+/// for each edge into the block. An error means out of memory.
 pub fn find_unwritten_read(
     alloc: Global,
     function: &StoredFunction,

@@ -4,15 +4,14 @@
 
 use crate::explain::cause::{Cause, Site};
 use crate::explain::operands::is_reused;
-use crate::explain::stored::{
-    class_number, is_allocatable, operand_of, operands_at, register_of, vreg_of,
-};
+use crate::explain::stored::{is_allocatable, operands_at};
+use crate::named::{has_register, is_register_of, operand_of, vreg_of};
 use regalloc2_names::{
     Operand, OperandConstraint, OperandKind, OperandPos, PReg, PRegSet, RegClass,
 };
 use regalloc2_serialize::{StoredFunction, StoredInst};
 
-/// The register that an operand is fixed to, unless it is one that isn't allocated.
+/// Returns the register that `operand` is fixed to, unless its register isn't allocated.
 fn fixed_register(operand: Operand) -> Option<PReg> {
     if operand.as_fixed_nonallocatable().is_some() {
         return None;
@@ -23,7 +22,7 @@ fn fixed_register(operand: Operand) -> Option<PReg> {
     }
 }
 
-/// Returns whether the operand of an encoding may be in any register of a class.
+/// Returns whether `bits` encode an operand that may be in any register of `class`.
 pub(crate) fn is_in_any(bits: u64, class: RegClass) -> bool {
     let Some(operand) = operand_of(bits) else {
         return false;
@@ -31,18 +30,15 @@ pub(crate) fn is_in_any(bits: u64, class: RegClass) -> bool {
     operand.constraint() == OperandConstraint::Reg && operand.class() == class
 }
 
-/// How many operands may be in any register of a class.
+/// Returns how many of `operands` may be in any register of `class`.
 pub(crate) fn count_in_any(operands: &[u64], class: RegClass) -> usize {
-    let mut count = 0usize;
-    for bits in operands {
-        if is_in_any(*bits, class) {
-            count = count.saturating_add(1);
-        }
-    }
-    count
+    operands
+        .iter()
+        .filter(|bits| is_in_any(**bits, class))
+        .count()
 }
 
-/// Returns whether the operand of an encoding is fixed to `register`.
+/// Returns whether `bits` encode an operand that is fixed to `register`.
 fn is_fixed_to(bits: u64, register: PReg) -> bool {
     match operand_of(bits) {
         Some(operand) => operand.constraint() == OperandConstraint::FixedReg(register),
@@ -50,29 +46,23 @@ fn is_fixed_to(bits: u64, register: PReg) -> bool {
     }
 }
 
-/// Returns whether an operand is fixed to `register`.
+/// Returns whether one of `operands` is fixed to `register`.
 fn has_fixed_to(operands: &[u64], register: PReg) -> bool {
-    for bits in operands {
-        if is_fixed_to(*bits, register) {
-            return true;
-        }
-    }
-    false
+    operands.iter().any(|bits| is_fixed_to(*bits, register))
 }
 
-/// Returns whether an instruction names `register`, by a fixed operand or a clobber.
+/// Returns whether `inst` names `register`, by a fixed operand or a clobber.
 fn names_register(function: &StoredFunction, inst: usize, register: PReg) -> bool {
-    let index = register.index() as u8;
     match function.insts.get(inst) {
         Some(data) => {
-            data.clobbers.as_slice().contains(&index)
+            has_register(data.clobbers.as_slice(), register)
                 || has_fixed_to(data.operands.as_slice(), register)
         }
         None => false,
     }
 }
 
-/// How many registers of a class are allocated.
+/// Returns how many registers of `class` are allocated.
 fn available(function: &StoredFunction, class: RegClass) -> usize {
     let mut count = 0usize;
     for number in 0..=PReg::MAX {
@@ -83,12 +73,12 @@ fn available(function: &StoredFunction, class: RegClass) -> usize {
     count
 }
 
-/// Returns whether an instruction names `register`, and the register is allocated.
+/// Returns whether `inst` names `register`, and the register is allocated.
 pub(crate) fn names_allocated(function: &StoredFunction, inst: usize, register: PReg) -> bool {
     is_allocatable(&function.machine_env, register) && names_register(function, inst, register)
 }
 
-/// How many allocated registers of a class an instruction names.
+/// Returns how many allocated registers of `class` the instruction `inst` names.
 pub(crate) fn count_named(function: &StoredFunction, inst: usize, class: RegClass) -> usize {
     let mut count = 0usize;
     for number in 0..=PReg::MAX {
@@ -99,30 +89,23 @@ pub(crate) fn count_named(function: &StoredFunction, inst: usize, class: RegClas
     count
 }
 
-/// Returns whether a class has fixed stack slots.
+/// Returns whether one of the fixed stack slots `slots` is of `class`.
 fn has_slots(slots: &[u8], class: RegClass) -> bool {
-    for slot in slots {
-        if let Some(register) = register_of(*slot) {
-            if register.class() == class {
-                return true;
-            }
-        }
-    }
-    false
+    slots.iter().any(|slot| is_register_of(*slot, class))
 }
 
-/// How many registers of a class are reserved for moves between stack places: one, if the class has
-/// fixed stack slots and no scratch register.
+/// Returns how many registers of `class` are reserved for moves between stack places: one, if the class has fixed
+/// stack slots and no scratch register.
 pub(crate) fn spare(function: &StoredFunction, class: RegClass) -> usize {
     let machine = &function.machine_env;
-    let has_scratch = match machine.scratch_by_class.get(class_number(class)) {
+    let has_scratch = match machine.scratch_by_class.get(class.code()) {
         Some(scratch) => scratch.is_some(),
         None => false,
     };
     usize::from(has_slots(machine.fixed_stack_slots.as_slice(), class) && !has_scratch)
 }
 
-/// Returns whether the operand of an encoding is of a class, and not fixed to a register that isn't allocated.
+/// Returns whether `bits` encode an operand of `class` whose register, if it is fixed, is allocated.
 fn is_allocated_in(bits: u64, class: RegClass) -> bool {
     let Some(operand) = operand_of(bits) else {
         return false;
@@ -130,29 +113,27 @@ fn is_allocated_in(bits: u64, class: RegClass) -> bool {
     operand.as_fixed_nonallocatable().is_none() && operand.class() == class
 }
 
-/// The index of the first operand that is of a class, and not fixed to a register that isn't allocated.
+/// Returns the index of the first of `operands` that is of `class` and whose register, if it is fixed, is allocated.
 pub(crate) fn first_allocated_in(operands: &[u64], class: RegClass) -> Option<usize> {
-    for (k, bits) in operands.iter().enumerate() {
-        if is_allocated_in(*bits, class) {
-            return Some(k);
-        }
-    }
-    None
+    operands
+        .iter()
+        .position(|bits| is_allocated_in(*bits, class))
 }
 
-/// Returns whether a vreg among encodings is of a class.
+/// Returns whether `bits` encode a vreg of `class`.
+fn is_vreg_of(bits: u32, class: RegClass) -> bool {
+    match vreg_of(bits) {
+        Some(vreg) => vreg.class() == class,
+        None => false,
+    }
+}
+
+/// Returns whether one of `words` encodes a vreg of `class`.
 fn has_vreg_of(words: &[u32], class: RegClass) -> bool {
-    for word in words {
-        if let Some(vreg) = vreg_of(*word) {
-            if vreg.class() == class {
-                return true;
-            }
-        }
-    }
-    false
+    words.iter().any(|bits| is_vreg_of(*bits, class))
 }
 
-/// Returns whether an operand is of a class.
+/// Returns whether an operand of `insts` is of `class`.
 fn operands_name(insts: &[StoredInst], class: RegClass) -> bool {
     for inst in insts {
         if first_allocated_in(inst.operands.as_slice(), class).is_some() {
@@ -162,7 +143,7 @@ fn operands_name(insts: &[StoredInst], class: RegClass) -> bool {
     false
 }
 
-/// Returns whether a parameter is of a class.
+/// Returns whether a parameter among `lists` is of `class`.
 fn params_name(lists: &[Vec<u32>], class: RegClass) -> bool {
     for params in lists {
         if has_vreg_of(params.as_slice(), class) {
@@ -172,7 +153,7 @@ fn params_name(lists: &[Vec<u32>], class: RegClass) -> bool {
     false
 }
 
-/// Returns whether an operand or a parameter is of a class.
+/// Returns whether an operand or a parameter of `function` is of `class`.
 fn names_class(function: &StoredFunction, class: RegClass) -> bool {
     operands_name(function.insts.as_slice(), class)
         || params_name(function.block_params_in.as_slice(), class)
@@ -190,7 +171,7 @@ struct Supply {
 }
 
 impl Supply {
-    /// Counts the registers of a class.
+    /// Counts the registers of `class`.
     fn of(function: &StoredFunction, class: RegClass) -> Supply {
         let available = if names_class(function, class) {
             available(function, class)
@@ -205,7 +186,7 @@ impl Supply {
     }
 }
 
-/// The cause if an instruction needs more registers of a class than the machine has.
+/// Returns the cause if `inst` needs more registers of the class of `supply` than the machine has.
 fn class_cause(function: &StoredFunction, inst: usize, supply: Supply) -> Option<Cause> {
     let Supply {
         class,
@@ -235,8 +216,7 @@ fn class_cause(function: &StoredFunction, inst: usize, supply: Supply) -> Option
     })
 }
 
-/// Returns whether an operand occupies its register at a position, if the operand is at the index
-/// `k`.
+/// Returns whether `operand`, at the index `k` of `operands`, occupies its register at `pos`.
 fn holds_at(operands: &[u64], k: usize, operand: Operand, pos: OperandPos) -> bool {
     let is_def = operand.kind() == OperandKind::Def;
     let is_late = operand.pos() == OperandPos::Late;
@@ -246,7 +226,7 @@ fn holds_at(operands: &[u64], k: usize, operand: Operand, pos: OperandPos) -> bo
     }
 }
 
-/// Returns whether an operand is a reuse.
+/// Returns whether `operand` is a reuse.
 fn is_reuse(operand: Operand) -> bool {
     matches!(operand.constraint(), OperandConstraint::Reuse(_))
 }
@@ -259,8 +239,8 @@ struct Held {
 }
 
 impl Held {
-    /// Records that the operand at the index `k` occupies `register`. Returns whether another
-    /// operand occupies it at the same position.
+    /// Records that `operand`, at the index `k` of `operands`, occupies `register`. Returns whether another operand
+    /// occupies it at the same position.
     fn clashes(&mut self, operands: &[u64], k: usize, operand: Operand, register: PReg) -> bool {
         let is_early = holds_at(operands, k, operand, OperandPos::Early);
         let is_late = holds_at(operands, k, operand, OperandPos::Late);
@@ -276,7 +256,7 @@ impl Held {
     }
 }
 
-/// The cause if an operand is fixed to a register that it can't get.
+/// Returns the cause if an operand of `inst` is fixed to a register that it can't get.
 fn fixed_cause(function: &StoredFunction, inst: usize) -> Option<(Cause, Site)> {
     let machine = &function.machine_env;
     let operands = operands_at(function, inst);
@@ -291,8 +271,7 @@ fn fixed_cause(function: &StoredFunction, inst: usize) -> Option<(Cause, Site)> 
         let Some(register) = fixed_register(operand) else {
             continue;
         };
-        let index = register.index() as u8;
-        let is_slot = machine.fixed_stack_slots.as_slice().contains(&index);
+        let is_slot = has_register(machine.fixed_stack_slots.as_slice(), register);
         if !is_slot && !is_allocatable(machine, register) {
             return Some((
                 Cause::NoSuchRegister { inst, register },
@@ -306,7 +285,7 @@ fn fixed_cause(function: &StoredFunction, inst: usize) -> Option<(Cause, Site)> 
     None
 }
 
-/// The cause if an instruction needs more registers of some class than the machine has.
+/// Returns the cause if `inst` needs more registers of the class of one of `supplies` than the machine has.
 fn count_cause(
     function: &StoredFunction,
     inst: usize,
@@ -320,7 +299,7 @@ fn count_cause(
     None
 }
 
-/// The cause of `TooManyLiveRegs`: the first instruction that doesn't fit.
+/// Returns the cause of `TooManyLiveRegs`: the first instruction of `function` that doesn't fit.
 pub(crate) fn live_regs_cause(function: &StoredFunction) -> (Cause, Site) {
     let supplies = [
         Supply::of(function, RegClass::Int),

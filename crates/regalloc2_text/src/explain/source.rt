@@ -1,6 +1,8 @@
 //! The lines of a text that hold blocks, instructions and moves.
 
+use crate::cursor::{is_numbered, without_comment};
 use crate::explain::cause::Site;
+use crate::reading::split_prefix;
 use std::fmt;
 
 /// The text of a function, to look up its blocks, instructions and moves.
@@ -49,26 +51,12 @@ fn split(text: &str, at: usize) -> (&str, &str) {
     text.split_at_checked(at).unwrap_or((text, ""))
 }
 
-/// A line without a logger's prefix in brackets.
+/// Returns `line` without a logger's prefix in brackets.
 fn unlogged(line: &str) -> &str {
-    let Some(rest) = line.strip_prefix('[') else {
-        return line;
-    };
-    match rest.split_once("] ") {
-        Some((front, after)) if !front.contains('{') => after,
-        _ => line,
-    }
+    split_prefix(line).0
 }
 
-/// A line without its comment.
-fn without_comment(line: &str) -> &str {
-    match line.split_once('#') {
-        Some((front, _)) => front,
-        None => line,
-    }
-}
-
-/// How many blanks a line begins with.
+/// Returns how many blanks `line` begins with.
 fn indent_of(line: &str) -> usize {
     for (k, byte) in line.as_bytes().iter().enumerate() {
         if *byte != b' ' && *byte != b'\t' {
@@ -78,7 +66,7 @@ fn indent_of(line: &str) -> usize {
     line.len()
 }
 
-/// How many letters and digits a line begins with.
+/// Returns how many letters and digits `line` begins with.
 fn word_len(line: &str) -> usize {
     for (k, byte) in line.as_bytes().iter().enumerate() {
         if !byte.is_ascii_alphanumeric() {
@@ -88,28 +76,10 @@ fn word_len(line: &str) -> usize {
     line.len()
 }
 
-/// The first word of a line.
+/// Returns the first word of `line`.
 fn first_word(line: &str) -> &str {
     let (_, words) = split(line, indent_of(line));
     split(words, word_len(words)).0
-}
-
-/// Returns whether a text has only digits.
-fn are_digits(text: &str) -> bool {
-    for byte in text.as_bytes() {
-        if !byte.is_ascii_digit() {
-            return false;
-        }
-    }
-    true
-}
-
-/// Returns whether a word consists of a name and digits.
-fn is_numbered(word: &str, name: &str) -> bool {
-    match word.strip_prefix(name) {
-        Some(digits) => !digits.is_empty() && are_digits(digits),
-        None => false,
-    }
 }
 
 /// Returns whether `line` shows an instruction. A dump's line for a move begins with `inst3-`, and
@@ -123,12 +93,12 @@ fn is_inst(line: &str) -> bool {
     word == "op" || word == "branch" || word == "ret"
 }
 
-/// Returns whether a line is that of a block.
+/// Returns whether `line` shows a block.
 fn is_block(line: &str) -> bool {
     is_numbered(first_word(line), "block")
 }
 
-/// Returns whether a line is that of a move. A dump's begins with the move's point and a colon.
+/// Returns whether `line` shows a move. A dump's line of a move begins with the move's point and a colon.
 fn is_move(line: &str) -> bool {
     let shown = without_comment(line);
     match shown.split_once(':') {
@@ -146,7 +116,7 @@ enum LineKind {
 }
 
 impl LineKind {
-    /// Returns whether a line is of the kind.
+    /// Returns whether `line` is of the kind.
     fn has(self, line: &str) -> bool {
         match self {
             LineKind::Block => is_block(line),
@@ -156,8 +126,9 @@ impl LineKind {
     }
 }
 
-/// The length of a line up to its operands: with the first colon or, in a dump, if that follows the
-/// instruction's number, with the opcode.
+/// Returns the length of `line` up to its operands.
+///
+/// The head ends with the first colon or, in a dump, where a colon follows the instruction's number, with the opcode.
 fn head_len(line: &str) -> usize {
     let Some((front, behind)) = line.split_once(':') else {
         return line.len();
@@ -170,8 +141,8 @@ fn head_len(line: &str) -> usize {
     len.saturating_add(indent_of(behind)).saturating_add(opcode)
 }
 
-/// The index in a line at which its `k`th operand begins: the first one follows the line's head,
-/// and each other one follows a comma outside brackets.
+/// Returns the index in `line` at which its operand `k` begins. The first operand follows the line's head, each other
+/// operand a comma outside brackets.
 fn operand_start(line: &str, k: usize) -> usize {
     let head = head_len(line);
     let (_, operands) = split(line, head);
@@ -191,19 +162,18 @@ fn operand_start(line: &str, k: usize) -> usize {
 }
 
 impl<'t> Source<'t> {
-    /// A part of a line that begins at an index after the logger's prefix.
+    /// Returns the part of `line`, with the number `number`, from the index `start` after a logger's prefix on.
     fn part(&self, number: usize, line: &'t str, start: usize) -> SourceLine<'t> {
-        let shown = unlogged(line);
-        let logged = line.len().saturating_sub(shown.len());
+        let (shown, column) = split_prefix(line);
         SourceLine {
             name: self.name,
             number,
-            column: logged.saturating_add(start).saturating_add(1),
+            column: column.saturating_add(start),
             words: without_comment(shown).trim(),
         }
     }
 
-    /// The `k`th line of a kind, with its index.
+    /// Returns the line `k` of `kind`, with its index.
     fn nth(&self, kind: LineKind, k: usize) -> Option<(usize, &'t str)> {
         let mut before = 0usize;
         for (index, line) in self.text.lines().enumerate() {
@@ -217,7 +187,7 @@ impl<'t> Source<'t> {
         None
     }
 
-    /// The `k`th line of a kind, from one of its operands on if that is named.
+    /// Returns the line `k` of `kind`, from the operand `operand` on if one is given.
     fn nth_part(&self, kind: LineKind, k: usize, operand: Option<usize>) -> Option<SourceLine<'t>> {
         let (index, line) = self.nth(kind, k)?;
         let shown = unlogged(line);
@@ -229,7 +199,7 @@ impl<'t> Source<'t> {
         Some(self.part(number, line, start))
     }
 
-    /// The location of a part of the function in the text, if it has a line. Linear in the text.
+    /// Returns the location of `site` in the text, if it has a line. Linear in the text.
     pub fn find(&self, site: Site) -> Option<SourceLine<'t>> {
         match site {
             Site::Function => None,

@@ -1,42 +1,16 @@
-//! The values that stored numbers name.
+//! The parts of stored functions and outputs, and texts of classes and counts.
 
-ghost use Rattle.std.specs.Prelude.{Some, ◌≡◌};
-ghost use Rattle.regalloc2_text.specs.Explain.FaultText.{class_word, counted_text, numbered_class};
+ghost use Rattle.std.specs.Prelude.{Some};
+ghost use Rattle.regalloc2_text.specs.Explain.FaultText.{class_word, counted_text};
 
+use crate::named::{has_register, list_at, places_at, point_at};
+use crate::spell::StoredMove;
 use regalloc2_function::StoredOutput;
-use regalloc2_names::{Operand, PReg, RegClass, VReg};
+use regalloc2_names::{InstPosition, PReg, ProgPoint, RegClass};
 use regalloc2_serialize::{StoredFunction, StoredMachine};
 use std::fmt;
 
-/// The operand of an encoding, if it is valid.
-pub(crate) fn operand_of(bits: u64) -> Option<Operand> {
-    if Operand::is_bits(bits) {
-        Some(Operand::from_bits(bits))
-    } else {
-        None
-    }
-}
-
-/// The vreg of an encoding, if it is valid.
-pub(crate) fn vreg_of(bits: u32) -> Option<VReg> {
-    if VReg::is_bits(bits) {
-        Some(VReg::from_bits(bits))
-    } else {
-        None
-    }
-}
-
-/// The register of an index, if it is valid.
-pub(crate) fn register_of(index: u8) -> Option<PReg> {
-    let index = usize::from(index);
-    if PReg::is_index(index) {
-        Some(PReg::from_index(index))
-    } else {
-        None
-    }
-}
-
-/// The encodings of an instruction's operands; none if the function has no instruction `inst`.
+/// Returns the encodings of the operands of `inst`; none if the function has no such instruction.
 pub(crate) fn operands_at(function: &StoredFunction, inst: usize) -> &[u64] {
     match function.insts.get(inst) {
         Some(data) => data.operands.as_slice(),
@@ -44,7 +18,7 @@ pub(crate) fn operands_at(function: &StoredFunction, inst: usize) -> &[u64] {
     }
 }
 
-/// A block's instructions: the first, and one past the last.
+/// Returns the first instruction of `block`, and the instruction at which the block ends.
 pub(crate) fn range_of(function: &StoredFunction, block: usize) -> (usize, usize) {
     match function.blocks.get(block) {
         Some((first, end)) => (*first as usize, *end as usize),
@@ -52,23 +26,15 @@ pub(crate) fn range_of(function: &StoredFunction, block: usize) -> (usize, usize
     }
 }
 
-/// A block's list in lists by block; empty if there is none.
-pub(crate) fn list_of(lists: &[Vec<u32>], block: usize) -> &[u32] {
-    match lists.get(block) {
-        Some(list) => list.as_slice(),
-        None => &[],
-    }
-}
-
-/// The arguments that a block passes to its successor at an index.
+/// Returns the arguments that `block` passes to its successor at `position`.
 pub(crate) fn arguments_of(function: &StoredFunction, block: usize, position: usize) -> &[u32] {
     match function.block_params_out.get(block) {
-        Some(lists) => list_of(lists.as_slice(), position),
+        Some(lists) => list_at(lists.as_slice(), position),
         None => &[],
     }
 }
 
-/// The block that holds an instruction, if a block does.
+/// Returns the block that holds `inst`, if a block does.
 pub(crate) fn block_of(function: &StoredFunction, inst: usize) -> Option<usize> {
     for (block, (first, end)) in function.blocks.iter().enumerate() {
         if *first as usize <= inst && inst < *end as usize {
@@ -78,34 +44,36 @@ pub(crate) fn block_of(function: &StoredFunction, inst: usize) -> Option<usize> 
     None
 }
 
-/// The places of an instruction's operands.
+/// Returns the places of the operands of `inst`.
 pub(crate) fn places_of(output: &StoredOutput, inst: usize) -> &[u32] {
-    let offsets = output.inst_alloc_offsets.as_slice();
-    let Some(start) = offsets.get(inst) else {
-        return &[];
-    };
-    let end = match offsets.get(inst.saturating_add(1)) {
-        Some(end) => *end as usize,
-        None => output.allocs.len(),
-    };
-    output
-        .allocs
-        .as_slice()
-        .get(*start as usize..end)
-        .unwrap_or(&[])
+    places_at(
+        output.allocs.as_slice(),
+        output.inst_alloc_offsets.as_slice(),
+        inst,
+    )
 }
 
-/// The moves at a point and after it, of moves that are sorted by points.
-pub(crate) fn moves_from(moves: &[(u32, u32, u32)], point: u64) -> &[(u32, u32, u32)] {
-    let begin = moves.partition_point(|(at, _, _)| u64::from(*at) < point);
+/// Returns the moves at `point` and after it. `moves` are sorted by points.
+pub(crate) fn moves_from(moves: &[StoredMove], point: ProgPoint) -> &[StoredMove] {
+    let number = point.to_index();
+    let begin = moves.partition_point(|(at, _, _)| *at < number);
     moves.get(begin..).unwrap_or(&[])
+}
+
+/// Returns the point before `inst`, or the invalid point, which is past all others, if no instruction has this number.
+pub(crate) fn point_before(inst: usize) -> ProgPoint {
+    point_at(inst, InstPosition::Before).unwrap_or(ProgPoint::invalid())
+}
+
+/// Returns the point after `inst`, or the invalid point, which is past all others, if no instruction has this number.
+pub(crate) fn point_after(inst: usize) -> ProgPoint {
+    point_at(inst, InstPosition::After).unwrap_or(ProgPoint::invalid())
 }
 
 /// Returns whether `register` is in the list of its own class.
 fn is_listed(lists: &[Vec<u8>], register: PReg) -> bool {
-    let index = register.index() as u8;
-    match lists.get(class_number(register.class())) {
-        Some(list) => list.as_slice().contains(&index),
+    match lists.get(register.class().code()) {
+        Some(list) => has_register(list.as_slice(), register),
         None => false,
     }
 }
@@ -114,26 +82,6 @@ fn is_listed(lists: &[Vec<u8>], register: PReg) -> bool {
 pub(crate) fn is_allocatable(machine: &StoredMachine, register: PReg) -> bool {
     is_listed(machine.preferred_regs_by_class.as_slice(), register)
         || is_listed(machine.non_preferred_regs_by_class.as_slice(), register)
-}
-
-/// The number of a class, from 0.
-pub(crate) fn class_number(class: RegClass) -> usize {
-    match class {
-        RegClass::Int => 0,
-        RegClass::Float => 1,
-        RegClass::Vector => 2,
-    }
-}
-
-/// The class of a number, from 0.
-pub(crate) fn class_of_number(number: usize) -> RegClass
-    ensures { result ≡ numbered_class number }
-{
-    match number {
-        0 => RegClass::Int,
-        1 => RegClass::Float,
-        _ => RegClass::Vector,
-    }
 }
 
 /// A class as a text names it.

@@ -1,8 +1,9 @@
 //! What wrote a place last before an instruction reads it: in its block, or on paths to the block.
 
 use crate::explain::edges::{Along, edges_into};
-use crate::explain::stored::{block_of, list_of, range_of};
+use crate::explain::stored::{block_of, point_after, point_before, range_of};
 use crate::explain::writes::{LastWrite, last_between, write_by_reader};
+use crate::named::list_at;
 use regalloc2_function::StoredOutput;
 use regalloc2_names::{Allocation, OperandPos};
 use regalloc2_serialize::StoredFunction;
@@ -73,7 +74,7 @@ struct Search {
 }
 
 impl Search {
-    /// Adds the predecessors of a block that aren't found yet.
+    /// Adds those of `preds`, the predecessors of `block`, that aren't found yet.
     fn add(&mut self, block: u32, preds: &[u32]) -> Result<(), AllocError> {
         for pred in preds {
             if let Some(next) = self.next.get_mut(*pred as usize) {
@@ -86,7 +87,7 @@ impl Search {
         Ok(())
     }
 
-    /// Searches from block to block until there are no more, with the predecessors of each.
+    /// Searches against `edges` from block to block for writes of `place`, until there are no more blocks.
     fn run(
         &mut self,
         function: &StoredFunction,
@@ -94,13 +95,11 @@ impl Search {
         edges: &[Vec<u32>],
         place: u32,
     ) -> Result<(), AllocError> {
-        for index in 0..usize::MAX {
-            let Some(block) = self.order.get(index).copied() else {
-                break;
-            };
+        let mut index = 0;
+        while index < self.order.len() {
+            let block = self.order[index];
             let (first, end) = range_of(function, block as usize);
-            let until = (end as u64).saturating_mul(2);
-            match last_between(function, output, first, end, until, place) {
+            match last_between(function, output, first, end, point_before(end), place) {
                 Some(write) => {
                     if self.writes.len() < KEPT {
                         self.writes.push((block, write))?;
@@ -108,18 +107,20 @@ impl Search {
                 }
                 None => {
                     self.is_unwritten = self.is_unwritten || block == function.entry_block;
-                    self.add(block, list_of(edges, block as usize))?;
+                    self.add(block, list_at(edges, block as usize))?;
                 }
             }
+            index += 1;
         }
         Ok(())
     }
 
-    /// The blocks from a block that is found to the reader's.
+    /// Returns the blocks from `from`, a block that is found, to the reader's block.
     fn path(&self, alloc: Global, from: u32) -> Result<Vec<u32>, AllocError> {
         let mut path = Vec::new(alloc);
         path.push(from)?;
         let mut at = from;
+        // each block is found once, so no block is visited twice
         for _ in 0..self.order.len() {
             let Some(Some(next)) = self.next.get(at as usize).copied() else {
                 break;
@@ -133,8 +134,7 @@ impl Search {
         Ok(path)
     }
 
-    /// The blocks of a path from the entry to the reader's block without a write; none if none is
-    /// found.
+    /// Returns the blocks of a path from `entry` to the reader's block without a write; none if none is found.
     fn unwritten(&self, alloc: Global, entry: u32) -> Result<Vec<u32>, AllocError> {
         if self.reader != entry && self.is_unwritten {
             return self.path(alloc, entry);
@@ -159,7 +159,7 @@ impl Search {
     }
 }
 
-/// Searches the blocks before the reader's, which doesn't write the place before the read.
+/// Searches the blocks before `reader`, the reader's block, which doesn't write `place` before the read.
 fn search_back(
     alloc: Global,
     function: &StoredFunction,
@@ -178,12 +178,13 @@ fn search_back(
     for _ in 0..function.blocks.len() {
         search.next.push(None)?;
     }
-    search.add(reader, list_of(edges.as_slice(), reader as usize))?;
+    search.add(reader, list_at(edges.as_slice(), reader as usize))?;
     search.run(function, output, edges.as_slice(), place)?;
     Ok(search)
 }
 
-/// The last write of `place` in the block from instruction `first` on, before the use at `pos` of instruction `inst` reads it.
+/// The last write of `place` in the block from instruction `first` on, before the use at `pos` of instruction `inst`
+/// reads it.
 fn last_in_block(
     function: &StoredFunction,
     output: &StoredOutput,
@@ -196,11 +197,11 @@ fn last_in_block(
     if by_reader.is_some() {
         return by_reader;
     }
-    let until = (inst as u64).saturating_mul(2).saturating_add(1);
-    last_between(function, output, first, inst, until, place)
+    last_between(function, output, first, inst, point_after(inst), place)
 }
 
-/// The last writes of `place` before a use at `pos` of instruction `inst` reads it. `None` if no block holds the instruction.
+/// The last writes of `place` before a use at `pos` of instruction `inst` reads it. `None` if no block holds the
+/// instruction.
 ///
 /// The output's moves are sorted by program point. Linear in the function and the output, with a
 /// binary search of the moves for each block. An error means out of memory.

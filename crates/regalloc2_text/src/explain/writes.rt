@@ -1,8 +1,9 @@
 //! The last write of a place by instructions and moves in a block.
 
-use crate::explain::stored::{moves_from, operand_of, operands_at, places_of};
+use crate::explain::stored::{moves_from, operands_at, places_of, point_before};
+use crate::named::{operand_of, place_of, point_of, register_of};
 use regalloc2_function::StoredOutput;
-use regalloc2_names::{Allocation, InstPosition, OperandPos, PReg, ProgPoint};
+use regalloc2_names::{Allocation, InstPosition, OperandPos, ProgPoint};
 use regalloc2_serialize::StoredFunction;
 use std::fmt;
 
@@ -36,18 +37,16 @@ impl fmt::Display for LastWrite {
 }
 
 impl LastWrite {
-    /// The last program point that isn't behind the write.
-    fn point(&self) -> u64 {
+    /// Returns the last program point that isn't behind the write.
+    fn point(&self) -> ProgPoint {
         match self {
-            LastWrite::Definition(inst, _) | LastWrite::Clobber(inst) => {
-                (*inst as u64).saturating_mul(2)
-            }
-            LastWrite::Move(_, point) => u64::from(point.to_index()),
+            LastWrite::Definition(inst, _) | LastWrite::Clobber(inst) => point_before(*inst),
+            LastWrite::Move(_, point) => *point,
         }
     }
 }
 
-/// The last definition of an instruction that is in `place`. If `pos` is given, only definitions at that position count.
+/// Returns the last definition of `inst` that is in `place`. If `pos` is given, only definitions at `pos` count.
 fn definition_in(
     function: &StoredFunction,
     output: &StoredOutput,
@@ -69,13 +68,15 @@ fn definition_in(
     found
 }
 
-/// Returns whether `place` is the register of an `index`.
+/// Returns whether `place` encodes the register of `index`.
 fn is_register(place: u32, index: u8) -> bool {
-    let index = usize::from(index);
-    PReg::is_index(index) && Allocation::reg(PReg::from_index(index)).bits() == place
+    match register_of(index) {
+        Some(register) => Allocation::reg(register).bits() == place,
+        None => false,
+    }
 }
 
-/// Returns whether an instruction clobbers `place`.
+/// Returns whether `inst` clobbers `place`.
 fn clobbers(function: &StoredFunction, inst: usize, place: u32) -> bool {
     let Some(data) = function.insts.get(inst) else {
         return false;
@@ -88,7 +89,7 @@ fn clobbers(function: &StoredFunction, inst: usize, place: u32) -> bool {
     false
 }
 
-/// The last write of `place` by an instruction: its clobbers are overwritten after its definitions.
+/// Returns the last write of `place` by `inst`. Clobbers are overwritten after definitions.
 fn write_by(
     function: &StoredFunction,
     output: &StoredOutput,
@@ -101,8 +102,10 @@ fn write_by(
     definition_in(function, output, inst, None, place)
 }
 
-/// The last write of `place` by the instruction whose use at `pos` reads it: only early definitions are written before an early
-/// use reads, and all definitions and clobbers before a late one.
+/// Returns the last write of `place` by `inst`, whose use at `pos` reads the place.
+///
+/// Only early definitions are written before an early use reads, but all definitions and clobbers before a late use
+/// reads.
 pub(crate) fn write_by_reader(
     function: &StoredFunction,
     output: &StoredOutput,
@@ -116,7 +119,7 @@ pub(crate) fn write_by_reader(
     }
 }
 
-/// The last of the instructions from `first` until `end` that writes a place.
+/// Returns the last write of `place` by the instructions from `first` until `end`.
 fn last_by_inst(
     function: &StoredFunction,
     output: &StoredOutput,
@@ -133,24 +136,30 @@ fn last_by_inst(
     None
 }
 
-/// The last move into a place at the points from `first` until `end`.
-fn last_by_move(output: &StoredOutput, first: u64, end: u64, place: u32) -> Option<LastWrite> {
+/// Returns the last move into `place` at the points from `first` until `end`.
+fn last_by_move(
+    output: &StoredOutput,
+    first: ProgPoint,
+    end: ProgPoint,
+    place: u32,
+) -> Option<LastWrite> {
     let mut found = None;
     for (point, source, target) in moves_from(output.edits.as_slice(), first) {
-        if u64::from(*point) >= end {
+        if *point >= end.to_index() {
             break;
         }
-        let is_valid = ProgPoint::is_index(*point) && Allocation::is_bits(*source);
-        if *target == place && is_valid {
-            let from = Allocation::from_bits(*source);
-            found = Some(LastWrite::Move(from, ProgPoint::from_index(*point)));
+        if *target != place {
+            continue;
+        }
+        if let (Some(at), Some(from)) = (point_of(*point), place_of(*source)) {
+            found = Some(LastWrite::Move(from, at));
         }
     }
     found
 }
 
-/// The last write of a place by the instructions from `first` until `end`, and by the moves from
-/// the point before the first one until the point `until`.
+/// Returns the last write of `place` by the instructions from `first` until `end`, and by the moves from the point
+/// before `first` until the point `until`.
 ///
 /// The output's moves are sorted by program point. Linear in the instructions and moves of the range.
 pub(crate) fn last_between(
@@ -158,12 +167,11 @@ pub(crate) fn last_between(
     output: &StoredOutput,
     first: usize,
     end: usize,
-    until: u64,
+    until: ProgPoint,
     place: u32,
 ) -> Option<LastWrite> {
     let by_inst = last_by_inst(function, output, first, end, place);
-    let start = (first as u64).saturating_mul(2);
-    let by_move = last_by_move(output, start, until, place);
+    let by_move = last_by_move(output, point_before(first), until, place);
     match (by_inst, by_move) {
         (Some(inst), Some(moved)) if moved.point() <= inst.point() => Some(inst),
         (inst, None) => inst,

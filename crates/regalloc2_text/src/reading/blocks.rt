@@ -44,7 +44,7 @@ fn vregs<A: Allocator>(alloc: A, cursor: &mut Cursor<'_, '_>) -> Vec<u32, A>
     vregs
 }
 
-/// Reads numbers into a list.
+/// Reads numbers, and adds them to `numbers`.
 fn read_numbers<A: Allocator>(cursor: &mut Cursor<'_, '_>, numbers: &mut Vec<u32, A>)
     ensures { tokens_left cursor.new ≤ tokens_left cursor.old }
 {
@@ -102,7 +102,8 @@ impl<A: Allocator + Copy> DraftBlock<A> {
         block
     }
 
-    /// Reads the successors and the predecessors behind a block's colon in a dump, after the first bracket: `[succs [2, 3] preds [0]]`.
+    /// Reads the successors and the predecessors behind a block's colon in a dump, after the first bracket: `[succs
+    /// [2, 3] preds [0]]`.
     fn read_neighbours(&mut self, alloc: A, cursor: &mut Cursor<'_, '_>) {
         if self.has_succs || self.preds.is_some() {
             cursor.misfit_before("each part once");
@@ -228,7 +229,7 @@ pub(super) struct BlockLists<A: Allocator> {
     pub(super) params_out: Vec<Vec<Vec<u32, A>, A>, A>,
 }
 
-/// Notes that a block is followed by its successors, as far as there are such blocks.
+/// Adds `block` to the predecessors of its successors `succs`, as far as there are such blocks.
 fn add_pred<A: Allocator>(
     cursor: &mut Cursor<'_, '_>,
     preds: &mut Vec<Vec<u32, A>, A>,
@@ -242,7 +243,7 @@ fn add_pred<A: Allocator>(
     }
 }
 
-/// The predecessors of each block, as they follow from the successors.
+/// Returns the predecessors of each of `blocks`, as they follow from the successors.
 fn default_preds<A: Allocator + Copy>(
     alloc: A,
     cursor: &mut Cursor<'_, '_>,
@@ -275,7 +276,7 @@ impl<A: Allocator + Copy> BlockLists<A> {
         lists
     }
 
-    /// Adds a block, whose predecessors take the place of the default ones where its line says them.
+    /// Adds `block`. The predecessors that its line gives replace the default ones.
     fn push(&mut self, cursor: &mut Cursor<'_, '_>, block: DraftBlock<A>) {
         let DraftBlock {
             number,

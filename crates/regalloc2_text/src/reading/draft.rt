@@ -5,7 +5,7 @@ use super::function::DraftFunction;
 use super::insts::opcode_named;
 use super::output::DraftOutput;
 use super::stored::StoredLists;
-use crate::cursor::{Cursor, Expected, Flaw, Token, are_digits};
+use crate::cursor::{Cursor, Expected, Flaw, Token, is_numbered};
 use std::alloc::Allocator;
 
 /// What a line leaves to the lines after it.
@@ -25,14 +25,6 @@ pub(super) struct Draft<A: Allocator> {
     function: DraftFunction<A>,
     output: DraftOutput<A>,
     lists: StoredLists<A>,
-}
-
-/// Whether a word is made of `name` and digits.
-pub(super) fn is_numbered(word: &str, name: &str) -> bool {
-    match word.strip_prefix(name) {
-        Some(digits) => !digits.is_empty() && are_digits(digits.as_bytes()),
-        None => false,
-    }
 }
 
 impl<A: Allocator + Copy> Draft<A> {
@@ -64,7 +56,8 @@ impl<A: Allocator + Copy> Draft<A> {
         cursor.finish_with(effect)
     }
 
-    /// Reads the line of an instruction or of a point, whose first word is one of an instruction and has `sign` behind it.
+    /// Reads the line of an instruction or of a point, whose first word is one of an instruction and has `sign`
+    /// behind it.
     fn read_numbered(&mut self, alloc: A, sign: &str, cursor: &mut Cursor<'_, '_>) -> LineEffect {
         match sign {
             "-" => {
@@ -110,7 +103,7 @@ impl<A: Allocator + Copy> Draft<A> {
         LineEffect::Nothing
     }
 
-    /// Reads what follows the first word of a line that is no block's, instruction's or move's.
+    /// Reads what follows `word`, the first word of a line that is no block's, instruction's or move's.
     fn read_other(&mut self, alloc: A, word: &str, cursor: &mut Cursor<'_, '_>) {
         match word {
             "regs" => self.function.machine.read_preferred(alloc, cursor),

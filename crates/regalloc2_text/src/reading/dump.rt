@@ -3,14 +3,15 @@
 ghost use Rattle.std.specs.Prelude.{◌≤◌};
 
 use crate::cursor::{Cursor, Expected, is_numeral};
-use regalloc2_names::{Allocation, Operand, RegClass};
+use crate::named::{operand_of, place_of};
+use regalloc2_names::{RegClass, SpillSlot};
 use regalloc2_serialize::{InstOpcode, StoredFunction};
 use std::alloc::Allocator;
 
 /// What upstream prints before its results.
 const HEADING: &str = "=== REGALLOC RESULTS ===";
 
-/// What follows the point in the annotation of a point: a line that begins with `inst3-pre: ` or `inst3-post: `.
+/// Returns what follows the point in the annotation `line`, which begins with `inst3-pre: ` or `inst3-post: `.
 fn annotation(line: &str) -> Option<&str> {
     let after = line.trim_start().strip_prefix("inst")?;
     let (number, after) = after.split_once('-')?;
@@ -23,7 +24,8 @@ fn annotation(line: &str) -> Option<&str> {
     }
 }
 
-/// Whether a line says nothing of a function or its allocation: the heading of results, or an annotation that is no move.
+/// Returns whether `line` says nothing of a function or its allocation: the heading of results, or an annotation that
+/// is no move.
 fn is_remark(line: &str) -> bool {
     if line.trim() == HEADING {
         return true;
@@ -34,8 +36,8 @@ fn is_remark(line: &str) -> bool {
     }
 }
 
-/// A line without what a logger writes before it in brackets, and the column at which the rest begins.
-fn split_prefix(line: &str) -> (&str, usize)
+/// Returns `line` without what a logger writes before it in brackets, and the column at which the rest begins.
+pub(crate) fn split_prefix(line: &str) -> (&str, usize)
     ensures { 1 ≤ result.1 }
 {
     let Some(rest) = line.strip_prefix('[') else {
@@ -47,7 +49,7 @@ fn split_prefix(line: &str) -> (&str, usize)
     }
 }
 
-/// The part of a line that is to be read, and its column.
+/// Returns the part of `line` that is to be read, and its column.
 pub(super) fn shown_part(line: &str) -> (&str, usize)
     ensures { 1 ≤ result.1 }
 {
@@ -59,7 +61,7 @@ pub(super) fn shown_part(line: &str) -> (&str, usize)
     }
 }
 
-/// Returns `true` if a text begins with what a logger writes before a line: words in brackets without a brace.
+/// Returns whether `text` begins with what a logger writes before a line: words in brackets without a brace.
 pub fn is_logged(text: &str) -> bool {
     split_prefix(text).1 != 1
 }
@@ -94,20 +96,12 @@ struct SlotRule<'f> {
 impl SlotRule<'_> {
     /// The units that a slot of `class` takes.
     fn units(&self, class: RegClass) -> u64 {
-        let number = match class {
-            RegClass::Int => 0,
-            RegClass::Float => 1,
-            RegClass::Vector => 2,
-        };
-        self.sizes.get(number).copied().unwrap_or(1)
+        self.sizes.get(class.code()).copied().unwrap_or(1)
     }
 
     /// The first unit past the slot of `class` that `place` names; 0 if `place` is no slot.
     fn end_of(&self, place: u32, class: RegClass) -> u64 {
-        if !Allocation::is_bits(place) {
-            return 0;
-        }
-        let Some(slot) = Allocation::from_bits(place).as_stack() else {
+        let Some(slot) = slot_of(place) else {
             return 0;
         };
         let units = if self.is_named_by_last {
@@ -122,16 +116,15 @@ impl SlotRule<'_> {
     fn end_of_operands(&self, operands: &[u64], places: &[u32]) -> u64 {
         let mut end = 0;
         for (bits, place) in operands.iter().zip(places) {
-            if Operand::is_bits(*bits) {
-                let class = Operand::from_bits(*bits).class();
-                end = self.end_of(*place, class).max(end);
+            if let Some(operand) = operand_of(*bits) {
+                end = self.end_of(*place, operand.class()).max(end);
             }
         }
         end
     }
 
-    /// The first unit past each slot that a move in `moves` names. The register at the other end of a move tells the slot's
-    /// class; upstream moves nothing from stack to stack.
+    /// The first unit past each slot that a move in `moves` names. The register at the other end of a move tells the
+    /// slot's class; upstream moves nothing from stack to stack.
     fn end_of_moves(&self, moves: &[(u32, u32, u32)]) -> u64 {
         let mut end = 0;
         for (_, from, to) in moves {
@@ -145,17 +138,19 @@ impl SlotRule<'_> {
     }
 }
 
-/// The class of the register that `place` is, if it is one.
+/// Returns the spill slot that `place` encodes, if it encodes one.
+fn slot_of(place: u32) -> Option<SpillSlot> {
+    place_of(place)?.as_stack()
+}
+
+/// Returns the class of the register that `place` encodes, if it encodes one.
 fn register_class(place: u32) -> Option<RegClass> {
-    if !Allocation::is_bits(place) {
-        return None;
-    }
-    let register = Allocation::from_bits(place).as_reg()?;
+    let register = place_of(place)?.as_reg()?;
     Some(register.class())
 }
 
-/// Returns how many units the frame of a dumped `function` has at least: up to the end of the last slot that `moves` or `places`
-/// name. The places of an instruction begin at its number in `offsets`.
+/// Returns how many units the frame of a dumped `function` has at least: up to the end of the last slot that `moves`
+/// or `places` name. The places of an instruction begin at its number in `offsets`.
 pub(super) fn frame_units<A: Allocator>(
     function: &StoredFunction<A>,
     places: &[u32],

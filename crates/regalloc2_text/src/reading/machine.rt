@@ -4,7 +4,7 @@ ghost use Rattle.std.specs.Prelude.{◌≤◌};
 ghost use Rattle.regalloc2_text.specs.Cursor.Cursor.{tokens_left};
 
 use crate::cursor::{Cursor, class_named};
-use crate::explain::stored::register_of;
+use crate::named::register_of;
 use regalloc2_names::{PReg, RegClass};
 use regalloc2_serialize::StoredMachine;
 use std::alloc::Allocator;
@@ -18,7 +18,7 @@ pub(super) struct ByClass<T> {
 }
 
 impl<T> ByClass<T> {
-    /// A value of each class, given in the order of the classes.
+    /// A value of each class: `int`, `float` and `vector`.
     pub(super) fn new(int: T, float: T, vector: T) -> Self {
         ByClass { int, float, vector }
     }
@@ -54,10 +54,7 @@ pub(super) struct Span {
 
 /// The class of the register of `index`, if the index is valid.
 fn class_of(index: u8) -> Option<RegClass> {
-    match register_of(index) {
-        Some(register) => Some(register.class()),
-        None => None,
-    }
+    register_of(index).map(|register| register.class())
 }
 
 /// A register or neighbours, for the list of `class` or else of their own.
@@ -105,7 +102,7 @@ fn read_span_list<A: Allocator>(
     spans
 }
 
-/// Adds the registers of a span.
+/// Adds the registers of `span` to `list`.
 fn push_span<A: Allocator>(cursor: &mut Cursor<'_, '_>, list: &mut Vec<u8, A>, span: Span)
     ensures { tokens_left cursor.new ≤ tokens_left cursor.old }
 {
@@ -114,7 +111,7 @@ fn push_span<A: Allocator>(cursor: &mut Cursor<'_, '_>, list: &mut Vec<u8, A>, s
     }
 }
 
-/// Reads registers, or `none`, and adds their indexes to a list.
+/// Reads registers, or `none`, and adds their indexes to `list`.
 pub(super) fn read_registers<A: Allocator>(
     alloc: A,
     cursor: &mut Cursor<'_, '_>,
@@ -128,7 +125,7 @@ pub(super) fn read_registers<A: Allocator>(
     }
 }
 
-/// Adds the registers of spans to the lists of their classes.
+/// Adds the registers of `spans` to the lists of their classes.
 fn push_spans<A: Allocator>(
     cursor: &mut Cursor<'_, '_>,
     lists: &mut ByClass<Vec<u8, A>>,

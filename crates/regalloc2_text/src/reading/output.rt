@@ -3,7 +3,9 @@
 use super::dump::frame_units;
 use super::settings::first_of_kind;
 use crate::cursor::{Cursor, Expected, Flaw, Found};
+use crate::named::point_at;
 use regalloc2_function::StoredOutput;
+use regalloc2_names::InstPosition;
 use regalloc2_serialize::StoredFunction;
 use std::alloc::Allocator;
 
@@ -24,10 +26,10 @@ pub(super) struct DraftOutput<A: Allocator> {
     debug_locations: Vec<(u32, u32, u32, u32), A>,
 }
 
-/// The number of the point before the instruction `inst`.
+/// Returns the number of the point before instruction `inst`.
 fn before_inst(cursor: &mut Cursor<'_, '_>, inst: u32) -> u32 {
-    match inst.checked_mul(2) {
-        Some(point) => point,
+    match point_at(inst as usize, InstPosition::Before) {
+        Some(point) => point.to_index(),
         None => {
             cursor.misfit(TOO_MANY);
             0
@@ -56,7 +58,7 @@ impl<A: Allocator + Copy> DraftOutput<A> {
         }
     }
 
-    /// Adds the places of the next instruction, after all of its line is read.
+    /// Adds `places`, the places of the next instruction, after all of its line is read.
     pub(super) fn add_places(&mut self, places: &[u32], cursor: &mut Cursor<'_, '_>) {
         let offset = self.allocs.len();
         if offset > u32::MAX as usize {
@@ -70,8 +72,8 @@ impl<A: Allocator + Copy> DraftOutput<A> {
         cursor.extend(&mut self.allocs, places);
     }
 
-    /// Notes that an instruction is as in a dump: unless a line gives the number of slots, the frame ends with the last slot that
-    /// the output names.
+    /// Notes that an instruction is as in a dump: unless a line gives the number of slots, the frame ends with the
+    /// last slot that the output names.
     pub(super) fn note_dump(&mut self) {
         self.is_dump = true;
     }
@@ -118,8 +120,8 @@ impl<A: Allocator + Copy> DraftOutput<A> {
         cursor.push(&mut self.debug_locations, (label, from, until, place));
     }
 
-    /// The output of `function`, if lines say something of it, with `stored_allocs` and `stored_offsets` in place of its own
-    /// lists.
+    /// The output of `function`, if lines say something of it, with `stored_allocs` and `stored_offsets` in place of
+    /// its own lists.
     pub(super) fn finish(
         self,
         function: &StoredFunction<A>,

@@ -30,7 +30,7 @@ pub(super) struct Settings {
     pub(super) flags: Option<Flags>,
 }
 
-/// Notes a flaw where the line that `cursor` has read the first word of is not the first of its kind.
+/// Notes a flaw if `is_second`: the line, whose first word, `word`, is read, has to be the first of its kind.
 pub(super) fn first_of_kind(cursor: &mut Cursor<'_, '_>, is_second: bool, word: &'static str)
     ensures { tokens_left cursor.new ≤ tokens_left cursor.old }
 {
@@ -39,7 +39,7 @@ pub(super) fn first_of_kind(cursor: &mut Cursor<'_, '_>, is_second: bool, word: 
     }
 }
 
-/// Reads the size of a slot for values of a class.
+/// Reads the size of a slot for a class into `sizes`.
 fn read_size(cursor: &mut Cursor<'_, '_>, sizes: &mut ByClass<u64>)
     ensures { tokens_left cursor.new ≤ tokens_left cursor.old }
 {
@@ -52,7 +52,7 @@ fn read_size(cursor: &mut Cursor<'_, '_>, sizes: &mut ByClass<u64>)
     }
 }
 
-/// Reads a flag.
+/// Reads a flag into `flags`.
 fn read_flag(cursor: &mut Cursor<'_, '_>, flags: &mut Flags)
     ensures { tokens_left cursor.new ≤ tokens_left cursor.old }
 {

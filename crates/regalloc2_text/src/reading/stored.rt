@@ -75,7 +75,7 @@ pub(super) struct StoredLists<A: Allocator> {
     pub(super) inst_alloc_offsets: Option<Vec<u32, A>>,
 }
 
-/// Puts what was read in the place of a list.
+/// Replaces `list` by `stored`, if it was read.
 pub(super) fn put<T: Drop>(list: &mut T, stored: Option<T>) {
     if let Some(stored) = stored {
         *list = stored;

@@ -2,18 +2,16 @@
 
 ghost use Rattle.std.specs.Prelude.{◌<◌, IfSome, length};
 
-use crate::spell::StoredPlace;
-use crate::writer::page::Page;
+use crate::named::{point_at, point_of};
+use crate::spell::{MoveText, StoredMove, StoredPoint};
+use regalloc2_names::InstPosition;
 use std::fmt;
 
-/// A stored move: a point, the place that is read, and the place that is written.
-pub(crate) type Move = (u32, u32, u32);
-
-/// Returns whether points never fall, and are points of the first `insts` instructions.
-pub(crate) fn run_in_order(moves: &[Move], insts: usize) -> bool {
+/// Returns whether the points of `moves` never fall, and are points of the first `insts` instructions.
+pub(crate) fn run_in_order(moves: &[StoredMove], insts: usize) -> bool {
     let mut before = 0;
     for (point, _, _) in moves {
-        if *point < before || (*point >> 1) as usize >= insts {
+        if *point < before || !is_point_below(*point, insts) {
             return false;
         }
         before = *point;
@@ -21,50 +19,51 @@ pub(crate) fn run_in_order(moves: &[Move], insts: usize) -> bool {
     true
 }
 
-/// Writes the places of a move.
-pub(crate) fn write_move<W: fmt::Write>(from: u32, into: u32, to: &mut Page<'_, W>) {
-    to.put(&format_args!("move {} -> {}", StoredPlace(from), StoredPlace(into)));
+/// Returns whether `point` is the number of a point of one of the first `insts` instructions.
+fn is_point_below(point: u32, insts: usize) -> bool {
+    match point_of(point) {
+        Some(point) => point.inst().index() < insts,
+        None => false,
+    }
 }
 
 /// Moves that are still to be written, each beside its instruction.
 #[derive(Drop)]
 pub(crate) struct Moves<'a> {
-    rest: &'a [Move],
+    rest: &'a [StoredMove],
 }
 
 impl<'a> Moves<'a> {
-    /// The moves that stand beside their instructions.
-    pub(crate) fn new(moves: &'a [Move]) -> Moves<'a> {
+    /// The moves `moves`, which stand beside their instructions.
+    pub(crate) fn new(moves: &'a [StoredMove]) -> Moves<'a> {
         Moves { rest: moves }
     }
 
-    /// Takes the next move, where it is before an instruction, or after it.
-    fn next_at(&mut self, inst: usize, is_after: bool) -> Option<Move>
+    /// Takes the next move, if it is at `pos` of `inst`.
+    fn next_at(&mut self, inst: usize, pos: InstPosition) -> Option<StoredMove>
         ensures { IfSome result (λ m. length self.new.rest.now < length self.old.rest.now) }
     {
         let (first, rest) = self.rest.split_first()?;
-        if (first.0 >> 1) as usize != inst || (first.0 & 1 == 1) != is_after {
+        if point_of(first.0)? != point_at(inst, pos)? {
             return None;
         }
         self.rest = rest;
         Some(*first)
     }
 
-    /// Writes the next moves that are before an instruction.
-    pub(crate) fn write_before<W: fmt::Write>(&mut self, inst: usize, to: &mut Page<'_, W>) {
-        while let Some((_, from, into)) = self.next_at(inst, false) {
-            to.words("  ");
-            write_move(from, into, to);
-            to.words("\n");
+    /// Writes the next moves that are before `inst`.
+    pub(crate) fn write_before<W: fmt::Write>(&mut self, inst: usize, to: &mut W) -> fmt::Result {
+        while let Some((_, from, into)) = self.next_at(inst, InstPosition::Before) {
+            writeln!(to, "  {}", MoveText(from, into))?;
         }
+        Ok(())
     }
 
-    /// Writes the next moves that are after an instruction, each with its point.
-    pub(crate) fn write_after<W: fmt::Write>(&mut self, inst: usize, to: &mut Page<'_, W>) {
-        while let Some((_, from, into)) = self.next_at(inst, true) {
-            to.words("  ");
-            write_move(from, into, to);
-            to.put(&format_args!(" at inst{inst}-post\n"));
+    /// Writes the next moves that are after `inst`, each with its point.
+    pub(crate) fn write_after<W: fmt::Write>(&mut self, inst: usize, to: &mut W) -> fmt::Result {
+        while let Some((point, from, into)) = self.next_at(inst, InstPosition::After) {
+            writeln!(to, "  {} at {}", MoveText(from, into), StoredPoint(point))?;
         }
+        Ok(())
     }
 }

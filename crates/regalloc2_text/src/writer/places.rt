@@ -1,9 +1,9 @@
 //! An output's places by instruction, and its own lines.
 
 use super::machine::write_stored;
-use super::moves::{Moves, run_in_order, write_move};
-use crate::spell::{StoredPlace, StoredPoint};
-use crate::writer::page::Page;
+use super::moves::{Moves, run_in_order};
+use crate::named::places_at;
+use crate::spell::{MoveText, StoredPlace, StoredPoint};
 use regalloc2_function::StoredOutput;
 use std::alloc::Allocator;
 use std::fmt;
@@ -16,7 +16,8 @@ pub(crate) struct Places<'a> {
     offsets: &'a [u32],
 }
 
-/// Whether offsets are one for each instruction, begin at 0, and never fall or pass the places.
+/// Returns whether `offsets` are one for each of `insts` instructions, begin at 0, and never fall or pass `places`,
+/// the count of places.
 fn are_offsets(offsets: &[u32], insts: usize, places: usize) -> bool {
     if offsets.len() != insts || offsets.first().copied().unwrap_or(0) != 0 {
         return false;
@@ -40,16 +41,9 @@ impl<'a> Places<'a> {
         }
     }
 
-    /// An instruction's places.
+    /// Returns the places of `inst`.
     pub(crate) fn of(self, inst: usize) -> &'a [u32] {
-        let Some(start) = self.offsets.get(inst) else {
-            return &[];
-        };
-        let end = match self.offsets.get(inst.saturating_add(1)) {
-            Some(next) => *next as usize,
-            None => self.places.len(),
-        };
-        self.places.get(*start as usize..end).unwrap_or(&[])
+        places_at(self.places, self.offsets, inst)
     }
 }
 
@@ -62,8 +56,10 @@ pub(crate) struct ShownOutput<'a, A: Allocator> {
 }
 
 impl<'a, A: Allocator + Copy> ShownOutput<'a, A> {
-    /// An output of `insts` instructions, if there is one. Its places are written beside the instructions if the offsets are
-    /// in order, its moves if the points are in order.
+    /// Returns `output`, of `insts` instructions, if there is one.
+    ///
+    /// Its places are written beside the instructions if the offsets are in order, its moves if the points are in
+    /// order.
     pub(crate) fn of(
         output: Option<&'a StoredOutput<A>>,
         insts: usize,
@@ -98,36 +94,37 @@ impl<'a, A: Allocator + Copy> ShownOutput<'a, A> {
     }
 
     /// Writes the moves that don't stand beside their instructions, each with its point.
-    fn write_moves<W: fmt::Write>(&self, to: &mut Page<'_, W>) {
+    fn write_moves<W: fmt::Write>(&self, to: &mut W) -> fmt::Result {
         if self.has_moves {
-            return;
+            return Ok(());
         }
         for (point, from, into) in &self.output.edits {
-            write_move(*from, *into, to);
-            to.put(&format_args!(" at {}\n", StoredPoint(*point)));
+            writeln!(to, "{} at {}", MoveText(*from, *into), StoredPoint(*point))?;
         }
+        Ok(())
     }
 
     /// Writes the places that don't stand beside their instructions.
-    fn write_places<W: fmt::Write>(&self, to: &mut Page<'_, W>) {
+    fn write_places<W: fmt::Write>(&self, to: &mut W) -> fmt::Result {
         if self.has_places {
-            return;
+            return Ok(());
         }
-        write_stored("allocs", &self.output.allocs, to);
-        write_stored("inst_alloc_offsets", &self.output.inst_alloc_offsets, to);
+        write_stored("allocs", &self.output.allocs, to)?;
+        write_stored("inst_alloc_offsets", &self.output.inst_alloc_offsets, to)
     }
 
     /// Writes an output's own lines: the size of the slots, what doesn't stand beside the instructions, and the debug
     /// locations.
-    pub(crate) fn write<W: fmt::Write>(&self, to: &mut Page<'_, W>) {
+    pub(crate) fn write<W: fmt::Write>(&self, to: &mut W) -> fmt::Result {
         let slots = self.output.num_spillslots;
-        to.put(&format_args!("slots {slots}\n"));
-        self.write_moves(to);
-        self.write_places(to);
+        writeln!(to, "slots {slots}")?;
+        self.write_moves(to)?;
+        self.write_places(to)?;
         for (label, from, until, place) in &self.output.debug_locations {
             let (from, until) = (StoredPoint(*from), StoredPoint(*until));
             let place = StoredPlace(*place);
-            to.put(&format_args!("debug {label} {from} {until} {place}\n"));
+            writeln!(to, "debug {label} {from} {until} {place}")?;
         }
+        Ok(())
     }
 }

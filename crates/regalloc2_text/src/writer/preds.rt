@@ -13,7 +13,7 @@ impl Following {
         self.0 == Some(preds.len())
     }
 
-    /// Meets a predecessor.
+    /// Meets the predecessor `pred`, of the list `preds`.
     fn meet(self, preds: &[u32], pred: usize) -> Following {
         let Some(met) = self.0 else {
             return self;
@@ -25,7 +25,7 @@ impl Following {
     }
 }
 
-/// Meets a block as the predecessor of each of its successors.
+/// Meets `block` as the predecessor of each of its successors, `targets`.
 fn meet_all<A: Allocator>(
     preds: &[Vec<u32, A>],
     following: &mut [Following],
@@ -40,8 +40,9 @@ fn meet_all<A: Allocator>(
     }
 }
 
-/// For each list of predecessors how far it follows from the successors. The whole list follows if it has each block, by
-/// rising number, once for each edge from that block. Linear in both.
+/// Returns for each list of `preds` how far it follows from the successors, `succs`. Linear in both.
+///
+/// The whole list follows if it has each block, by rising number, once for each edge from that block.
 pub(crate) fn follow<A: Allocator>(
     alloc: A,
     preds: &[Vec<u32, A>],

@@ -2,63 +2,51 @@
 
 ghost use Rattle.std.specs.Prelude.{◌<◌, ◌≤◌, length};
 
-use crate::explain::stored::{class_number, register_of};
+use crate::explain::stored::ClassName;
+use crate::named::{is_register_of, register_of};
 use crate::spell::StoredRegister;
-use crate::writer::page::Page;
+use regalloc2_names::RegClass;
 use std::fmt;
 
-/// What stands before an item of a list.
-pub(crate) fn separator(index: usize) -> &'static str {
+/// Returns what stands before the item `index` of a list.
+fn separator(index: usize) -> &'static str {
     if index == 0 { "" } else { ", " }
 }
 
-/// Writes items as `show` shows them, with commas between.
+/// Writes `items` as `show` shows them, with commas between.
 pub(crate) fn write_list<T: Copy, D: fmt::Display + Drop, F: Fn(T) -> D + Drop, W: fmt::Write>(
     items: &[T],
     show: F,
-    to: &mut Page<'_, W>,
-)
+    to: &mut W,
+) -> fmt::Result
     requires { F.IsAlwaysCallable show }
 {
     for (k, item) in items.iter().enumerate() {
         let before = separator(k);
         let text = show(*item);
-        to.put(&format_args!("{before}{text}"));
+        write!(to, "{before}{text}")?;
     }
+    Ok(())
 }
 
-/// Returns whether the register of `index` is of the class with the number `class`.
-fn is_of_class(index: u8, class: usize) -> bool {
-    match register_of(index) {
-        Some(register) => class_number(register.class()) == class,
-        None => false,
-    }
+/// Returns whether `registers` are indexes of registers of `class`.
+fn are_of_class(registers: &[u8], class: RegClass) -> bool {
+    registers.iter().all(|index| is_register_of(*index, class))
 }
 
-/// Returns whether all registers are of the class with the number `class`.
-fn are_of_class(registers: &[u8], class: usize) -> bool {
-    for index in registers {
-        if !is_of_class(*index, class) {
-            return false;
-        }
-    }
-    true
-}
-
-/// Writes the name of a class and a space, where a register isn't of it.
-pub(crate) fn write_class<W: fmt::Write>(class: usize, registers: &[u8], to: &mut Page<'_, W>) {
+/// Writes the name of `class` and a space, if one of `registers` isn't of the class.
+pub(crate) fn write_class<W: fmt::Write>(
+    class: RegClass,
+    registers: &[u8],
+    to: &mut W,
+) -> fmt::Result {
     if are_of_class(registers, class) {
-        return;
+        return Ok(());
     }
-    match class {
-        0 => to.words("int "),
-        1 => to.words("float "),
-        _ => to.words("vector "),
-    }
+    write!(to, "{} ", ClassName(class))
 }
 
-/// Returns whether `next` is the index of the register with the next number in the class of the
-/// register of `index`.
+/// Returns whether `next` is the index of the register with the next number in the class of the register of `index`.
 fn is_neighbour(index: u8, next: u8) -> bool {
     match (register_of(index), register_of(next)) {
         (Some(register), Some(next)) => {
@@ -68,7 +56,7 @@ fn is_neighbour(index: u8, next: u8) -> bool {
     }
 }
 
-/// Where the neighbours that follow a register end: the index of the last one.
+/// Returns the position of the last of the neighbours that follow the register at `first` of `registers`.
 fn last_neighbour(registers: &[u8], first: usize) -> usize
     requires { first < length registers.now }
     ensures from { first ≤ result }
@@ -81,7 +69,7 @@ fn last_neighbour(registers: &[u8], first: usize) -> usize
     last
 }
 
-/// Where a span that begins with a register ends: three neighbours or more are one.
+/// Returns where a span that begins at `first` of `registers` ends: three neighbours or more are one.
 fn span_end(registers: &[u8], first: usize) -> usize
     requires { first < length registers.now }
     ensures from { first ≤ result }
@@ -91,20 +79,20 @@ fn span_end(registers: &[u8], first: usize) -> usize
     if last - first < 2 { first } else { last }
 }
 
-/// Writes registers, three neighbours or more as a span, or `none`.
-pub(crate) fn write_registers<W: fmt::Write>(registers: &[u8], to: &mut Page<'_, W>) {
+/// Writes `registers`, three neighbours or more as a span, or `none`.
+pub(crate) fn write_registers<W: fmt::Write>(registers: &[u8], to: &mut W) -> fmt::Result {
     if registers.is_empty() {
-        to.words("none");
-        return;
+        return write!(to, "none");
     }
     let mut first = 0;
     while first < registers.len() {
         let last = span_end(registers, first);
         let before = separator(first);
-        to.put(&format_args!("{before}{}", StoredRegister(registers[first])));
+        write!(to, "{before}{}", StoredRegister(registers[first]))?;
         if first < last {
-            to.put(&format_args!("..{}", StoredRegister(registers[last])));
+            write!(to, "..{}", StoredRegister(registers[last]))?;
         }
         first = last + 1;
     }
+    Ok(())
 }

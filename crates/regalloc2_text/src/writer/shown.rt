@@ -1,6 +1,7 @@
 //! What of a function is shown line by line.
 
 use super::preds::{Following, follow};
+use crate::named::list_at;
 use crate::spell::{StoredOperand, StoredVReg};
 use regalloc2_serialize::{StoredFunction, StoredInst};
 use std::alloc::{AllocError, Allocator};
@@ -24,7 +25,7 @@ pub(crate) struct Shown<'a, A: Allocator> {
     pub is_in_line: bool,
 }
 
-/// Returns whether each block that is in both lists has a list of arguments for each successor.
+/// Returns whether each block that is in both `succs` and `params_out` has a list of arguments for each successor.
 fn agree<A: Allocator>(succs: &[Vec<u32, A>], params_out: &[Vec<Vec<u32, A>, A>]) -> bool {
     for k in 0..succs.len().min(params_out.len()) {
         if succs[k].len() != params_out[k].len() {
@@ -34,7 +35,7 @@ fn agree<A: Allocator>(succs: &[Vec<u32, A>], params_out: &[Vec<Vec<u32, A>, A>]
     true
 }
 
-/// Whether some list has items.
+/// Returns whether one of `lists` has items.
 pub(crate) fn have_items<T, A: Allocator>(lists: &[Vec<T, A>]) -> bool {
     for list in lists {
         if !list.is_empty() {
@@ -44,7 +45,8 @@ pub(crate) fn have_items<T, A: Allocator>(lists: &[Vec<T, A>]) -> bool {
     false
 }
 
-/// Whether successors and arguments, of which at least one has an item for each block, can't be shown together.
+/// Returns whether the successors and arguments of `function`, of which at least one has an item for each block,
+/// can't be shown together.
 pub(crate) fn targets_disagree<A: Allocator>(function: &StoredFunction<A>) -> bool {
     let blocks = function.blocks.len();
     let succs = function.block_succs.as_slice();
@@ -57,7 +59,8 @@ pub(crate) fn targets_disagree<A: Allocator>(function: &StoredFunction<A>) -> bo
     }
 }
 
-/// Whether each block begins where the one before ends, from the first instruction to the last.
+/// Returns whether each of `blocks` begins where the block before it ends, from the first of `insts` instructions to
+/// the last.
 fn blocks_follow(blocks: &[(u32, u32)], insts: usize) -> bool {
     let mut end = 0;
     for (first, past) in blocks {
@@ -69,7 +72,7 @@ fn blocks_follow(blocks: &[(u32, u32)], insts: usize) -> bool {
     !blocks.is_empty() && end as usize == insts
 }
 
-/// The list if it has an item for each block, else an empty list.
+/// Returns `list` if it has an item for each of `blocks` blocks, else an empty list.
 fn by_block<T>(list: &[T], blocks: usize) -> &[T] {
     if list.len() == blocks {
         list
@@ -78,16 +81,8 @@ fn by_block<T>(list: &[T], blocks: usize) -> &[T] {
     }
 }
 
-/// The list at `index`, or an empty list if there is none.
-pub(crate) fn list_at<T, A: Allocator>(lists: &[Vec<T, A>], index: usize) -> &[T] {
-    match lists.get(index) {
-        Some(list) => list.as_slice(),
-        None => &[],
-    }
-}
-
 impl<'a, A: Allocator + Copy> Shown<'a, A> {
-    /// What of a function is shown line by line. Linear in the function.
+    /// Returns what of `function` is shown line by line. Linear in the function.
     ///
     /// An error means out of memory.
     pub(crate) fn of(
@@ -113,12 +108,12 @@ impl<'a, A: Allocator + Copy> Shown<'a, A> {
         })
     }
 
-    /// The successors of a block, and the arguments for each.
+    /// Returns the successors of `block`, and the arguments for each.
     pub(crate) fn targets(&self, block: usize) -> (&'a [u32], &'a [Vec<u32, A>]) {
         (list_at(self.succs, block), list_at(self.params_out, block))
     }
 
-    /// The predecessors of a block, where they don't follow from the successors.
+    /// Returns the predecessors of `block`, if they don't follow from the successors.
     pub(crate) fn odd_preds(&self, block: usize) -> Option<&'a [u32]> {
         let preds = self.preds.get(block)?.as_slice();
         match self.following.get(block) {
@@ -139,16 +134,13 @@ impl<'a, A: Allocator + Copy> Shown<'a, A> {
     }
 }
 
-/// One more than the greatest vreg number that the encodings show; 0 if they show none.
+/// Returns one more than the greatest vreg number that `words` show; 0 if they show none.
 fn count_in_words(words: &[u32]) -> u64 {
-    let mut count = 0;
-    for bits in words {
-        count = count.max(StoredVReg(*bits).vregs());
-    }
-    count
+    let counts = words.iter().map(|bits| StoredVReg(*bits).vregs());
+    counts.max().unwrap_or(0)
 }
 
-/// One more than the greatest vreg number in lists of encodings; 0 if they show none.
+/// Returns one more than the greatest vreg number that the words of `lists` show; 0 if they show none.
 fn count_in_lists<A: Allocator>(lists: &[Vec<u32, A>]) -> u64 {
     let mut count = 0;
     for words in lists {
@@ -157,7 +149,8 @@ fn count_in_lists<A: Allocator>(lists: &[Vec<u32, A>]) -> u64 {
     count
 }
 
-/// One more than the greatest vreg number in the arguments of all blocks; 0 if they show none.
+/// Returns one more than the greatest vreg number that `params_out`, the arguments of all blocks, show; 0 if they
+/// show none.
 fn count_in_arguments<A: Allocator>(params_out: &[Vec<Vec<u32, A>, A>]) -> u64 {
     let mut count = 0;
     for lists in params_out {
@@ -166,25 +159,19 @@ fn count_in_arguments<A: Allocator>(params_out: &[Vec<Vec<u32, A>, A>]) -> u64 {
     count
 }
 
-/// One more than the greatest vreg number in labels; 0 if they show none.
+/// Returns one more than the greatest vreg number that `labels` show; 0 if they show none.
 fn count_in_labels(labels: &[(u32, u32, u32, u32)]) -> u64 {
-    let mut count = 0;
-    for label in labels {
-        count = count.max(StoredVReg(label.0).vregs());
-    }
-    count
+    let counts = labels.iter().map(|label| StoredVReg(label.0).vregs());
+    counts.max().unwrap_or(0)
 }
 
-/// One more than the greatest vreg number in operands; 0 if they show none.
+/// Returns one more than the greatest vreg number that `operands` show; 0 if they show none.
 fn count_in_operands(operands: &[u64]) -> u64 {
-    let mut count = 0;
-    for bits in operands {
-        count = count.max(StoredOperand(*bits).vregs());
-    }
-    count
+    let counts = operands.iter().map(|bits| StoredOperand(*bits).vregs());
+    counts.max().unwrap_or(0)
 }
 
-/// One more than the greatest vreg number in the operands of all instructions; 0 if they show none.
+/// Returns one more than the greatest vreg number that the operands of `insts` show; 0 if they show none.
 fn count_in_insts<A: Allocator>(insts: &[StoredInst<A>]) -> u64 {
     let mut count = 0;
     for inst in insts {

@@ -67,7 +67,8 @@ pub record TextNamesFitting (A : Type 0) (bytes : Option (List ℕ)) (f : Functi
   pub named : TextNamesFunction A bytes f env
   pub fits : MachineFits f env
 
--- why the bytes name no function with a machine that fits it; any bytes may be unreadable, because a read may fail or memory may run out
+-- why the bytes name no function with a machine that fits it; any bytes may be unreadable, because a read may fail or
+-- memory may run out
 abbrev pub IsInputFault : (A : Type 0) → Option (List ℕ) → InputError → Type 0
 IsInputFault A bytes Unreadable = Unit {0}
 IsInputFault A bytes (BadFunction fault) = (s : StoredFunction A) × IsTextOf bytes s × IsFaultOf s fault
@@ -75,7 +76,8 @@ IsInputFault A bytes BadMachine = (f : FunctionValue) × (env : MachineValue) ×
 IsInputFault A bytes (BadOutput fault) = ⊥
 IsInputFault A bytes NotFramed = ⊥
 
--- the bytes, if they are known, are a JSON text of an array of exactly the stored numbers of a function and of an output
+-- the bytes, if they are known, are a JSON text of an array of exactly the stored numbers of a function and of an
+-- output
 abbrev pub IsTextOfPair : {A : Type 0} → Option (List ℕ) → StoredFunction A → StoredOutput A → Type 0
 IsTextOfPair bytes s o = IfSome bytes (λ text. (d : Data) × (read text ≡ Some d) × IsPairAt d s o)
 
@@ -95,7 +97,8 @@ pub record AreGiven (A : Type 0) (bytes : Option (List ℕ)) (f : FunctionValue)
   pub named : TextNamesOutput A bytes f env out
   pub framed : IsFramed f
 
--- why the bytes name no output of a structurally valid function; any bytes may be unreadable, because a read may fail or memory may run out
+-- why the bytes name no output of a structurally valid function; any bytes may be unreadable, because a read may fail
+-- or memory may run out
 abbrev pub IsPairFault : (A : Type 0) → Option (List ℕ) → InputError → Type 0
 IsPairFault A bytes Unreadable = Unit {0}
 IsPairFault A bytes (BadFunction fault) = (s : StoredFunction A) × (o : StoredOutput A) × IsTextOfPair bytes s o × IsFaultOf s fault

@@ -31,8 +31,8 @@ IsAnswerWritten Check f env out IsWritten = IsFaithful f env out × IsWritten (l
 abbrev pub IsDone : Task → FunctionValue → MachineValue → (List ℕ → Type 0) → Type 0
 IsDone task f env IsWritten = (out : OutputValue) × IsWellFormedAllocation f env out × IsAnswerWritten task f env out IsWritten
 
--- the task fails: the function is rejected, for a reason, and the reason's line is written; or there is an allocation that the checker doesn't accept, and
--- the listing and the checker's findings are written
+-- the task fails: the function is rejected, for a reason, and the reason's line is written; or there is an allocation
+-- that the checker doesn't accept, and the listing and the checker's findings are written
 pub data IsTurnedDown (A : Type 0) (task : Task) (f : FunctionValue) (env : MachineValue) (IsWritten : List ℕ → Type 0) : Type 0 where
   refused : (e : RegAllocError) → IsReason f env true e → IsWritten (refusal_line e) → IsTurnedDown A task f env IsWritten
   unaccepted : (out : OutputValue) → IsWellFormedAllocation f env out → task ≡ Check →
@@ -44,7 +44,8 @@ abbrev pub IsOutcome : (A : Type 0) → Task → FunctionValue → MachineValue 
 IsOutcome A task f env IsWritten true = IsDone task f env IsWritten
 IsOutcome A task f env IsWritten false = IsTurnedDown A task f env IsWritten
 
--- the outcome of a command for the function and the machine that the bytes name, and for the output if one is to be checked
+-- the outcome of a command for the function and the machine that the bytes name, and for the output if one is to be
+-- checked
 abbrev pub HasOutcome : (A : Type 0) → Option (List ℕ) → Command → (List ℕ → Type 0) → Bool → Type 0
 HasOutcome A bytes (Allocate task) IsWritten accepted = (f : FunctionValue) × (env : MachineValue) × TextNamesFitting A bytes f env
     × IsOutcome A task f env IsWritten accepted

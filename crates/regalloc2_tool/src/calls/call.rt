@@ -73,8 +73,8 @@ pub enum Call {
 }
 
 impl Call {
-    /// The call that a word names: `run`, `check`, `replay`, `allocated`, `text`, `svg`, `reads`, `stats`, `stats_json`,
-    /// `dump` or `diff`.
+    /// Returns the call that `word` names: `run`, `check`, `replay`, `allocated`, `text`, `svg`, `reads`, `stats`,
+    /// `stats_json`, `dump` or `diff`.
     pub fn named(word: &str) -> Option<Call> {
         match word {
             "run" => Some(Call::Run),
@@ -170,7 +170,7 @@ pub enum Verdict {
 }
 
 impl Verdict {
-    /// The verdict that nothing is found, or that something is.
+    /// Returns the verdict that nothing is found if `is_accepted`, else that something is.
     fn of(is_accepted: bool) -> Verdict
         ensures { result ≡ Verdict.Accepted → is_accepted ≡ true }
     {
@@ -197,7 +197,7 @@ impl fmt::Display for RefusalHead {
     }
 }
 
-/// Writes why the allocator rejects a function.
+/// Writes why the allocator rejects the function of `given` with `error`.
 fn write_refusal<E: Write>(
     error: RegAllocError,
     given: &Given<'_, '_, '_>,
@@ -216,7 +216,7 @@ fn write_refusal<E: Write>(
     Ok(())
 }
 
-/// Writes the line of the text that contains the part of the function at `site`, if there is one.
+/// Writes the line of the text `source` that contains the part of the function at `site`, if there is one.
 fn write_site<W: Write>(site: Site, source: &Source<'_>, to: &mut W) -> Result<(), CallError> {
     if let Some(line) = source.find(site) {
         writeln!(to, "  {line}")?;
@@ -236,7 +236,7 @@ fn write_fault_site<W: Write>(
     }
 }
 
-/// The instruction, operand and place that a finding names, if it names them.
+/// Returns the instruction, operand and place that the finding `error` names, if it names an operand.
 fn place_found(error: &CheckerError) -> Option<(Inst, Operand, Option<Allocation>)> {
     match error {
         CheckerError::MissingAllocation { inst, op } => Some((*inst, *op, None)),
@@ -258,15 +258,15 @@ fn place_found(error: &CheckerError) -> Option<(Inst, Operand, Option<Allocation
     }
 }
 
-/// The index of the first operand of `inst` that equals `operand`.
+/// Returns the index of the first operand of `inst` that equals `operand`.
 fn operand_index(function: &StoredFunction, inst: Inst, operand: Operand) -> Option<usize> {
     let data = function.insts.get(inst.index())?;
     let bits = operand.bits();
     data.operands.iter().position(|other| *other == bits)
 }
 
-/// Writes the line of the operand that a finding names and, if the operand reads another value,
-/// what wrote its place last.
+/// Writes the line of the operand that the finding `error` names and, if the operand reads another value, what wrote
+/// its place last.
 fn explain_finding<W: Write>(
     alloc: Global,
     error: &CheckerError,
@@ -293,7 +293,7 @@ fn explain_finding<W: Write>(
     Ok(())
 }
 
-/// Writes a path on which a vreg is read or passed before it is written.
+/// Writes a path of `function` on which a vreg is read or passed before it is written.
 fn write_path<W: Write>(
     alloc: Global,
     function: &StoredFunction,
@@ -307,9 +307,11 @@ fn write_path<W: Write>(
     write_site(read.site, source, to)
 }
 
-/// Writes a line for each error, unless it is a failed memory allocation, and explains the first
-/// errors if there is a text. If the output is the allocator's own, a path follows on which a vreg is
-/// read or passed before it is written. The output isn't accepted.
+/// Writes a line for each of `errors`, unless it is a failed memory allocation, and explains the first ones if there
+/// is a text.
+///
+/// If the output is the allocator's own, a path follows on which a vreg is read or passed before it is written.
+/// Returns `false`: the output isn't accepted.
 fn write_findings<W: Write>(
     alloc: Global,
     errors: &[CheckerError],
@@ -333,8 +335,7 @@ fn write_findings<W: Write>(
     Ok(false)
 }
 
-/// Writes `checked`, or the first error in an output's places as cells. Returns whether there is
-/// none.
+/// Writes `checked`, or the first error in the places of `output` as cells. Returns whether there is none.
 fn judge_cells<F: Function, W: Write>(
     alloc: Global,
     f: &F,
@@ -358,8 +359,8 @@ fn judge_cells<F: Function, W: Write>(
     }
 }
 
-/// Writes `checked`, or the errors that the checker finds in an output, or else the first error in
-/// its places as cells. Returns whether there are none.
+/// Writes `checked`, or the errors that the checker finds in `output`, or else the first error in its places as
+/// cells. Returns whether there are none.
 fn judge<F: Function, W: Write>(
     alloc: Global,
     f: &F,
@@ -384,7 +385,7 @@ fn judge<F: Function, W: Write>(
     }
 }
 
-/// Checks an output, if the function is structurally valid.
+/// Checks `output`, if `f` is structurally valid.
 fn judge_framed<F: Function, W: Write, E: Write>(
     alloc: Global,
     f: &F,
@@ -404,8 +405,7 @@ fn judge_framed<F: Function, W: Write, E: Write>(
     Ok(Verdict::of(is_accepted))
 }
 
-/// The output that the stored numbers name; nothing if they name none, which a line on `err` then
-/// reports.
+/// Returns the output that the numbers of `stored` name, or `None` if they name none, which a line on `err` reports.
 fn output_given<E: Write>(
     alloc: Global,
     stored: &StoredOutput,
@@ -427,7 +427,7 @@ fn output_given<E: Write>(
     }
 }
 
-/// Checks the output that is given.
+/// Checks the output of `given`.
 fn replay<F: Function, W: Write, E: Write>(
     alloc: Global,
     f: &F,
@@ -448,8 +448,8 @@ fn replay<F: Function, W: Write, E: Write>(
     }
 }
 
-/// Writes whether a write precedes each read and each argument, on every path, and if not, a path
-/// on which none does. Returns the verdict.
+/// Writes whether a write precedes each read and each argument of `f`, on every path, and if not, a path on which
+/// none does. Returns whether a write precedes each.
 fn judge_reads<F: Function, W: Write>(
     alloc: Global,
     f: &F,
@@ -473,7 +473,7 @@ fn judge_reads<F: Function, W: Write>(
     Ok(true)
 }
 
-/// The verdict of [`judge_reads`], or that the function isn't structurally valid.
+/// Returns the verdict of [`judge_reads`] on `f`, or that it isn't structurally valid.
 fn test_reads<F: Function, W: Write, E: Write>(
     alloc: Global,
     f: &F,
@@ -491,7 +491,7 @@ fn test_reads<F: Function, W: Write, E: Write>(
     Ok(Verdict::of(is_accepted))
 }
 
-/// Writes the text of a function, and of an output if there is one.
+/// Writes the text of `function`, and of `output` if there is one.
 fn write_text<W: Write>(
     alloc: Global,
     function: &StoredFunction,
@@ -503,7 +503,7 @@ fn write_text<W: Write>(
     Ok(())
 }
 
-/// Writes what a call reports of an output.
+/// Writes what `call` reports of `output`.
 fn report<W: Write>(
     call: Call,
     function: &StoredFunction,
@@ -522,8 +522,8 @@ fn report<W: Write>(
     Ok(())
 }
 
-/// Writes the differences between a given output and another output of the same function, and the
-/// checker's findings in each. Returns whether the outputs agree and nothing is found.
+/// Writes the differences between the outputs of `given` and `other`, of the same function, and the checker's
+/// findings in each. Accepts them if the outputs agree and nothing is found.
 fn compare<F: Function, W: Write, E: Write>(
     alloc: Global,
     f: &F,
@@ -552,7 +552,7 @@ fn compare<F: Function, W: Write, E: Write>(
     Ok(Verdict::of(is_accepted && !differs))
 }
 
-/// Performs a call about the allocator's output in its stored form.
+/// Performs `call`, which is about the stored form of the allocator's `output`.
 fn show_stored<F: Function, W: Write, E: Write>(
     alloc: Global,
     call: Call,
@@ -583,7 +583,7 @@ fn show_stored<F: Function, W: Write, E: Write>(
     Ok(Verdict::Accepted)
 }
 
-/// Writes why a machine doesn't fit a function.
+/// Writes why the machine `env` doesn't fit `f`.
 fn write_misfit<F: Function, E: Write>(
     f: &F,
     env: &MachineEnv,
@@ -604,7 +604,7 @@ fn write_misfit<F: Function, E: Write>(
     }
 }
 
-/// Performs a call about the allocator's output; `Replay` and `Reads` are performed as a `Check`.
+/// Performs `call`, which is about the allocator's `output`; `Replay` and `Reads` are performed as a `Check`.
 fn show<F: Function, W: Write, E: Write>(
     alloc: Global,
     call: Call,
@@ -632,7 +632,7 @@ fn show<F: Function, W: Write, E: Write>(
     Ok(Verdict::Accepted)
 }
 
-/// Allocates registers to a function, and performs a call about the output.
+/// Allocates registers to `f`, and performs `call` about the output.
 fn allocate<F: Function, W: Write, E: Write>(
     alloc: Global,
     call: Call,
@@ -658,8 +658,7 @@ fn allocate<F: Function, W: Write, E: Write>(
     }
 }
 
-/// The function that the stored numbers name; nothing if they name none, which a line on `err` then
-/// reports.
+/// Returns the function that the numbers of `given` name, or `None` if they name none, which a line on `err` reports.
 fn function_of<E: Write>(
     alloc: Global,
     given: &Given<'_, '_, '_>,
@@ -699,7 +698,7 @@ pub fn perform_diff<W: Write, E: Write>(
     }
 }
 
-/// Performs a call, except `Text`, about a function that its numbers name.
+/// Performs `call`, which isn't `Text`, about `f`, the function that the numbers of `given` name.
 fn perform<F: Function, W: Write, E: Write>(
     alloc: Global,
     call: Call,

@@ -33,8 +33,8 @@ fn suggesting<'t>(alloc: Global, mut fault: Fault<'t>) -> Result<Fault<'t>, Allo
     Ok(fault)
 }
 
-/// Reads a text as `regalloc2_text::read` does, but the error for a word that begins no line
-/// suggests a similar one that does.
+/// Reads `text` as `regalloc2_text::read` does, but the error for a word that begins no line suggests a similar one
+/// that does.
 pub fn read_text<'t>(
     alloc: Global,
     text: &'t str,

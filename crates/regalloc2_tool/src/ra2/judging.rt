@@ -23,7 +23,7 @@ const OPTIONS: RegallocOptions = RegallocOptions {
     algorithm: Algorithm::Fastalloc,
 };
 
-/// Writes an error's line. The output isn't accepted.
+/// Writes the line of `error`. Returns `false`: the output isn't accepted.
 fn write_finding<A: Allocator, O: Write>(error: &CheckerError<A>, out: &mut O) -> io::Result<bool>
     ensures { IfOk result (λ b. (b ≡ false) × Appends (O.contents out.old) (O.contents out.new) (findings_text (error.now ∷ []))) }
 {
@@ -32,7 +32,7 @@ fn write_finding<A: Allocator, O: Write>(error: &CheckerError<A>, out: &mut O) -
     Ok(false)
 }
 
-/// Writes a line for each error. The output isn't accepted.
+/// Writes a line for each of `errors`. Returns `false`: the output isn't accepted.
 fn write_findings<A: Allocator, O: Write>(
     errors: &[CheckerError<A>],
     out: &mut O,
@@ -45,7 +45,7 @@ fn write_findings<A: Allocator, O: Write>(
     Ok(false)
 }
 
-/// Writes that the output is accepted.
+/// Writes that the output is accepted. Returns `true`.
 fn write_checked<O: Write>(out: &mut O) -> io::Result<bool>
     ensures { IfOk result (λ b. (b ≡ true) × Appends (O.contents out.old) (O.contents out.new) checked_line) }
 {
@@ -53,8 +53,7 @@ fn write_checked<O: Write>(out: &mut O) -> io::Result<bool>
     Ok(true)
 }
 
-/// Writes `checked`, or the errors that the checker finds in an output. Returns whether there are
-/// none.
+/// Writes `checked`, or the errors that the checker finds in `output`. Returns whether there are none.
 pub fn judge<A: Allocator + Copy, F: Function, O: Write>(
     alloc: A,
     f: &F,
@@ -78,9 +77,10 @@ pub fn judge<A: Allocator + Copy, F: Function, O: Write>(
     }
 }
 
-/// Allocates registers to a function, writes its listing or the number of the error, and checks the
-/// output if the task requires it. Returns whether the function was accepted and no error was
-/// found.
+/// Allocates registers to `f`, writes its listing or the number of the error, and checks the output if `task`
+/// requires it.
+///
+/// Returns whether the function was accepted and no error was found.
 pub fn show<A: Allocator + Copy, F: Function, O: Write>(
     alloc: A,
     task: Task,

@@ -26,8 +26,9 @@ pub fn refuse_words<E: Write>(err: &mut E) -> u8
     UNUSABLE
 }
 
-/// Performs a task with the function that a reader gives. Returns whether it succeeded; nothing
-/// after a failed write, or if there is no function, which a line on `err` then reports.
+/// Performs `task` with the function that `input` gives. Returns whether it succeeded.
+///
+/// Returns `None` after a failed write, or if there is no function, which a line on `err` then reports.
 fn allocate<A: Allocator + Copy, R: Read + Drop, O: Write, E: Write>(
     global: Global,
     alloc: A,
@@ -48,8 +49,9 @@ fn allocate<A: Allocator + Copy, R: Read + Drop, O: Write, E: Write>(
     show(alloc, task, &f, f.machine_env(), out).ok()
 }
 
-/// Checks the output that a reader gives with its function. Returns whether it is accepted; nothing
-/// after a failed write, or if there is no output, which a line on `err` then reports.
+/// Checks the output that `input` gives with its function. Returns whether it is accepted.
+///
+/// Returns `None` after a failed write, or if there is no output, which a line on `err` then reports.
 fn replay<A: Allocator + Copy, R: Read + Drop, O: Write, E: Write>(
     global: Global,
     alloc: A,
@@ -69,7 +71,7 @@ fn replay<A: Allocator + Copy, R: Read + Drop, O: Write, E: Write>(
     judge(alloc, &f, f.machine_env(), &output, out).ok()
 }
 
-/// Performs a command with the input of a reader.
+/// Performs `command` with `input`, as [`allocate`] and [`replay`] do.
 fn obey<A: Allocator + Copy, R: Read + Drop, O: Write, E: Write>(
     global: Global,
     alloc: A,
@@ -86,8 +88,7 @@ fn obey<A: Allocator + Copy, R: Read + Drop, O: Write, E: Write>(
     }
 }
 
-/// Performs a command with the input of a reader, and returns the status. If the status is 0 or 1,
-/// the buffer has been flushed.
+/// Performs `command` with `input`, and returns the status. If the status is 0 or 1, the buffer has been flushed.
 fn perform<A: Allocator + Copy, R: Read + Drop, O: Write + Drop, E: Write>(
     global: Global,
     alloc: A,

@@ -49,7 +49,7 @@ impl fmt::Display for InputError {
     }
 }
 
-/// Reads a JSON value from its text.
+/// Reads a JSON value from `input`, its text.
 fn value_from<A: Allocator + Copy, R: Read + Drop>(
     global: Global,
     alloc: A,
@@ -61,7 +61,7 @@ fn value_from<A: Allocator + Copy, R: Read + Drop>(
     Value::from_str(global, &text).ok()
 }
 
-/// Reads a stored function from its JSON text.
+/// Reads a stored function from `input`, its JSON text.
 fn stored_from<A: Allocator + Copy, R: Read + Drop>(
     global: Global,
     alloc: A,
@@ -73,7 +73,7 @@ fn stored_from<A: Allocator + Copy, R: Read + Drop>(
     StoredFunction::from_value(alloc, &value).ok()
 }
 
-/// The function and its machine that stored numbers name. The machine fits the function.
+/// Returns the function and its machine that the numbers of `stored` name. The machine fits the function.
 fn fitting<A: Allocator + Copy>(
     alloc: A,
     stored: &StoredFunction<A>,
@@ -91,8 +91,7 @@ fn fitting<A: Allocator + Copy>(
     Ok(f)
 }
 
-/// Reads a function and its machine from the JSON text of a stored function. The machine fits the
-/// function.
+/// Reads a function and its machine from `input`, the JSON text of a stored function. The machine fits the function.
 pub fn function_from<A: Allocator + Copy, R: Read + Drop>(
     global: Global,
     alloc: A,
@@ -107,7 +106,7 @@ pub fn function_from<A: Allocator + Copy, R: Read + Drop>(
     fitting(alloc, &stored)
 }
 
-/// The stored function and the stored output of a JSON array of exactly these two.
+/// Returns the stored function and the stored output in `value`, a JSON array of exactly these two.
 fn stored_pair<A: Allocator + Copy>(
     alloc: A,
     value: &Value,
@@ -123,7 +122,7 @@ fn stored_pair<A: Allocator + Copy>(
     Some((function, output))
 }
 
-/// Reads a stored function and a stored output from the JSON text of an array of exactly these two.
+/// Reads a stored function and a stored output from `input`, the JSON text of an array of exactly these two.
 fn stored_pair_from<A: Allocator + Copy, R: Read + Drop>(
     global: Global,
     alloc: A,
@@ -135,7 +134,7 @@ fn stored_pair_from<A: Allocator + Copy, R: Read + Drop>(
     stored_pair(alloc, &value)
 }
 
-/// The output of a function that stored numbers name. The function is structurally valid.
+/// Returns the output of `f` that the numbers of `stored` name. The function is structurally valid.
 fn framed_output<A: Allocator + Copy, F: Function>(
     alloc: A,
     f: &F,
@@ -154,7 +153,8 @@ fn framed_output<A: Allocator + Copy, F: Function>(
     Ok(output)
 }
 
-/// The function, its machine and the output that stored numbers name. The function is structurally valid.
+/// Returns the function and its machine that the numbers of `stored` name, and the output that the numbers of
+/// `stored_output` name. The function is structurally valid.
 fn framed_pair<A: Allocator + Copy>(
     alloc: A,
     stored: &StoredFunction<A>,
@@ -172,8 +172,10 @@ fn framed_pair<A: Allocator + Copy>(
     Ok((f, output))
 }
 
-/// Reads a function, its machine and an output from the JSON text of an array of exactly a stored
-/// function and a stored output. The function is structurally valid, so the output can be checked.
+/// Reads a function, its machine and an output from `input`, the JSON text of an array of exactly a stored function
+/// and a stored output.
+///
+/// The function is structurally valid, therefore the output can be checked.
 pub fn replay_from<A: Allocator + Copy, R: Read + Drop>(
     global: Global,
     alloc: A,

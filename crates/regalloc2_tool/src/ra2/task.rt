@@ -22,8 +22,7 @@ pub enum Command {
 }
 
 impl Command {
-    /// The command that the arguments name: exactly one argument, `run`, `check` or `replay`. Any
-    /// others are invalid.
+    /// Returns the command that `words` name: exactly one word, `run`, `check` or `replay`. All others are invalid.
     pub fn of(words: &[String]) -> Option<Command>
         ensures { result ≡ command_of words.now }
     {

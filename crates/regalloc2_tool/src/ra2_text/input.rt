@@ -56,7 +56,7 @@ impl From<AllocError> for InputError {
     }
 }
 
-/// The line and the column in bytes, both from 1, of the byte at a place.
+/// Returns the line and the column in bytes, both from 1, of the byte at `place`.
 pub fn position_of(bytes: &[u8], place: usize) -> (usize, usize) {
     let mut line = 1usize;
     let mut column = 1usize;
@@ -71,14 +71,15 @@ pub fn position_of(bytes: &[u8], place: usize) -> (usize, usize) {
     (line, column)
 }
 
-/// Whether an input is JSON: its first character but blanks is a brace or a bracket, which begin no line of a text, but for a bracket
-/// around what a logger writes before the lines of a dump.
+/// Returns whether `text` is JSON: its first character but blanks is a brace or a bracket.
+///
+/// These begin no line of a text, but for a bracket around what a logger writes before the lines of a dump.
 fn is_json(text: &str) -> bool {
     let first = text.bytes().find(|byte| !byte.is_ascii_whitespace());
     first == Some(b'{') || (first == Some(b'[') && !is_logged(text.trim_start()))
 }
 
-/// The message for an error in stored numbers.
+/// Returns the error for `fault`, found in stored numbers.
 fn error_of(fault: StoredFault) -> InputError {
     match fault {
         StoredFault::Memory => InputError::Memory,
@@ -86,7 +87,7 @@ fn error_of(fault: StoredFault) -> InputError {
     }
 }
 
-/// The function, or the function and the output, that a JSON value holds.
+/// Returns the function, or the function and the output, that `value` holds.
 fn read_value(alloc: Global, value: &Value) -> Result<Text, InputError> {
     let Some(first) = value.get(0) else {
         let function = StoredFunction::from_value(alloc, value).map_err(error_of)?;
@@ -106,7 +107,7 @@ fn read_value(alloc: Global, value: &Value) -> Result<Text, InputError> {
     })
 }
 
-/// Reads a function from JSON.
+/// Reads a function from the JSON text `text`.
 fn read_json(alloc: Global, text: &str) -> Result<Input, InputError> {
     let value = match Value::from_str(alloc, text) {
         Ok(value) => value,
@@ -122,7 +123,7 @@ fn read_json(alloc: Global, text: &str) -> Result<Input, InputError> {
     Ok(Input { text, shown })
 }
 
-/// Reads a function from a text.
+/// Reads a function from `text`.
 fn read_lines(alloc: Global, text: &str) -> Result<Input, InputError> {
     match read_text(alloc, text, 1) {
         Ok(text) => Ok(Input { text, shown: None }),
@@ -136,7 +137,8 @@ fn read_lines(alloc: Global, text: &str) -> Result<Input, InputError> {
     }
 }
 
-/// The text that `bytes` are, without a byte order mark before it, or the first byte that is part of no character.
+/// Returns the text that `bytes` are, without a byte order mark before it, or an error for the first byte that is
+/// part of no character.
 pub(crate) fn text_of(bytes: &[u8]) -> Result<&str, InputError> {
     match str::from_utf8(bytes) {
         Ok(text) => Ok(text.strip_prefix('\u{feff}').unwrap_or(text)),
@@ -150,7 +152,7 @@ pub(crate) fn text_of(bytes: &[u8]) -> Result<&str, InputError> {
 }
 
 impl Input {
-    /// Reads a function from a text or from JSON, which the first character tells apart.
+    /// Reads a function from `text`, which is JSON or has the form of a text.
     pub fn read(alloc: Global, text: &str) -> Result<Input, InputError> {
         if is_json(text) {
             read_json(alloc, text)

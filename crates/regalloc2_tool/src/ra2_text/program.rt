@@ -20,10 +20,16 @@ const REJECTED: u8 = 1;
 /// How many virtual registers (vregs) a function may name without a warning, whatever it defines.
 const USUAL_VREGS: u64 = 1 << 20;
 
+/// How many vreg numbers a function may use for each vreg that it names, without a warning.
+const USUAL_NUMBERS: u64 = 16;
+
 /// How many bytes the tables of the allocator and the checker take for a vreg number, about.
 const BYTES_FOR_VREG: u64 = 20;
 
-/// The status of a verdict.
+/// The bytes of a megabyte.
+const MEGABYTE: u64 = 1_000_000;
+
+/// Returns the status for `verdict`.
 fn status_of(verdict: Verdict) -> u8
     ensures { result ≤ 2 }
 {
@@ -34,7 +40,7 @@ fn status_of(verdict: Verdict) -> u8
     }
 }
 
-/// Writes the function of a text as JSON on one line.
+/// Writes `function` as JSON on one line.
 fn write_function(
     alloc: Global,
     function: &StoredFunction,
@@ -48,7 +54,7 @@ fn write_function(
     Ok(())
 }
 
-/// The number of operands and parameters of a function. Each of them names at most one vreg.
+/// Returns the number of operands and parameters of `function`. Each of them names at most one vreg.
 fn count_names(function: &StoredFunction) -> u64 {
     let mut count = 0u64;
     for inst in &function.insts {
@@ -60,22 +66,23 @@ fn count_names(function: &StoredFunction) -> u64 {
     count
 }
 
-/// Warns of vreg numbers that are far above how many the function names, with the memory that their tables take.
+/// Warns if the vreg numbers of `function` are far above the number of vregs that it names, with the memory that
+/// tables by number take.
 fn warn(path: &str, function: &StoredFunction, err: &mut Vec<u8>) -> io::Result<()> {
     let vregs = function.num_vregs;
     let names = count_names(function);
-    if vregs <= USUAL_VREGS || vregs / 16 <= names {
+    if vregs <= USUAL_VREGS || vregs / USUAL_NUMBERS <= names {
         return Ok(());
     }
-    let megabytes = vregs.saturating_mul(BYTES_FOR_VREG) / 1_000_000;
+    let megabytes = vregs.saturating_mul(BYTES_FOR_VREG) / MEGABYTE;
     writeln!(
         err,
         "{path}: warning: numbers of virtual registers are below {vregs}, and at most {names} are named: tables by number take about {megabytes} MB"
     )
 }
 
-/// The first line of `one` that differs from its line in `other`, and that line, without blanks at both ends; empty after the end of a
-/// text.
+/// Returns the first line of `one` that differs from its line in `other`, and that line, without blanks at both ends;
+/// empty after the end of a text.
 fn first_difference<'a>(one: &'a str, other: &'a str) -> (&'a str, &'a str) {
     let mut lines = other.lines();
     for line in one.lines() {
@@ -87,7 +94,8 @@ fn first_difference<'a>(one: &'a str, other: &'a str) -> (&'a str, &'a str) {
     ("", lines.next().unwrap_or("").trim())
 }
 
-/// The text in which the parts of an input are shown: `shown` for JSON, else the text that was read, with `name` before line numbers.
+/// Returns the text in which the parts of an input are shown: `shown` for JSON, else `text`, with `name` before line
+/// numbers.
 fn source_of<'s>(text: &'s str, shown: Option<&'s String>, name: &'s str) -> Source<'s> {
     match shown {
         Some(shown) => Source {
@@ -111,7 +119,8 @@ struct Other<'p, 't, 'i> {
     input: &'i Input,
 }
 
-/// What a call is given of an input, whose lines are shown with `name` before their numbers.
+/// Returns what a call is given of `input`, which was read from `text`; lines are shown with `name` before their
+/// numbers.
 fn given_of<'a>(input: &'a Input, text: &'a str, name: &'a str) -> Given<'a, 'a, 'a> {
     Given {
         function: &input.text.function,
@@ -120,7 +129,7 @@ fn given_of<'a>(input: &'a Input, text: &'a str, name: &'a str) -> Given<'a, 'a,
     }
 }
 
-/// Returns whether two texts are equal; else `err` gets the lines in which they differ.
+/// Returns whether the texts `one` and `other` are equal; if not, writes the lines in which they differ to `err`.
 fn are_same(one: &str, other: &str, err: &mut Vec<u8>) -> Result<bool, CallError> {
     if one == other {
         return Ok(true);
@@ -133,7 +142,8 @@ fn are_same(one: &str, other: &str, err: &mut Vec<u8>) -> Result<bool, CallError
     Ok(false)
 }
 
-/// Returns whether two functions are equal; else `err` gets the lines in which their texts differ.
+/// Returns whether the functions `one` and `other` are equal; if not, writes the lines in which their texts differ to
+/// `err`.
 fn are_same_functions(
     alloc: Global,
     one: &StoredFunction,
@@ -145,7 +155,7 @@ fn are_same_functions(
     are_same(one.as_str(), other.as_str(), err)
 }
 
-/// Writes how the outputs of two inputs differ.
+/// Writes how the outputs of `given` and `other` differ.
 fn act_diff(
     alloc: Global,
     given: &Given<'_, '_, '_>,
@@ -172,7 +182,7 @@ struct Inputs<'t, 'i, 'p, 'u, 'o> {
     other: Option<Other<'p, 'u, 'o>>,
 }
 
-/// Does an action with what a call is given.
+/// Performs the action of `task` with `given`.
 fn act_on(
     alloc: Global,
     task: Task<'_>,
@@ -196,7 +206,7 @@ fn act_on(
     }
 }
 
-/// Does an action with an input.
+/// Performs the action of `task` with `inputs`.
 fn act(
     alloc: Global,
     task: Task<'_>,
@@ -212,7 +222,7 @@ fn act(
     act_on(alloc, task, &given, inputs.other, out, err)
 }
 
-/// Does an action with an input, and writes nothing if the task is to be quiet.
+/// Performs the action of `task` with `inputs`, and writes nothing if the task is quiet.
 fn act_as_asked(
     alloc: Global,
     task: Task<'_>,
@@ -233,13 +243,9 @@ fn act_as_asked(
     }
 }
 
-/// Reads an input; nothing if it can't be read, of which `err` gets a line.
+/// Reads the input `bytes`; `None` if it can't be read, which a line on `err` reports with `path`.
 fn read_input(alloc: Global, path: &str, bytes: &[u8], err: &mut Vec<u8>) -> Option<Input> {
-    let read = match text_of(bytes) {
-        Ok(text) => Input::read(alloc, text),
-        Err(error) => Err(error),
-    };
-    match read {
+    match text_of(bytes).and_then(|text| Input::read(alloc, text)) {
         Ok(input) => Some(input),
         Err(error) => {
             let _ = writeln!(err, "{path}:{error}");
@@ -248,7 +254,7 @@ fn read_input(alloc: Global, path: &str, bytes: &[u8], err: &mut Vec<u8>) -> Opt
     }
 }
 
-/// Does a task with its inputs, and returns the status.
+/// Performs `task` with `inputs`, and returns the status.
 fn finish(
     alloc: Global,
     task: Task<'_>,
@@ -268,7 +274,7 @@ fn finish(
     }
 }
 
-/// Reads the other file of a task, if it has one, and does the task.
+/// Reads `other`, the task's other file, if there is one, and performs `task`.
 fn perform_with_other(
     alloc: Global,
     task: Task<'_>,
@@ -304,11 +310,12 @@ fn perform_with_other(
     finish(alloc, task, inputs, out, err)
 }
 
-/// Does a task with the bytes of its files, and returns the status.
+/// Performs `task` with `bytes`, the content of its file, and `other`, the path and the content of its other file,
+/// and returns the status.
 ///
-/// The input's error, or why there is no whole result, is a line on `err`, and the status then 2. Else the result is on `out`, and
-/// the status 0; or 1 if the function is rejected, of which `err` has the cause, or something is found; or 2 if its numbers
-/// name no function.
+/// The status is 2, with one line on `err`, if an input can't be read or there is no whole result; or 2 if the
+/// numbers name no function. It is 1 if the function is rejected, which `err` explains, or something is found. Else
+/// it is 0, and the result is on `out`.
 pub fn perform_task(
     alloc: Global,
     task: Task<'_>,

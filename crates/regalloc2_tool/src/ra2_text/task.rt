@@ -63,7 +63,7 @@ pub enum Action {
 }
 
 impl Action {
-    /// The action that a word names, with or without `--json`.
+    /// Returns the action that `word` names, with `--json` if `is_json`.
     fn named(word: &str, is_json: bool) -> Option<Action> {
         match word {
             "json" => Some(Action::Json),
@@ -156,7 +156,7 @@ fn command<'a>(alloc: Global) -> Result<Command<'a>, AllocError> {
         .subcommands(subcommands)
 }
 
-/// The task in the matches of a subcommand.
+/// Returns the task in `given`, the matches of the subcommand `name`.
 fn task_of<'a>(name: &str, given: &ArgMatches<'a>) -> Option<Task<'a>> {
     Some(Task {
         action: Action::named(name, given.get_flag("json"))?,
@@ -167,7 +167,7 @@ fn task_of<'a>(name: &str, given: &ArgMatches<'a>) -> Option<Task<'a>> {
     })
 }
 
-/// The task in the matches of the command, or the error that there is none.
+/// Returns the task in `matches`, the matches of `command`, or an error if there is none.
 fn task_in<'a>(command: &mut Command<'a>, matches: &ArgMatches<'a>) -> Result<Task<'a>, Error> {
     if let Some((name, given)) = matches.subcommand() {
         if let Some(task) = task_of(name, given) {
@@ -180,15 +180,17 @@ fn task_in<'a>(command: &mut Command<'a>, matches: &ArgMatches<'a>) -> Result<Ta
     )?)
 }
 
-/// The task that the program's words name to its command.
+/// Returns the task that `words` name to `command`.
 fn parsed<'a>(command: &mut Command<'a>, words: &'a [String]) -> Result<Task<'a>, Error> {
     let matches = command.try_get_matches_from_mut(words)?;
     task_in(command, &matches)
 }
 
 impl<'a> Task<'a> {
-    /// The task that the program's words name, of which the first is its own name. The error's text is for the user: that the
-    /// arguments are wrong, or the help or the version if that is requested.
+    /// Returns the task that `words` name, of which the first is the program's own name.
+    ///
+    /// The error's text is for the user: that the arguments are wrong, or the help or the version if that is
+    /// requested.
     pub fn of(alloc: Global, words: &'a [String]) -> Result<Task<'a>, Error> {
         parsed(&mut command(alloc)?, words)
     }

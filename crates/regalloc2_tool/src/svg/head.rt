@@ -7,7 +7,8 @@ use regalloc2_index::Block;
 use regalloc2_names::{VReg, VRegText};
 use std::fmt;
 
-/// A block with its parameters, and its successors with the arguments that it passes: `block1(v2i) to block2(), block3(v2i)`.
+/// A block with its parameters, and its successors with the arguments that it passes: `block1(v2i) to block2(),
+/// block3(v2i)`.
 #[derive(Drop)]
 pub(crate) struct Head<'a, F: Function> {
     /// The function.

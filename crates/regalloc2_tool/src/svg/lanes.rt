@@ -98,7 +98,7 @@ impl<A: Allocator> Lanes<A> {
         self.places.as_slice()
     }
 
-    /// The index of a place.
+    /// Returns the index of `place`.
     pub(crate) fn index_of(&self, place: Allocation) -> Option<usize> {
         self.places.as_slice().binary_search(&place).ok()
     }
@@ -117,12 +117,12 @@ impl<A: Allocator> Lanes<A> {
         shown.get(first..).unwrap_or(&[])
     }
 
-    /// The left edge of a column.
+    /// Returns the left edge of `column`.
     pub(crate) fn edge(&self, column: usize) -> usize {
         self.edges.get(column).copied().unwrap_or(0)
     }
 
-    /// The horizontal middle of a place's lane in a row.
+    /// Returns the horizontal middle of the lane of `place` in `row`.
     pub(crate) fn middle(&self, place: Allocation, row: usize) -> Option<usize> {
         let index = self.index_of(place)?;
         let (found, column, lane) = self.shown_from(index, row).first().copied()?;

@@ -25,10 +25,12 @@ struct Span {
     vreg: Option<usize>,
 }
 
-/// A picture of an output: a row for each move, two for each instruction, and in each column of rows a lane for each place that they name.
+/// A picture of an output: a row for each move, two for each instruction, and in each column of rows a lane for each
+/// place that they name.
 ///
-/// A box is an operand at its place, with a thicker frame where it is written; an arrow is a move. A bar joins the rows over which a register
-/// holds a value until its last read, and a slot until it is written again or its block ends; it is drawn in the columns that name its place.
+/// A box is an operand at its place, with a thicker frame where it is written; an arrow is a move. A bar joins the
+/// rows over which a register holds a value until its last read, and a slot until it is written again or its block
+/// ends; it is drawn in the columns that name its place.
 #[derive(Drop)]
 pub struct Picture<A: Allocator = Global> {
     alloc: A,
@@ -67,7 +69,7 @@ impl<A: Allocator + Copy> Picture<A> {
         Ok(())
     }
 
-    /// The rows over which a place has held its current value, if it is known to hold one.
+    /// Returns the rows over which `place` has held its current value, if it is known to hold one.
     fn span_of(&self, place: Allocation) -> Option<Span> {
         let index = self.lanes.index_of(place)?;
         if index < self.spans.len() {
@@ -77,7 +79,7 @@ impl<A: Allocator + Copy> Picture<A> {
         }
     }
 
-    /// Records what a place holds.
+    /// Records that `place` holds a value over `span`.
     fn set_span(&mut self, place: Allocation, span: Span) -> Result<(), AllocError> {
         let Some(index) = self.lanes.index_of(place) else {
             return Ok(());
@@ -92,8 +94,9 @@ impl<A: Allocator + Copy> Picture<A> {
         Ok(())
     }
 
-    /// Records that a place is read in a row, by an operand of the vreg `by`, or by a move. A place that its block hasn't
-    /// written before has held the value since the block's first row. Returns the number of the value's vreg, if known.
+    /// Records that a place is read in a row, by an operand of the vreg `by`, or by a move. A place that its block
+    /// hasn't written before has held the value since the block's first row. Returns the number of the value's vreg,
+    /// if known.
     fn note_read(
         &mut self,
         place: Allocation,
@@ -117,7 +120,7 @@ impl<A: Allocator + Copy> Picture<A> {
         Ok(vreg)
     }
 
-    /// Draws the bar of a place over rows, in each column that shows the place.
+    /// Draws the bar of the place `index` over `rows`, in each column that shows the place.
     fn draw_bar<W: Write>(
         &self,
         index: usize,
@@ -136,7 +139,7 @@ impl<A: Allocator + Copy> Picture<A> {
         Ok(())
     }
 
-    /// Draws the bar of the value that a place holds, up to a row if one is given.
+    /// Draws the bar of the value that the place `index` holds, up to the row `until` if one is given.
     fn end_bar<W: Write>(
         &mut self,
         index: usize,
@@ -154,7 +157,7 @@ impl<A: Allocator + Copy> Picture<A> {
         self.draw_bar(index, rows, span.vreg, to)
     }
 
-    /// Records that a place is written in a row, and draws the bar of its previous value.
+    /// Records that `place` is written in `row`, and draws the bar of its previous value.
     fn note_write<W: Write>(
         &mut self,
         place: Allocation,
@@ -176,7 +179,7 @@ impl<A: Allocator + Copy> Picture<A> {
         Ok(())
     }
 
-    /// Records what an instruction reads.
+    /// Records which of `places` the instruction in `row` reads.
     fn note_uses(
         &mut self,
         operands: &[Operand],
@@ -193,7 +196,7 @@ impl<A: Allocator + Copy> Picture<A> {
         Ok(())
     }
 
-    /// Records what an instruction writes, and draws the bars that end there.
+    /// Records which of `places` the instruction in `row` writes, and draws the bars that end there.
     fn note_defs<W: Write>(
         &mut self,
         operands: &[Operand],
@@ -210,7 +213,8 @@ impl<A: Allocator + Copy> Picture<A> {
         Ok(())
     }
 
-    /// Draws the bar of a place that is open at a block's end; the bar of a slot reaches the block's last row.
+    /// Draws the bar of the place `index`, which is open at a block's end; the bar of a slot reaches `row`, the
+    /// block's last row.
     fn end_bar_at<W: Write>(&mut self, index: usize, row: usize, to: &mut W) -> io::Result<()> {
         let until = match self.lanes.places().get(index) {
             Some(place) if place.is_stack() => Some(row),
@@ -219,7 +223,7 @@ impl<A: Allocator + Copy> Picture<A> {
         self.end_bar(index, until, to)
     }
 
-    /// Draws the bars that are open at a block's end.
+    /// Draws the bars that are open at the end of a block, whose last row is `row`.
     fn end_block<W: Write>(&mut self, row: usize, to: &mut W) -> io::Result<()> {
         self.named.sort_unstable();
         self.named.dedup();
@@ -232,7 +236,7 @@ impl<A: Allocator + Copy> Picture<A> {
         Ok(())
     }
 
-    /// Draws the bars of a block that begins in a row, and returns the row after it.
+    /// Draws the bars of `block`, which begins in `block_row`, and returns the row after it.
     fn draw_block_bars<F: Function, B: Allocator, W: Write>(
         &mut self,
         f: &F,
@@ -269,7 +273,7 @@ impl<A: Allocator + Copy> Picture<A> {
         Ok(row)
     }
 
-    /// Draws the bars of all blocks.
+    /// Draws the bars of all blocks of `f`.
     fn draw_bars<F: Function, B: Allocator, W: Write>(
         &mut self,
         f: &F,
@@ -286,7 +290,7 @@ impl<A: Allocator + Copy> Picture<A> {
         Ok(())
     }
 
-    /// Draws the boxes of an instruction's operands.
+    /// Draws the boxes of `operands`, of the instruction in `row`.
     fn draw_operands<W: Write>(
         &self,
         operands: &[Operand],
@@ -303,7 +307,7 @@ impl<A: Allocator + Copy> Picture<A> {
         Ok(())
     }
 
-    /// Draws an instruction.
+    /// Draws `inst` in `row`.
     fn draw_inst<F: Function, B: Allocator, W: Write>(
         &self,
         f: &F,
@@ -324,7 +328,7 @@ impl<A: Allocator + Copy> Picture<A> {
         self.draw_operands(f.inst_operands(inst), output.inst_allocs(inst), row, to)
     }
 
-    /// Draws the arrow of a move.
+    /// Draws the arrow of the move `edit` in `row`.
     fn draw_move<W: Write>(&self, edit: Edit, row: usize, to: &mut W) -> io::Result<()> {
         let (from, into) = edit.places();
         match (self.lanes.middle(from, row), self.lanes.middle(into, row)) {
@@ -333,7 +337,7 @@ impl<A: Allocator + Copy> Picture<A> {
         }
     }
 
-    /// Draws the upper layer of a block, and returns the row after it.
+    /// Draws the upper layer of `block`, which begins in `block_row`, and returns the row after it.
     fn draw_block<F: Function, B: Allocator, W: Write>(
         &self,
         f: &F,
@@ -367,7 +371,7 @@ impl<A: Allocator + Copy> Picture<A> {
         Ok(row)
     }
 
-    /// Draws the upper layer of all blocks.
+    /// Draws the upper layer of all blocks of `f`.
     fn draw_blocks<F: Function, B: Allocator, W: Write>(
         &self,
         f: &F,
@@ -395,8 +399,8 @@ impl<A: Allocator + Copy> Picture<A> {
         Ok(())
     }
 
-    /// Draws an output of a function, block by block. Linear in its instructions, operands and
-    /// moves, up to a logarithmic factor.
+    /// Draws `output`, an output of `f`, block by block. Linear in the instructions, operands and moves, up to a
+    /// logarithmic factor.
     ///
     /// The contract doesn't say what is written; tests check it.
     pub fn draw<F: Function, B: Allocator, W: Write>(

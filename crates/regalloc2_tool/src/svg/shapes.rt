@@ -42,7 +42,7 @@ const LEGEND: &str = "\
 <text x=\"8\" y=\"44\">block(parameters) to successors(arguments); an instruction: early operands, below late ones</text>
 ";
 
-/// The column of a row: rows fill a column downwards, then the next column from its top.
+/// Returns the column of `row`: rows fill a column downwards, then the next column from its top.
 pub(crate) fn column_of(row: usize) -> usize {
     row / COLUMN_ROWS
 }
@@ -73,7 +73,7 @@ impl fmt::Display for Colour {
     }
 }
 
-/// The vertical middle of a row.
+/// Returns the vertical middle of `row`.
 fn height(row: usize) -> usize {
     (row % COLUMN_ROWS)
         .saturating_mul(ROW)
@@ -127,7 +127,8 @@ pub(crate) fn rule<W: Write>(edges: (usize, usize), row: usize, to: &mut W) -> i
     writeln!(to, "<path d=\"M{left},{y} H{right}\" stroke=\"silver\"/>")
 }
 
-/// Writes the part in `column` of the bar over `rows`, along the lane whose middle is at `x`, for `vreg` if it is known.
+/// Writes the part in `column` of the bar over `rows`, along the lane whose middle is at `x`, for `vreg` if it is
+/// known.
 pub(crate) fn bar<W: Write>(
     x: usize,
     column: usize,

@@ -30,13 +30,13 @@ struct Sightings<A: Allocator> {
 }
 
 impl<A: Allocator> Sightings<A> {
-    /// Records that a row names a place.
+    /// Records that `row` names `place`.
     fn see(&mut self, place: Allocation, row: usize) -> Result<(), AllocError> {
         self.seen.push((place, shapes::column_of(row)))?;
         Ok(())
     }
 
-    /// Records the places of the operands of an instruction that begins in a row.
+    /// Records the `places` of `operands`, of an instruction that begins in `row`.
     fn see_operands(
         &mut self,
         operands: &[Operand],
@@ -49,7 +49,7 @@ impl<A: Allocator> Sightings<A> {
         Ok(())
     }
 
-    /// Records the places of a block that begins in a row, and returns the row after it.
+    /// Records the places of `block`, which begins in `block_row`, and returns the row after it.
     fn see_block<F: Function, B: Allocator>(
         &mut self,
         f: &F,
@@ -82,7 +82,7 @@ impl<A: Allocator> Sightings<A> {
     }
 }
 
-/// The places that an output names, each with a column that shows it. An error means out of memory.
+/// Returns the places that `output` names, each with a column that shows it. An error means out of memory.
 pub(crate) fn sightings_of<F: Function, A: Allocator, B: Allocator>(
     alloc: A,
     f: &F,

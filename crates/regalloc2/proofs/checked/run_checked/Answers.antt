@@ -1,5 +1,6 @@
+use Rattle.std.proofs.lemmas.Result.{err_from_is_err_and}
 use Rattle.regalloc2_function.specs.Views.{machine_of, output_of}
-use Rattle.regalloc2.proofs.CheckerErrorReasons.{no_fault, reason}
+use Rattle.regalloc2.proofs.CheckerErrorReasons.{no_fault_where_faithful, checked_reason}
 use Rattle.regalloc2.proofs.CountedOperands.{few_counted, found_counted, refused_counted}
 use Rattle.regalloc2.proofs.checked.run_checked.Goals as goal
 
@@ -20,10 +21,10 @@ judge-requires-clause-framed g c =
 pub judge-requires-clause-in_order : goal.judge-requires-clause-in_order
 judge-requires-clause-in_order g c = c.in-Ok.ensures.allocation.in_order
 
-pub returns-in-Ok-judge : goal.returns-in-Ok-judge
-returns-in-Ok-judge g c = record {
+pub returns : goal.returns
+returns g c = record {
   allocation = c.in-Ok.ensures.allocation;
-  faithful = c.in-Ok-judge.ensures.ok;
+  faithful = c.in_ok-judge.ensures.ok;
   tested = c.in-Ok.ensures.tested;
   passes_checks = c.in-Ok.ensures.passes_checks;
   accepted = λ _. tt;
@@ -31,20 +32,21 @@ returns-in-Ok-judge g c = record {
   many_operands = few_counted (g.F.Function.function c.args.f.now) c.in-Ok.ensures.passes_checks.first (λ e. absurd cc);
 }
 
-pub returns-in-Err-judge-clause-faithful : goal.returns-in-Err-judge-clause-faithful
-returns-in-Err-judge-clause-faithful g c = tt
-
-pub returns-in-Err-judge-clause-accepted : goal.returns-in-Err-judge-clause-accepted
-returns-in-Err-judge-clause-accepted g c = λ written.
-    no_fault (g.F.Function.function c.args.f.now) (machine_of c.args.env.now) (output_of c.in-Ok.out) c.in-Err-judge.error
-    (c.in-Ok.ensures.allocation.faithful written).faithful c.in-Err-judge.ensures.err
-
-pub returns-in-Err-judge-clause-refused : goal.returns-in-Err-judge-clause-refused
-returns-in-Err-judge-clause-refused g c =
-    reason (g.F.Function.function c.args.f.now) (machine_of c.args.env.now) c.args.options.now.validate_ssa (output_of c.in-Ok.out)
-    c.in-Err-judge.error c.in-Ok.ensures.allocation c.in-Ok.ensures.passes_checks c.in-Err-judge.ensures.err
-
-pub returns-in-Err-judge-clause-many_operands : goal.returns-in-Err-judge-clause-many_operands
-returns-in-Err-judge-clause-many_operands g c =
-    found_counted (g.F.Function.function c.args.f.now) (machine_of c.args.env.now) (output_of c.in-Ok.out) c.in-Err-judge.error
-    c.in-Ok.ensures.passes_checks.first c.in-Err-judge.ensures.err
+pub returns-in_err-judge : goal.returns-in_err-judge
+returns-in_err-judge g c =
+    let p = err_from_is_err_and c.from_residual.result c.from_residual.ensures.1 in
+    rw (p.1, p.2) (record {
+      allocation = tt;
+      faithful = tt;
+      tested = tt;
+      passes_checks = tt;
+      accepted = λ written.
+          no_fault_where_faithful (g.F.Function.function c.args.f.now) (machine_of c.args.env.now) (output_of c.in-Ok.out) _
+          (c.in-Ok.ensures.allocation.faithful written).faithful c.in_err-judge.ensures.err;
+      refused =
+          checked_reason (g.F.Function.function c.args.f.now) (machine_of c.args.env.now) c.args.options.now.validate_ssa (output_of c.in-Ok.out)
+          _ c.in-Ok.ensures.allocation c.in-Ok.ensures.passes_checks c.in_err-judge.ensures.err;
+      many_operands =
+          found_counted (g.F.Function.function c.args.f.now) (machine_of c.args.env.now) (output_of c.in-Ok.out) _
+          c.in-Ok.ensures.passes_checks.first c.in_err-judge.ensures.err;
+    })

@@ -4,7 +4,7 @@ use Rattle.std.proofs.lemmas.Slice.Zip.{AllZip-long}
 use Rattle.std.specs.List.{AllZip, range_with_len}
 use Rattle.regalloc2_function.specs.FunctionValue.{label_of}
 use Rattle.regalloc2_serialize.specs.Decoded.{NamesInst, NamesFunction, stored_label, stored_block}
-use Rattle.regalloc2_serialize.specs.Encoded.{AreListsOf, ArePartsOf}
+use Rattle.regalloc2_serialize.specs.Encoded.{AreListsOf, HasPartsOf}
 use Rattle.regalloc2_serialize.specs.TableFunction.Table.{inst_of_table, block_of_table}
 use Rattle.regalloc2_serialize.specs.Tables.{function_of_serializable}
 use Rattle.regalloc2_serialize.proofs.Blocks.{read-blocks}
@@ -46,7 +46,7 @@ function g c = record {
   allows_multiple_defs = refl;
 }
 
-parts : (g : Over) (c : goal.After-raw_u32 g) → ArePartsOf (numbers g c) c.args.named.now
+parts : (g : Over) (c : goal.After-raw_u32 g) → HasPartsOf (numbers g c) c.args.named.now
 parts g c = record {
   lists = subst (AreListsOf (numbers g c)) c.as_slice-2.ensures.value (record {
     ranges = c.in_ok-lists.ensures.ranges;

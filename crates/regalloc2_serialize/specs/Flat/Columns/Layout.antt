@@ -63,7 +63,8 @@ slot_words words = column words 4
 abbrev pub set_words : List ℕ → List ℕ
 set_words words = column words 5
 
--- for each instruction what it is (0, or 1 for a return, 2 for a branch), and 4 times the number of its set of clobbers, from 1, or 0 for none
+-- for each instruction what it is (0, or 1 for a return, 2 for a branch), and 4 times the number of its set of
+-- clobbers, from 1, or 0 for none
 abbrev pub kind_words : List ℕ → List ℕ
 kind_words words = column words 6
 

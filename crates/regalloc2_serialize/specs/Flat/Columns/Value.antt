@@ -15,7 +15,8 @@ use Rattle.regalloc2_serialize.specs.Flat.Columns.Layout.{header_of, preferred_w
 use Rattle.regalloc2_serialize.specs.Flat.Columns.Layout.{operand_ends, operand_words, inst_ends, pred_ends, succ_ends, param_ends, pred_words, succ_words}
 use Rattle.regalloc2_serialize.specs.Flat.Columns.Layout.{param_words, argument_ends, argument_words, label_words, int_log, float_log, vector_log}
 
--- what columns list, and the bounds between which the members of an instruction, a block or an edge lie: from bound `k` up to bound `k + 1` for number `k`
+-- what columns list, and the bounds between which the members of an instruction, a block or an edge lie: from bound
+-- `k` up to bound `k + 1` for number `k`
 pub record Columns : Type 0 where
   pub kinds : List ℕ
   pub sets : List PRegSet
@@ -123,19 +124,19 @@ abbrev pub HasBits : List ℕ → PRegSet → Type 0
 HasBits bits s = (r : Register) → has_register s r ≡ nat_lt r.number 64 && is_bit_set bits (bits_of_register r)
 
 -- the six words of set `k`
-abbrev pub bits_at : List ℕ → ℕ → List ℕ
-bits_at words k = slice_range words (6 * k) (6 * k + 6)
+abbrev pub set_words_at : List ℕ → ℕ → List ℕ
+set_words_at words k = slice_range words (6 * k) (6 * k + 6)
 
 -- `sets` are the `count` sets of `words`, six words each
 pub record HaveBits (words : List ℕ) (count : ℕ) (sets : List PRegSet) : Type 0 where
   pub count_is : length sets ≡ count
-  pub each : (k : ℕ) → k < count → HasBits (bits_at words k) (slice_index_or sets k empty_set)
+  pub each : (k : ℕ) → k < count → HasBits (set_words_at words k) (slice_index_or sets k empty_set)
 
 -- `sets` are the empty set, with the number 0, and the `count` sets of `words`, six words each
 pub record AreNumbered (words : List ℕ) (count : ℕ) (sets : List PRegSet) : Type 0 where
   pub count_is : length sets ≡ count + 1
   pub none : (r : Register) → has_register (slice_index_or sets 0 empty_set) r ≡ false
-  pub each : (k : ℕ) → k < count → HasBits (bits_at words k) (slice_index_or sets (k + 1) empty_set)
+  pub each : (k : ℕ) → k < count → HasBits (set_words_at words k) (slice_index_or sets (k + 1) empty_set)
 
 -- the function that words lay out
 pub record IsLaidOutAs (words : List ℕ) (f : FunctionValue) : Type 0 where

@@ -1,6 +1,6 @@
 //! The columns of words.
 
-ghost use Rattle.std.specs.Prelude.{◌≡◌, ℕ, ◌+◌, ◌<◌, ◌≤◌, ◌^◌, All, MatchOption, length, take, slice_index, sum};
+ghost use Rattle.std.specs.Prelude.{◌≡◌, ℕ, ◌+◌, ◌/◌, ◌%◌, ◌<◌, ◌≤◌, ◌^◌, All, MatchOption, length, nat_eq, take, slice_index, sum};
 ghost use Rattle.regalloc2_serialize.specs.Flat.Columns.Layout.{header_of, widths, column, AreInColumns, int_log, float_log, vector_log};
 
 /// The column of the sets of preferred registers.
@@ -57,6 +57,21 @@ pub const ARGUMENTS: usize = 17;
 /// The column of the labels.
 pub const LABELS: usize = 18;
 
+/// The number of columns, the header among them.
+const COLUMNS: usize = 19;
+
+/// The number of classes, which have an item each in columns by class.
+const CLASSES: usize = 3;
+
+/// The number of words of a set of registers.
+pub const SET_WORDS: usize = 6;
+
+/// The number of words of an operand.
+const OPERAND_WORDS: usize = 2;
+
+/// The number of words of a label.
+pub const LABEL_WORDS: usize = 4;
+
 /// The first word, the number of this layout.
 const LAYOUT: u32 = 2;
 
@@ -69,8 +84,20 @@ const LOG_BITS: u32 = 8;
 /// The bits of a logarithm.
 const LOG_MASK: u32 = 0xff;
 
+/// The numbers of sizes are below this: each has a logarithm for each class.
+const SIZES_END: u32 = 1 << (CLASSES as u32 * LOG_BITS);
+
 /// The logarithm of the largest size of a slot.
 pub const MOST_LOG: u32 = 24;
+
+/// In [`Header::flags`]: a slot is named by its last unit.
+const NAMED_BY_LAST: u32 = 1;
+
+/// In [`Header::flags`]: a vreg may have several definitions.
+const MULTIPLE_DEFS: u32 = 2;
+
+/// The numbers of flags are below this.
+const FLAGS_END: u32 = 4;
 
 /// The numbers at the head of the words, without the first, which is the layout's.
 #[derive(Clone, Copy)]
@@ -150,8 +177,22 @@ impl Header {
         self.sizes >> (2 * LOG_BITS)
     }
 
+    /// Whether a slot is named by its last unit.
+    pub fn is_named_by_last_slot(self) -> bool
+        ensures { result ≡ nat_eq (self.flags % 2) 1 }
+    {
+        self.flags % MULTIPLE_DEFS == NAMED_BY_LAST
+    }
+
+    /// Whether a vreg may have several definitions.
+    pub fn allows_multiple_defs(self) -> bool
+        ensures { result ≡ nat_eq (self.flags / 2) 1 }
+    {
+        self.flags / MULTIPLE_DEFS == 1
+    }
+
     /// How many words the header and each column take.
-    fn widths(self) -> [usize; 19]
+    fn widths(self) -> [usize; COLUMNS]
         ensures widths { result ≡ widths self }
         ensures small { All (λ w. w < 2 ^ 35) result }
     {
@@ -160,14 +201,14 @@ impl Header {
         let blocks = self.blocks as usize;
         [
             HEADER_WORDS,
-            18,
-            18,
-            3,
+            CLASSES * SET_WORDS,
+            CLASSES * SET_WORDS,
+            CLASSES,
             self.slots as usize,
-            6 * self.sets as usize,
+            SET_WORDS * self.sets as usize,
             insts,
             insts,
-            2 * self.operands as usize,
+            OPERAND_WORDS * self.operands as usize,
             blocks,
             blocks,
             blocks,
@@ -177,18 +218,18 @@ impl Header {
             self.params as usize,
             edges,
             self.arguments as usize,
-            4 * self.labels as usize,
+            LABEL_WORDS * self.labels as usize,
         ]
     }
 }
 
 /// Where the header and each column begin, by their `widths`, and where the last column ends.
-fn starts_of(widths: [usize; 19]) -> [usize; 20]
+fn starts_of(widths: [usize; COLUMNS]) -> [usize; COLUMNS + 1]
     requires { All (λ w. w < 2 ^ 35) widths }
     ensures { (k : ℕ) → k < 20 → slice_index result k ≡ sum (take k widths) }
 {
-    let mut starts = [0; 20];
-    for k in 0..19 {
+    let mut starts = [0; COLUMNS + 1];
+    for k in 0..COLUMNS {
         starts[k + 1] = starts[k] + widths[k];
     }
     starts
@@ -199,7 +240,7 @@ fn starts_of(widths: [usize; 19]) -> [usize; 20]
 pub struct Cut<'a> {
     pub(super) words: &'a [u32],
     header: Header,
-    starts: [usize; 20],
+    starts: [usize; COLUMNS + 1],
     pub ghost header_is: { header ≡ header_of words.now },
     pub ghost starts_are: { (k : ℕ) → k < 20 → slice_index starts k ≡ sum (take k (widths (header_of words.now))) },
     pub ghost count: { length words.now ≡ sum (widths (header_of words.now)) },
@@ -217,7 +258,10 @@ impl<'a> Cut<'a> {
         }
         let header = Header::of(words);
         let starts = starts_of(header.widths());
-        if starts[19] != words.len() || header.flags >= 4 || header.sizes >= 1 << (3 * LOG_BITS) {
+        if starts[COLUMNS] != words.len()
+            || header.flags >= FLAGS_END
+            || header.sizes >= SIZES_END
+        {
             return None;
         }
         Some(Cut {

@@ -25,7 +25,7 @@ use regalloc2_index::Block;
 use regalloc2_names::{Operand, PRegSet, VReg};
 use std::alloc::{AllocError, Allocator};
 
-/// The machine of columns that were tested.
+/// Returns the machine in the columns `cut`, which pass all tests.
 fn machine_from<A: Allocator>(alloc: A, cut: &Cut<'_>) -> Result<MachineEnv<A>, AllocError>
     requires { AreSoundColumns cut.now.words.now }
     ensures { IfOk result (λ m. IsMachineOf cut.now.words.now (machine_of m)) }
@@ -39,7 +39,7 @@ fn machine_from<A: Allocator>(alloc: A, cut: &Cut<'_>) -> Result<MachineEnv<A>, 
     })
 }
 
-/// The operands of columns that were tested, by instructions.
+/// Returns the operands in the columns `cut`, which pass all tests, by instructions.
 fn operands_from<A: Allocator + Copy>(
     alloc: A,
     cut: &Cut<'_>,
@@ -105,7 +105,7 @@ pub struct EdgeTables<A: Allocator> {
     pub arguments: Pieces<VReg, A>,
 }
 
-/// The tables of instructions of columns that were tested.
+/// Returns the tables of instructions of the columns `cut`, which pass all tests.
 fn insts_from<A: Allocator + Copy>(alloc: A, cut: &Cut<'_>) -> Result<InstTables<A>, AllocError>
     requires { AreSoundColumns cut.now.words.now }
     ensures { IfOk result (λ t. AreInstTables cut.now.words.now t) }
@@ -120,7 +120,7 @@ fn insts_from<A: Allocator + Copy>(alloc: A, cut: &Cut<'_>) -> Result<InstTables
     })
 }
 
-/// The tables of edges of columns that were tested.
+/// Returns the tables of edges of the columns `cut`, which pass all tests.
 fn edges_from<A: Allocator + Copy>(alloc: A, cut: &Cut<'_>) -> Result<EdgeTables<A>, AllocError>
     requires { AreSoundColumns cut.now.words.now }
     ensures { IfOk result (λ t. AreEdgeTables cut.now.words.now t) }
@@ -137,7 +137,7 @@ fn edges_from<A: Allocator + Copy>(alloc: A, cut: &Cut<'_>) -> Result<EdgeTables
     })
 }
 
-/// The function and the machine of columns that were tested.
+/// Returns the function and the machine in the columns `cut`, which pass all tests.
 fn function_from<A: Allocator + Copy>(
     alloc: A,
     cut: &Cut<'_>,
@@ -170,8 +170,8 @@ fn function_from<A: Allocator + Copy>(
         float_slot,
         vector_slot,
         labels,
-        named_by_last_slot: header.flags % 2 == 1,
-        allows_multiple_defs: header.flags / 2 == 1,
+        named_by_last_slot: header.is_named_by_last_slot(),
+        allows_multiple_defs: header.allows_multiple_defs(),
     })
 }
 

@@ -8,10 +8,12 @@ ghost use Rattle.regalloc2_serialize.specs.Flat.Columns.Sound.{Covers, AllCovere
 ghost use Rattle.regalloc2_serialize.specs.Flat.Columns.Sound.{ColumnsNameRegisters, ColumnsNameVRegs, IsColumnsFault};
 
 use super::cut::{
-    ARGUMENT_ENDS, ARGUMENTS, Cut, Header, INST_ENDS, KINDS, LABELS, MOST_LOG, OPERAND_ENDS,
-    OPERANDS, PARAM_ENDS, PARAMS, PRED_ENDS, PREDS, SCRATCH, SLOTS, SUCC_ENDS, SUCCS,
+    ARGUMENT_ENDS, ARGUMENTS, Cut, Header, INST_ENDS, KINDS, LABEL_WORDS, LABELS, MOST_LOG,
+    OPERAND_ENDS, OPERANDS, PARAM_ENDS, PARAMS, PRED_ENDS, PREDS, SCRATCH, SLOTS, SUCC_ENDS, SUCCS,
 };
+use super::kinds::{OPCODES, SET_STEP};
 use crate::flat::long::from_halves;
+use crate::limits::{BLOCK_LIMIT, INST_LIMIT, VREG_LIMIT};
 use crate::validate::{are_blocks, are_vregs, vreg_number};
 use regalloc2_function::StoredFault;
 use regalloc2_names::{Operand, PReg, VReg};
@@ -34,21 +36,31 @@ fn covers(ends: &[u32], count: u32) -> bool
 fn are_set_numbers(kinds: &[u32], count: u32) -> bool
     ensures { IsTrue result ↔ All (λ k. k / 4 ≤ count) kinds.now }
 {
-    kinds.iter().all(|kind| *kind / 4 <= count)
+    kinds.iter().all(|kind| *kind / SET_STEP <= count)
 }
 
 /// Whether each of `kinds` says what an instruction is.
 fn are_kinds(kinds: &[u32]) -> bool
     ensures { IsTrue result ↔ All (λ k. k % 4 < 3) kinds.now }
 {
-    kinds.iter().all(|kind| *kind % 4 < 3)
+    kinds.iter().all(|kind| *kind % SET_STEP < OPCODES)
+}
+
+/// Returns whether `word` is 0 or one more than an index of a register.
+fn is_scratch_word(word: u32) -> bool
+    ensures { IsTrue result ↔ (word ≤ 192) }
+{
+    match word.checked_sub(1) {
+        Some(index) => PReg::is_index(index as usize),
+        None => true,
+    }
 }
 
 /// Whether each of `words` is 0 or one more than an index of a register.
 fn are_scratch_words(words: &[u32]) -> bool
     ensures { IsTrue result ↔ All (λ r. r ≤ 192) words.now }
 {
-    words.iter().all(|word| *word <= 192)
+    words.iter().all(|word| is_scratch_word(*word))
 }
 
 /// Whether `words` are indexes of registers.
@@ -85,7 +97,7 @@ fn are_labels_below(words: &[u32], count: usize, vregs: u32) -> bool
     ensures { IsTrue result ↔ ((k : ℕ) → k < count → slice_index words.now (4 * k) / 4 < vregs) }
 {
     for k in 0..count {
-        if vreg_number(words[4 * k]) >= vregs {
+        if vreg_number(words[LABEL_WORDS * k]) >= vregs {
             return false;
         }
     }
@@ -98,7 +110,7 @@ fn are_labels_of_vregs(words: &[u32], count: usize) -> bool
     ensures { IsTrue result ↔ ((k : ℕ) → k < count → IsVRegBits (slice_index words.now (4 * k))) }
 {
     for k in 0..count {
-        if !VReg::is_bits(words[4 * k]) {
+        if !VReg::is_bits(words[LABEL_WORDS * k]) {
             return false;
         }
     }
@@ -111,9 +123,9 @@ impl Header {
         ensures { IsTrue result ↔ (self.insts < 2 ^ 30) × (self.blocks < 2 ^ 32 - 1) × (self.vregs < 2 ^ 30) × (int_log self.sizes ≤ most_log)
             × (float_log self.sizes ≤ most_log) × (vector_log self.sizes ≤ most_log) }
     {
-        self.insts < 1 << 30
-            && self.blocks < u32::MAX
-            && self.vregs < 1 << 30
+        (self.insts as usize) < INST_LIMIT
+            && (self.blocks as usize) < BLOCK_LIMIT
+            && (self.vregs as usize) < VREG_LIMIT
             && self.int_log() <= MOST_LOG
             && self.float_log() <= MOST_LOG
             && self.vector_log() <= MOST_LOG

@@ -10,7 +10,7 @@ ghost use Rattle.regalloc2_serialize.specs.Flat.Columns.Value.{HasBits, HaveBits
 ghost use Rattle.regalloc2_serialize.specs.Flat.Columns.Value.{scratch_of_word, column_sizes};
 ghost use Rattle.regalloc2_serialize.specs.Flat.Columns.Sound.{Covers};
 
-use super::cut::Header;
+use super::cut::{Header, LABEL_WORDS, SET_WORDS};
 use super::pieces::Pieces;
 use super::sound::long;
 use crate::table_function::SlotUnits;
@@ -32,9 +32,9 @@ pub fn class_sets(words: &[u32]) -> [PRegSet; 3]
     ensures { HaveBits words.now 3 result }
 {
     [
-        set_of(&words[0..6]),
-        set_of(&words[6..12]),
-        set_of(&words[12..18]),
+        set_of(&words[..SET_WORDS]),
+        set_of(&words[SET_WORDS..2 * SET_WORDS]),
+        set_of(&words[2 * SET_WORDS..3 * SET_WORDS]),
     ]
 }
 
@@ -50,21 +50,18 @@ pub fn numbered_sets<A: Allocator>(
     let mut sets = Vec::with_capacity(alloc, count + 1)?;
     sets.push(PRegSet::empty())?;
     for k in 0..count {
-        sets.push(set_of(&words[6 * k..6 * k + 6]))?;
+        sets.push(set_of(&words[SET_WORDS * k..SET_WORDS * k + SET_WORDS]))?;
     }
     Ok(sets)
 }
 
-/// The scratch register of `word`, which is 0 for none, or 1 more than an index.
+/// Returns the scratch register of `word`, which is 0 for none or one more than an index.
 fn scratch_of(word: u32) -> Option<PReg>
     requires { word ≤ 192 }
     ensures { result ≡ scratch_of_word word }
 {
-    if word == 0 {
-        None
-    } else {
-        Some(PReg::from_index((word - 1) as usize))
-    }
+    word.checked_sub(1)
+        .map(|index| PReg::from_index(index as usize))
 }
 
 /// The scratch registers of `words`, by class.
@@ -121,10 +118,10 @@ pub fn labels_of<A: Allocator>(
 {
     let mut labels = Vec::with_capacity(alloc, count)?;
     for k in 0..count {
-        let vreg = VReg::from_bits(words[4 * k]);
-        let start = Inst::new(words[4 * k + 1] as usize);
-        let end = Inst::new(words[4 * k + 2] as usize);
-        labels.push((vreg, start, end, words[4 * k + 3]))?;
+        let vreg = VReg::from_bits(words[LABEL_WORDS * k]);
+        let start = Inst::new(words[LABEL_WORDS * k + 1] as usize);
+        let end = Inst::new(words[LABEL_WORDS * k + 2] as usize);
+        labels.push((vreg, start, end, words[LABEL_WORDS * k + 3]))?;
     }
     Ok(labels)
 }
@@ -160,7 +157,7 @@ fn units_of(log: u32) -> SlotUnits
     SlotUnits { units: 1 << log }
 }
 
-/// The sizes of slots for integers, floating-point numbers and vectors.
+/// Returns the sizes of slots for integers, floating-point numbers and vectors, by the logarithms in `header`.
 pub fn sizes_of(header: Header) -> (SlotUnits, SlotUnits, SlotUnits)
     requires int { int_log header.sizes ≤ most_log }
     requires float { float_log header.sizes ≤ most_log }

@@ -48,12 +48,12 @@ static CASES: [(Pairs, &[usize], usize, u8, u8); 19] = [
     (&[(IN_MEMORY, SLOT), (3, 4)], &[5], 2, 8, 0),
 ];
 
-/// The register of a number.
+/// Returns the register with the number `number`.
 fn register(number: usize) -> PReg {
     PReg::new(number % 64, RegClass::Int)
 }
 
-/// The place of a number, or none.
+/// Returns the place with the number `number`, or none for [`NONE`].
 fn any_place(number: usize) -> Allocation {
     if number == NONE {
         Allocation::none()
@@ -62,7 +62,8 @@ fn any_place(number: usize) -> Allocation {
     }
 }
 
-/// The frame of a case.
+/// Returns a frame with the free registers `free`, the borrowed register `borrowed`, and `slots` slots from `start`
+/// on.
 fn frame_of(
     alloc: Global,
     free: &[usize],
@@ -102,7 +103,7 @@ pub fn write_scheduled(alloc: Global, out: &mut Report) -> Result<(), AllocError
     Ok(())
 }
 
-/// How many moves a call makes, or why none.
+/// Returns how many moves were made, or why none, by `made`.
 fn count_of<A: Allocator>(made: &Result<MoveVec<(), A>, CallFault>) -> Result<usize, CallFault> {
     match made {
         Ok(moves) => Ok(moves.len()),
@@ -124,8 +125,7 @@ pub fn write_long(alloc: Global, out: &mut Report) -> Result<(), AllocError> {
     Ok(())
 }
 
-/// Whether failed allocations, each in turn, leave a call's result as it was, make it `Memory`, or
-/// make it another.
+/// Returns whether failed allocations, each in turn, leave the result `wanted`, make it `Memory`, or make it another.
 fn answers_refused(
     global: Global,
     moves: &[(Allocation, Allocation)],
@@ -150,7 +150,7 @@ fn answers_refused(
     (false, false, true)
 }
 
-/// The moves of a cycle of 17 slots, and one before them.
+/// Returns the moves of a cycle of 17 slots, and the move `first` before them.
 fn cycle_after(
     alloc: Global,
     first: (usize, usize),

@@ -22,8 +22,8 @@ pub const SLOT: usize = 64;
 /// Moves by the numbers of their places.
 pub type Pairs = &'static [(usize, usize)];
 
-/// Moves as they are added: a swap, a move of a place to itself, a repeat, a cycle with a branch, two cycles and a chain, and cycles
-/// of registers and slots side by side.
+/// Moves as they are added: a swap, a move of a place to itself, a repeat, a cycle with a branch, two cycles and a
+/// chain, and cycles of registers and slots side by side.
 static RESOLVED: [Pairs; 6] = [
     &[(0, 1), (1, 0)],
     &[(0, 0)],
@@ -33,7 +33,7 @@ static RESOLVED: [Pairs; 6] = [
     &[(0, SLOT), (SLOT, 0), (0, 1), (SLOT, SLOT + 1)],
 ];
 
-/// The place of a number: registers below 64, then slots.
+/// Returns the place with the number `number`: registers below 64, then slots.
 pub fn place(number: usize) -> Allocation
     ensures { result ≢ NoPlace }
 {
@@ -44,8 +44,10 @@ pub fn place(number: usize) -> Allocation
     }
 }
 
-/// What moves between places of these numbers resolve to, or none where two into one place have two
-/// sources. A move whose memory allocation fails is left out.
+/// Returns what moves between the places of `pairs` resolve to, or `None` if two moves into one place have two
+/// sources.
+///
+/// A move whose memory allocation fails is left out.
 pub fn resolved<'a, A: Allocator>(
     global: Global,
     alloc: &'a A,
@@ -67,15 +69,15 @@ pub fn resolved<'a, A: Allocator>(
     Ok(Some(moves.resolve()?))
 }
 
-/// Whether no two moves into one place have two sources. Sorts them.
+/// Returns whether no two moves of `list` into one place have two sources. Sorts the list.
 fn has_one_source_each(list: &mut [Move]) -> bool
     ensures { IsTrue result → HasOneSourceEach (ends_of list.old) }
 {
-    list.sort_unstable_by_key(|m| u64::from(m.1.bits()) << 32 | u64::from(m.0.bits()));
+    list.sort_unstable_by_key(|m| (m.1, m.0));
     list_rises(list)
 }
 
-/// Whether one move comes before another, or is the same.
+/// Returns whether `a` comes before `b`, or has the same places.
 fn is_before(a: Move, b: Move) -> bool
     ensures { IsTrue result → IsBefore (ends a) (ends b) }
 {
@@ -83,7 +85,7 @@ fn is_before(a: Move, b: Move) -> bool
     to < next || (a.0.bits() == b.0.bits() && to == next)
 }
 
-/// Whether the destinations rise, repeats aside.
+/// Returns whether the destinations of `list` rise, repeats aside.
 fn list_rises(list: &[Move]) -> bool
     ensures { IsTrue result → HasOneSourceEach (ends_of list.now) }
 {
@@ -95,7 +97,7 @@ fn list_rises(list: &[Move]) -> bool
     true
 }
 
-/// Writes moves in their order, in a row of their own.
+/// Writes `moves` in their order, in a row of their own that begins with `name`.
 pub fn write_moves<T>(out: &mut Report, name: &str, moves: &[(Allocation, Allocation, T)]) {
     out.put(&format_args!("{name}:"));
     for m in moves {

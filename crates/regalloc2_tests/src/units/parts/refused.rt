@@ -41,7 +41,7 @@ impl Call for Made<'_> {
     }
 }
 
-/// Computes the moves of a cycle of slots, with two other slots.
+/// Computes `moves`, the moves of a cycle of slots, with two other slots.
 fn compute_cycle(moves: MoveVecWithScratch<u32, &Refusing<Global>>) -> Result<(), RegAllocError>
     requires { IsRunnable moves }
 {
@@ -82,7 +82,7 @@ fn make_sets(alloc: &Refusing<Global>) -> Result<(), RegAllocError> {
     Ok(())
 }
 
-/// Reads a function and an output.
+/// Reads the function and the output of `texts`.
 fn make_stored(
     global: Global,
     alloc: &Refusing<Global>,
@@ -92,7 +92,7 @@ fn make_stored(
     Ok(())
 }
 
-/// What a call returns, with its error as other calls name it: out of memory, or another one.
+/// Returns `answer` with its error as other calls name it: out of memory, or another one.
 fn named<T: Drop>(answer: Result<T, StoredFault>) -> Result<T, RegAllocError> {
     match answer {
         Ok(made) => Ok(made),
@@ -101,12 +101,9 @@ fn named<T: Drop>(answer: Result<T, StoredFault>) -> Result<T, RegAllocError> {
     }
 }
 
-/// The value of a JSON text.
+/// Returns the value of the JSON text `text`.
 fn value_of(global: Global, text: &str) -> Result<Value, RegAllocError> {
-    match Value::from_str(global, text) {
-        Ok(value) => Ok(value),
-        Err(_) => Err(RegAllocError::EntryLivein),
-    }
+    Value::from_str(global, text).map_err(|_| RegAllocError::EntryLivein)
 }
 
 /// A copy of a function that is structurally valid (`IsFramed`), with a machine without registers.
@@ -126,7 +123,7 @@ fn copied<A: Allocator + Copy, F: Function>(
     SerializableFunction::new(alloc, f, env)
 }
 
-/// The function that a JSON value gives.
+/// Returns the function that the JSON value `value` gives.
 fn function_of<A: Allocator + Copy>(
     alloc: A,
     value: &Value,
@@ -135,7 +132,7 @@ fn function_of<A: Allocator + Copy>(
     named(SerializableFunction::from_stored(alloc, &stored))
 }
 
-/// The function that a JSON text gives.
+/// Returns the function that the JSON text `text` gives.
 pub fn function_of_text<A: Allocator + Copy>(
     global: Global,
     alloc: A,
@@ -153,7 +150,8 @@ fn copied_numbers<A: Allocator + Copy>(
     Ok(copied(alloc, f)?.stored()?)
 }
 
-/// The stored numbers of a function that a JSON text gives, copied with a machine without registers.
+/// Returns the stored numbers of the function that the JSON text `text` gives, copied with a machine without
+/// registers.
 fn stored_function<A: Allocator + Copy>(
     global: Global,
     alloc: A,
@@ -163,13 +161,13 @@ fn stored_function<A: Allocator + Copy>(
     copied_numbers(alloc, &f)
 }
 
-/// The output that a JSON value gives.
+/// Returns the output that the JSON value `value` gives.
 fn output_of<A: Allocator + Copy>(alloc: A, value: &Value) -> Result<Output<A>, RegAllocError> {
     let read = named(StoredOutput::from_value(alloc, value))?;
     named(Output::from_stored(alloc, &read))
 }
 
-/// The stored numbers of an output that a JSON text gives.
+/// Returns the stored numbers of the output that the JSON text `text` gives.
 fn stored_output<A: Allocator + Copy>(
     global: Global,
     alloc: A,
@@ -179,7 +177,7 @@ fn stored_output<A: Allocator + Copy>(
     Ok(output_of(alloc, &value)?.stored()?)
 }
 
-/// The stored numbers of a function and of an output that JSON texts give.
+/// Returns the stored numbers of the function and of the output that the JSON texts `texts` give.
 fn stored<A: Allocator + Copy>(
     global: Global,
     alloc: A,
@@ -189,10 +187,9 @@ fn stored<A: Allocator + Copy>(
     Ok((f, stored_output(global, alloc, texts.1)?))
 }
 
-/// Writes the numbers that the texts of a function and an output give, and of each call whether it
-/// reports each allocation that fails.
-pub fn write_all(global: Global, text: &str, out: &mut Report) {
-    let texts = text.split_once('\n').unwrap_or(("", ""));
+/// Writes the numbers that `texts`, a function and an output as JSON, give, and of each call whether it reports each
+/// allocation that fails.
+pub fn write_all(global: Global, texts: (&str, &str), out: &mut Report) {
     out.row("stored", &stored(global, global, texts).ok());
     let parts = is_each_told(global, &Made::Parts(global));
     out.row("rings, list, moves", &parts);

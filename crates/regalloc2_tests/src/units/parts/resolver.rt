@@ -74,21 +74,21 @@ type Places = (Option<Allocation>, Option<Allocation>, Option<Allocation>);
 /// The register and the slot that a resolver returns next, if any.
 type Left = (Option<Allocation>, Option<Allocation>);
 
-/// Whether a move is neither from the place nor to it.
+/// Returns whether `m` is neither from `place` nor to it.
 fn is_apart(m: Move, place: Allocation) -> bool
     ensures { IsTrue result ↔ ((m.0 ≢ place) × (m.1 ≢ place)) }
 {
     !m.0.is_same(place) && !m.1.is_same(place)
 }
 
-/// Whether no move names the place.
+/// Returns whether none of `moves` names `place`.
 fn is_unnamed(moves: &[Move], place: Allocation) -> bool
     ensures { IsTrue result ↔ IsUnnamed place moves.now }
 {
     moves.iter().all(|m| is_apart(*m, place))
 }
 
-/// Whether no move names the place, where there is one, and it is a slot or none as it should be.
+/// Returns whether none of `moves` names `place`, and it is a slot exactly if `is_slot`; also if there is no place.
 fn serves<A: Allocator>(moves: &Resolved<'_, A>, place: Option<Allocation>, is_slot: bool) -> bool
     ensures { IsTrue result → Serves (moves_listed moves.now) place is_slot }
 {
@@ -104,7 +104,7 @@ fn serves<A: Allocator>(moves: &Resolved<'_, A>, place: Option<Allocation>, is_s
     }
 }
 
-/// Whether two places differ, where there are two.
+/// Returns whether `first` and `second` differ, or one of them is no place.
 fn differ(first: Option<Allocation>, second: Option<Allocation>) -> bool
     ensures { IsTrue result → AreApart first second }
 {
@@ -117,7 +117,7 @@ fn differ(first: Option<Allocation>, second: Option<Allocation>) -> bool
     !p.is_same(q)
 }
 
-/// Whether the places serve the moves: a register and two slots that no move names, and that differ.
+/// Returns whether `free` are a register and two slots that differ and that none of `moves` names.
 fn all_serve<A: Allocator>(moves: &Resolved<'_, A>, free: Places) -> bool
     ensures register { IsTrue result → Serves (moves_listed moves.now) free.0 false }
     ensures slots { IsTrue result → Serves (moves_listed moves.now) free.1 true × Serves (moves_listed moves.now) free.2 true }
@@ -135,8 +135,8 @@ fn all_serve<A: Allocator>(moves: &Resolved<'_, A>, free: Places) -> bool
     differ(free.1, free.2)
 }
 
-/// What a resolver makes of moves, if its places serve them; and if it is called by reference, what
-/// it has left.
+/// Returns what `resolver` makes of `moves`, if its places `free` serve them; and what it has left, if it is called
+/// by reference (`by_ref`).
 fn computed<'a, A: Allocator, R, S, M>(
     mut resolver: MoveAndScratchResolver<R, S, M>,
     free: Places,
@@ -166,15 +166,13 @@ where
     Some((made, Some(left)))
 }
 
-/// The place of a number, where there is one.
+/// Returns the place with the number `number`, if there is one.
 fn place_of(number: Option<usize>) -> Option<Allocation> {
-    match number {
-        Some(number) => Some(place(number)),
-        None => None,
-    }
+    number.map(place)
 }
 
-/// What a resolver makes of moves with free places, if these serve them; and if it is called by reference, what it has left.
+/// Returns what a resolver makes of `moves` with the places `free`, if these serve them; and what it has left, if it
+/// is called by reference (`by_ref`).
 pub fn computed_with<'a, A: Allocator>(
     free: Numbers,
     moves: Resolved<'a, A>,
@@ -195,7 +193,8 @@ pub fn computed_with<'a, A: Allocator>(
     computed(resolver, free, moves, by_ref)
 }
 
-/// Writes what the resolver makes of a case's moves, or how many, with what it has left.
+/// Writes what the resolver makes of the moves of `case`; or how many, with what it has left, if it is called by
+/// reference (`by_ref`).
 fn write_case(alloc: Global, out: &mut Report, case: (Pairs, Numbers), by_ref: bool) {
     let Ok(Some(moves)) = resolved(alloc, &alloc, case.0) else {
         return;
@@ -204,10 +203,7 @@ fn write_case(alloc: Global, out: &mut Report, case: (Pairs, Numbers), by_ref: b
         return;
     };
     if let Some(left) = left {
-        let count = match made {
-            Ok(m) => Ok(m.len()),
-            Err(fault) => Err(fault),
-        };
+        let count = made.map(|m| m.len());
         out.row("by reference", &(count, left));
         return;
     }
@@ -217,15 +213,13 @@ fn write_case(alloc: Global, out: &mut Report, case: (Pairs, Numbers), by_ref: b
     }
 }
 
-/// Writes of each case whether its moves need a scratch place, how many there are if not, and what the resolver makes of them.
+/// Writes of each case whether its moves need a scratch place, how many there are if not, and what the resolver makes
+/// of them.
 pub fn write_computed(alloc: Global, out: &mut Report) {
     for case in &CASES {
         if let Ok(Some(moves)) = resolved(alloc, &alloc, case.0) {
             let needs_scratch = moves.needs_scratch();
-            let count = match moves.without_scratch() {
-                Some(m) => Some(m.len()),
-                None => None,
-            };
+            let count = moves.without_scratch().map(|m| m.len());
             out.row("needs scratch", &(needs_scratch, count));
         }
         write_case(alloc, out, *case, false);

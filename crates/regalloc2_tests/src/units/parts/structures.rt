@@ -13,7 +13,7 @@ use regalloc2_parts::lru::{Lru, Lrus, PartedByRegClass};
 use regalloc2_parts::vregset::VRegSet;
 use std::alloc::{Allocator, Global};
 
-/// A register for integers.
+/// Returns the integer register with the number `number`.
 pub fn preg(number: usize) -> PReg
     requires { number ≤ 63 }
     ensures { result ≡ record { number = number; class = RegClass.Int } }
@@ -21,11 +21,12 @@ pub fn preg(number: usize) -> PReg
     PReg::new(number, RegClass::Int)
 }
 
-/// Writes the members of a ring as `last` gives them one by one, the least recently used first;
-/// then the least recently used of p0i and p1i, whether it has none, and the least recently used.
+/// Writes the members of `ring` as `last` returns them one by one, the least recently used first; then the least
+/// recently used of p0i and p1i, whether it has none, and the least recently used.
 fn write_ring<A: Allocator>(out: &mut Report, name: &str, ring: &mut Lru<A>) {
     out.put(&format_args!("{name}:"));
     let mut left = PRegSet::empty().invert();
+    // Each turn removes one of the 64 registers of the ring's class from `left`.
     for _ in 0..64u32 {
         let Some(preg) = ring.last(left) else {
             break;
@@ -40,7 +41,7 @@ fn write_ring<A: Allocator>(out: &mut Report, name: &str, ring: &mut Lru<A>) {
     out.row("is", &(ring.is_empty(), ring.pop(), not_first));
 }
 
-/// Writes a new ring, and the ring after each poke; then how often it requested memory.
+/// Writes a new ring of `regs`, and the ring after each of `poked` is poked; then how often it requested memory.
 fn write_pokes(alloc: Global, out: &mut Report, regs: &[PReg], poked: &[PReg])
     requires { AreDistinctOf RegClass.Int regs.now }
 {
@@ -85,7 +86,7 @@ fn vreg(number: usize) -> VReg
     VReg::new(number, RegClass::Int)
 }
 
-/// Writes the members, the last inserted first, and whether there is none.
+/// Writes the members of `live`, the last inserted first, and whether there is none.
 fn write_list<A: Allocator>(out: &mut Report, live: &VRegSet<A>) {
     out.words("live:");
     for v in live.iter() {
@@ -130,7 +131,7 @@ pub fn write_emptied(alloc: Global, out: &mut Report) -> Result<(), RegAllocErro
     Ok(())
 }
 
-/// Writes the indexes and the operands that a walk gives.
+/// Writes the indexes and the operands that `walk` yields.
 fn write_walk<I: Iterator<Item = (usize, Operand)>>(out: &mut Report, name: &str, walk: I)
     requires can { I.can_next walk }
     requires ends { IsFinite (I.remaining walk) }

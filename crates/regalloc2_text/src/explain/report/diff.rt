@@ -2,19 +2,14 @@
 
 use crate::explain::report::operand::ReportedOperand;
 use crate::explain::stored::{operands_at, places_of};
-use crate::spell::{StoredPlace, StoredPoint};
+use crate::spell::{MoveText, StoredMove, StoredPlace, StoredPoint};
 use regalloc2_function::StoredOutput;
+use regalloc2_names::Allocation;
 use regalloc2_serialize::StoredFunction;
 use std::io::{self, Write};
 
-/// The encoding of no place.
-const NONE: u32 = 0;
-
-/// A stored move: a program point, the place that is read, and the place that is written.
-type Move = (u32, u32, u32);
-
-/// How many moves at the beginning of a list are at a point.
-fn count_at(moves: &[Move], point: u32) -> usize {
+/// Returns how many moves at the beginning of `moves` are at `point`.
+fn count_at(moves: &[StoredMove], point: u32) -> usize {
     for (k, (at, _, _)) in moves.iter().enumerate() {
         if *at != point {
             return k;
@@ -23,15 +18,15 @@ fn count_at(moves: &[Move], point: u32) -> usize {
     moves.len()
 }
 
-/// The moves at a point, which are the first ones of a list, and the moves after them.
-fn split_point(moves: &[Move], point: u32) -> (&[Move], &[Move]) {
+/// Returns the moves at the beginning of `moves` that are at `point`, and the moves after them.
+fn split_point(moves: &[StoredMove], point: u32) -> (&[StoredMove], &[StoredMove]) {
     moves
         .split_at_checked(count_at(moves, point))
         .unwrap_or((moves, &[]))
 }
 
-/// The point of the first of two lists of moves, if one has a move.
-fn next_point(first: &[Move], second: &[Move]) -> Option<u32> {
+/// Returns the smaller of the points at which `first` and `second` begin, if one of them has a move.
+fn next_point(first: &[StoredMove], second: &[StoredMove]) -> Option<u32> {
     match (first.first(), second.first()) {
         (Some(one), Some(other)) => Some(one.0.min(other.0)),
         (Some(one), None) => Some(one.0),
@@ -40,19 +35,22 @@ fn next_point(first: &[Move], second: &[Move]) -> Option<u32> {
     }
 }
 
-/// Writes the moves at one point that only one side has, a line for each.
-fn write_moves<W: Write>(sign: &str, moves: &[Move], to: &mut W) -> io::Result<()> {
+/// Writes `moves`, which only one side has, a line for each that begins with `sign`.
+fn write_moves<W: Write>(sign: &str, moves: &[StoredMove], to: &mut W) -> io::Result<()> {
     for (point, from, into) in moves {
         let point = StoredPoint(*point);
-        let from = StoredPlace(*from);
-        let into = StoredPlace(*into);
-        writeln!(to, "{sign} {point} move {from} -> {into}")?;
+        let places = MoveText(*from, *into);
+        writeln!(to, "{sign} {point} {places}")?;
     }
     Ok(())
 }
 
-/// Writes how the moves at one point differ. Returns whether they do.
-fn diff_point<W: Write>(first: &[Move], second: &[Move], to: &mut W) -> io::Result<bool> {
+/// Writes how `first` and `second`, the moves at one point, differ. Returns whether they do.
+fn diff_point<W: Write>(
+    first: &[StoredMove],
+    second: &[StoredMove],
+    to: &mut W,
+) -> io::Result<bool> {
     if first == second {
         return Ok(false);
     }
@@ -61,11 +59,16 @@ fn diff_point<W: Write>(first: &[Move], second: &[Move], to: &mut W) -> io::Resu
     Ok(true)
 }
 
-/// Writes how the moves differ, point by point. Returns whether they do.
-fn diff_moves<W: Write>(first: &[Move], second: &[Move], to: &mut W) -> io::Result<bool> {
+/// Writes how the moves `first` and `second` differ, point by point. Returns whether they do.
+fn diff_moves<W: Write>(
+    first: &[StoredMove],
+    second: &[StoredMove],
+    to: &mut W,
+) -> io::Result<bool> {
     let mut differs = false;
     let mut left = first;
     let mut right = second;
+    // each turn passes a move or more
     for _ in 0..first.len().saturating_add(second.len()) {
         let Some(point) = next_point(left, right) else {
             break;
@@ -79,7 +82,7 @@ fn diff_moves<W: Write>(first: &[Move], second: &[Move], to: &mut W) -> io::Resu
     Ok(differs)
 }
 
-/// Writes how the places of an instruction's operands differ. Returns whether they do.
+/// Writes how the places of the operands of `inst` in `first` and `second` differ. Returns whether they do.
 fn diff_inst<W: Write>(
     function: &StoredFunction,
     first: &StoredOutput,
@@ -87,12 +90,13 @@ fn diff_inst<W: Write>(
     inst: usize,
     to: &mut W,
 ) -> io::Result<bool> {
+    let none = Allocation::none().bits();
     let mut differs = false;
     let left = places_of(first, inst);
     let right = places_of(second, inst);
     for (k, operand) in operands_at(function, inst).iter().enumerate() {
-        let here = left.get(k).copied().unwrap_or(NONE);
-        let there = right.get(k).copied().unwrap_or(NONE);
+        let here = left.get(k).copied().unwrap_or(none);
+        let there = right.get(k).copied().unwrap_or(none);
         if here != there {
             let operand = ReportedOperand(*operand);
             let here = StoredPlace(here);
@@ -104,9 +108,10 @@ fn diff_inst<W: Write>(
     Ok(differs)
 }
 
-/// Writes how two outputs of one function differ: operands with their places in the first and the
-/// second, then moves, `-` if only the first has it and `+` if only the second does, and slots.
-/// Returns whether they differ. Linear in function and outputs.
+/// Writes how the outputs `first` and `second` of `function` differ. Returns whether they do.
+///
+/// Writes the operands with their places in `first` and `second`, then the moves, `-` if only `first` has it and `+`
+/// if only `second` has it, and the slots. Linear in the function and the outputs.
 pub fn write_diff<W: Write>(
     function: &StoredFunction,
     first: &StoredOutput,

@@ -1,9 +1,11 @@
 //! A function with its allocation, in the form in which upstream prints results.
 
 use crate::explain::report::operand::ReportedOperand;
-use crate::explain::stored::{list_of, moves_from, operands_at, places_of};
-use crate::spell::{StoredPlace, StoredPoint, StoredRegister};
+use crate::explain::stored::{moves_from, operands_at, places_of, point_after, point_before};
+use crate::named::list_at;
+use crate::spell::{MoveText, StoredPlace, StoredPoint, StoredRegister};
 use regalloc2_function::StoredOutput;
+use regalloc2_names::{Allocation, ProgPoint};
 use regalloc2_serialize::{InstOpcode, StoredFunction};
 use std::fmt;
 use std::io::{self, Write};
@@ -23,14 +25,14 @@ impl fmt::Display for Numbers<'_> {
     }
 }
 
-/// Writes a block's head: `block1: [succs [2, 3] preds [0]]`.
+/// Writes the head of `block`: `block1: [succs [2, 3] preds [0]]`.
 fn write_head<W: Write>(function: &StoredFunction, block: usize, to: &mut W) -> io::Result<()> {
-    let succs = Numbers(list_of(function.block_succs.as_slice(), block));
-    let preds = Numbers(list_of(function.block_preds.as_slice(), block));
+    let succs = Numbers(list_at(function.block_succs.as_slice(), block));
+    let preds = Numbers(list_at(function.block_preds.as_slice(), block));
     writeln!(to, "block{block}: [succs [{succs}] preds [{preds}]]")
 }
 
-/// Upstream's name for an instruction.
+/// Returns upstream's name for an instruction with the opcode `op`.
 fn name_of(op: InstOpcode) -> &'static str {
     match op {
         InstOpcode::Op => "op",
@@ -39,18 +41,19 @@ fn name_of(op: InstOpcode) -> &'static str {
     }
 }
 
-/// Writes an instruction's operands, each with its place in brackets.
+/// Writes `operands`, each with its place among `places` in brackets.
 fn write_operands<W: Write>(operands: &[u64], places: &[u32], to: &mut W) -> io::Result<()> {
+    let none = Allocation::none().bits();
     for (k, bits) in operands.iter().enumerate() {
         let before = if k == 0 { "" } else { ", " };
         let operand = ReportedOperand(*bits);
-        let place = StoredPlace(places.get(k).copied().unwrap_or(0));
+        let place = StoredPlace(places.get(k).copied().unwrap_or(none));
         write!(to, "{before}{operand} [{place}]")?;
     }
     Ok(())
 }
 
-/// Writes an instruction's clobbers: ` [clobber: p0i, p1i]`, or nothing.
+/// Writes `clobbers`, as ` [clobber: p0i, p1i]`, or nothing if there are none.
 fn write_clobbers<W: Write>(clobbers: &[u8], to: &mut W) -> io::Result<()> {
     for (k, clobber) in clobbers.iter().enumerate() {
         let before = if k == 0 { " [clobber: " } else { ", " };
@@ -63,21 +66,20 @@ fn write_clobbers<W: Write>(clobbers: &[u8], to: &mut W) -> io::Result<()> {
     write!(to, "]")
 }
 
-/// Writes the moves at a point, as upstream's annotations of results.
-fn write_moves<W: Write>(output: &StoredOutput, point: u64, to: &mut W) -> io::Result<()> {
+/// Writes the moves at `point`, as upstream's annotations of results.
+fn write_moves<W: Write>(output: &StoredOutput, point: ProgPoint, to: &mut W) -> io::Result<()> {
     for (at, from, into) in moves_from(output.edits.as_slice(), point) {
-        if u64::from(*at) != point {
+        if *at != point.to_index() {
             break;
         }
         let at = StoredPoint(*at);
-        let from = StoredPlace(*from);
-        let into = StoredPlace(*into);
-        writeln!(to, "  {at}: move {from} -> {into}")?;
+        let places = MoveText(*from, *into);
+        writeln!(to, "  {at}: {places}")?;
     }
     Ok(())
 }
 
-/// Writes an instruction between its moves.
+/// Writes `inst` between its moves.
 fn write_inst<W: Write>(
     function: &StoredFunction,
     output: &StoredOutput,
@@ -87,18 +89,19 @@ fn write_inst<W: Write>(
     let Some(data) = function.insts.get(inst) else {
         return Ok(());
     };
-    let point = (inst as u64).saturating_mul(2);
-    write_moves(output, point, to)?;
+    write_moves(output, point_before(inst), to)?;
     let name = name_of(data.op);
     write!(to, "  inst{inst}: {name} ")?;
     write_operands(operands_at(function, inst), places_of(output, inst), to)?;
     write_clobbers(data.clobbers.as_slice(), to)?;
-    writeln!(to, "")?;
-    write_moves(output, point.saturating_add(1), to)
+    writeln!(to)?;
+    write_moves(output, point_after(inst), to)
 }
 
-/// Writes a function with its output as upstream's `dump_results` does: heads of blocks with successors and predecessors, instructions as
-/// `op`, `br` or `ret` with operands, places and clobbers, and moves as annotations at their points, which are by rising numbers.
+/// Writes `function` with `output` as upstream's `dump_results` does.
+///
+/// Writes the heads of blocks with successors and predecessors, instructions as `op`, `br` or `ret` with operands,
+/// places and clobbers, and moves as annotations at their points. The moves of `output` are sorted by points.
 pub fn write_dump<W: Write>(
     function: &StoredFunction,
     output: &StoredOutput,

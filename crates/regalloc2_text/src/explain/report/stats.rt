@@ -1,8 +1,8 @@
 //! Counts of an allocated function.
 
-use crate::explain::stored::operand_of;
+use crate::named::{has_register, operand_of, place_of};
 use regalloc2_function::StoredOutput;
-use regalloc2_names::{Allocation, OperandConstraint};
+use regalloc2_names::OperandConstraint;
 use regalloc2_serialize::{StoredFunction, StoredMachine};
 use std::fmt;
 
@@ -27,7 +27,7 @@ pub struct Stats {
     pub slots: u64,
 }
 
-/// The counts of operands, each with the name of its constraint.
+/// Returns the counts `operands`, each with the name of its constraint.
 fn by_constraint(operands: &[u64; 6]) -> [(&'static str, u64); 6] {
     let [any, reg, stack, fixed, reuse, limit] = *operands;
     [
@@ -40,7 +40,7 @@ fn by_constraint(operands: &[u64; 6]) -> [(&'static str, u64); 6] {
     ]
 }
 
-/// The index of a constraint's count.
+/// Returns the index of the count of `constraint`.
 fn index_of(constraint: OperandConstraint) -> usize {
     match constraint {
         OperandConstraint::Any => 0,
@@ -55,22 +55,19 @@ fn index_of(constraint: OperandConstraint) -> usize {
 /// Returns whether the place with the encoding `bits` is a stack place: a spill slot, or a register
 /// that is a fixed stack slot.
 fn is_stack_place(machine: &StoredMachine, bits: u32) -> bool {
-    if !Allocation::is_bits(bits) {
+    let Some(place) = place_of(bits) else {
         return false;
-    }
-    let place = Allocation::from_bits(bits);
+    };
     match place.as_reg() {
-        Some(register) => {
-            let index = register.index() as u8;
-            machine.fixed_stack_slots.as_slice().contains(&index)
-        }
+        Some(register) => has_register(machine.fixed_stack_slots.as_slice(), register),
         None => place.is_stack(),
     }
 }
 
 impl Stats {
-    /// The counts of a function with its output. A stack-to-stack move, which no faithful output
-    /// has, counts as a store. Linear in both.
+    /// Returns the counts of `function` with `output`. Linear in both.
+    ///
+    /// A stack-to-stack move, which no faithful output has, counts as a store.
     pub fn of(function: &StoredFunction, output: &StoredOutput) -> Stats {
         let mut stats = Stats {
             insts: function.insts.len(),
@@ -91,7 +88,7 @@ impl Stats {
         stats
     }
 
-    /// Counts operands.
+    /// Counts `operands`.
     fn count_operands(&mut self, operands: &[u64]) {
         for bits in operands {
             if let Some(operand) = operand_of(*bits) {
@@ -102,7 +99,7 @@ impl Stats {
         }
     }
 
-    /// Counts a move.
+    /// Counts the move from place `from` to place `to`.
     fn count_move(&mut self, machine: &StoredMachine, from: u32, to: u32) {
         if is_stack_place(machine, to) {
             self.stores = self.stores.saturating_add(1);

@@ -5,7 +5,7 @@ use Rattle.std.proofs.lemmas.Iterator.Adapters.{fact_from_extend, YieldsList-fro
 use Rattle.regalloc2_function.specs.FunctionValue.{FunctionValue}
 use Rattle.regalloc2_serialize.specs.declared.table_function.builder.BlockDraft.{BlockDraft}
 use Rattle.regalloc2_serialize.specs.TableFunction.Draft.{draft_of}
-use Rattle.regalloc2_serialize.specs.Rewrite.SplitEdges.{AreEntries, AreJumps, kept_block}
+use Rattle.regalloc2_serialize.specs.Rewrite.SplitEdges.{AreEntryCounts, AreJumps, kept_block}
 use Rattle.regalloc2_serialize.proofs.RewriteLemmas.Lists.{filled-more}
 use Rattle.regalloc2_serialize.proofs.RewriteLemmas.SplitSteps.{all-made}
 use Rattle.regalloc2_serialize.proofs.rewrite.edges.split_blocks.Goals as goal
@@ -17,7 +17,7 @@ split_block-requires g c =
       counted = record {
         framed = c.requires.framed;
         block = omega (arith, c.new.ensures, c.loop-block-test.true, c.num_blocks-block-end.ensures.count);
-        entries = subst (AreEntries f) (sym c.as_slice.ensures.value) c.in_ok-entries.ensures;
+        entries = subst (AreEntryCounts f) (sym c.as_slice.ensures.value) c.in_ok-entries.ensures;
       };
       before = subst (λ (b : ℕ). AreJumps c.args.none f b 0 (map draft_of c.loop-block.jumps.items)) (sym c.new.ensures) c.loop-block.invariant.jumps;
     }

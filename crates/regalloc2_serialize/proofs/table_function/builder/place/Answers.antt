@@ -9,14 +9,14 @@ use Rattle.regalloc2_serialize.proofs.table_function.builder.place.Goals as goal
 at-limit : (n len l m : ℕ) → 2 ^ 30 ≤ n → n ≡ len → len ≡ l → l ≡ m → 2 ^ 30 ≤ m
 at-limit n len l m many is long e = omega arith
 
-pub returns-then-len-ge-LIMIT-clause-err : goal.returns-then-len-ge-LIMIT-clause-err
-returns-then-len-ge-LIMIT-clause-err g c =
+pub returns-then-len-ge-INST_LIMIT-clause-err : goal.returns-then-len-ge-INST_LIMIT-clause-err
+returns-then-len-ge-INST_LIMIT-clause-err g c =
     let more : c.extend.new.self.items ≡ c.args.insts.now.items ++ c.args.draft.insts.items = IfOk-at_ok
     (λ _. c.extend.new.self.items ≡ c.args.insts.now.items ++ c.args.draft.insts.items) c.in_ok-extend.was
     (fact_from_extend (λ x. x) c.extend.result c.extend.ensures.ran (λ it b. YieldsList-from_vec {s = it} _ b.0 (b.1 ∙ c.args.draft.insts.ok.0))
     (λ xs e h. h.0 ∙ ap (λ (l : List (TableInst g.row.A.Denot)). c.args.insts.now.items ++ l) (sym (map-id xs) ∙ e))) in
     let long = ap length more in
-    rw length-map (at-limit _ _ _ _ c.if-len-ge-LIMIT.true c.len-2.ensures c.extend.new.self.ok.0 (rw length-append at long))
+    rw length-map (at-limit _ _ _ _ c.if-len-ge-INST_LIMIT.true c.len-2.ensures c.extend.new.self.ok.0 (rw length-append at long))
 
 pub returns-clause-blocks : goal.returns-clause-blocks
 returns-clause-blocks g c =
@@ -41,14 +41,14 @@ returns-clause-insts g c =
 pub returns-clause-err : goal.returns-clause-err
 returns-clause-err g c = tt
 
-pub returns-then-len-ge-LIMIT-clause-blocks : goal.returns-then-len-ge-LIMIT-clause-blocks
-returns-then-len-ge-LIMIT-clause-blocks g c = tt
+pub returns-then-len-ge-INST_LIMIT-clause-blocks : goal.returns-then-len-ge-INST_LIMIT-clause-blocks
+returns-then-len-ge-INST_LIMIT-clause-blocks g c = tt
 
-pub returns-then-len-ge-LIMIT-clause-few : goal.returns-then-len-ge-LIMIT-clause-few
-returns-then-len-ge-LIMIT-clause-few g c = tt
+pub returns-then-len-ge-INST_LIMIT-clause-few : goal.returns-then-len-ge-INST_LIMIT-clause-few
+returns-then-len-ge-INST_LIMIT-clause-few g c = tt
 
-pub returns-then-len-ge-LIMIT-clause-insts : goal.returns-then-len-ge-LIMIT-clause-insts
-returns-then-len-ge-LIMIT-clause-insts g c = tt
+pub returns-then-len-ge-INST_LIMIT-clause-insts : goal.returns-then-len-ge-INST_LIMIT-clause-insts
+returns-then-len-ge-INST_LIMIT-clause-insts g c = tt
 
 pub returns-clause-few : goal.returns-clause-few
-returns-clause-few g c = omega (arith, c.if-len-ge-LIMIT.false, c.len-2.ensures)
+returns-clause-few g c = omega (arith, c.if-len-ge-INST_LIMIT.false, c.len-2.ensures)

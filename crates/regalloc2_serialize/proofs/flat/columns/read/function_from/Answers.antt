@@ -113,10 +113,10 @@ returns-clause-function g c =
           (c.in_ok-inst_bounds.ensures ∙ ap (λ l. 0 ∷ l) c.column.ensures.column) edges.preds edges.pred_bounds
           edges.succs edges.succ_bounds edges.params edges.param_bounds edges.arguments edges.argument_bounds)
           (c.new.ensures ∙ ap (λ h. h.entry) head) (ap (λ h. h.vregs) head) (c.sizes_of.ensures ∙ ap (λ h. column_sizes h.sizes) head)
-          (ap (λ h. nat_eq (h.flags % 2) 1) head)
+          (c.is_named_by_last_slot.ensures ∙ ap (λ h. nat_eq (h.flags % 2) 1) head)
           (c.in_ok-labels.ensures ∙ ap (λ ws. map (label_at ws) (range_with_len 0 c.header-header.result.labels)) c.column-2.ensures.column
           ∙ ap (λ h. map (label_at (label_words words)) (range_with_len 0 h.labels)) head)
-          (ap (λ h. nat_eq (h.flags / 2) 1) head);
+          (c.allows_multiple_defs.ensures ∙ ap (λ h. nat_eq (h.flags / 2) 1) head);
     }
 
 pub returns-clause-memory : goal.returns-clause-memory

@@ -3,7 +3,7 @@ use Rattle.std.specs.Prelude.{slice_index_or}
 use Rattle.std.proofs.lemmas.List.{length-take-le, length-drop}
 use Rattle.regalloc2_names.specs.declared.sets.PRegSet.{PRegSet}
 use Rattle.regalloc2_function.specs.Machine.{empty_set}
-use Rattle.regalloc2_serialize.specs.Flat.Columns.Value.{HasBits, HaveBits, bits_at}
+use Rattle.regalloc2_serialize.specs.Flat.Columns.Value.{HasBits, HaveBits, set_words_at}
 use Rattle.regalloc2_serialize.proofs.flat.columns.typed.class_sets.Goals as goal
 
 six : (words : List ℕ) (first : ℕ) → length words ≡ 18 → first < 13 → length (take 6 (drop first words)) ≡ 6
@@ -13,7 +13,7 @@ three : (words : List ℕ) (a b c : PRegSet) → HasBits (take 6 words) a → Ha
     HaveBits words 3 (a ∷ b ∷ c ∷ [])
 three words a b c first second third = record { count_is = refl; each = each }
   where
-    each : (k : ℕ) → k < 3 → HasBits (bits_at words k) (slice_index_or (a ∷ b ∷ c ∷ []) k empty_set)
+    each : (k : ℕ) → k < 3 → HasBits (set_words_at words k) (slice_index_or (a ∷ b ∷ c ∷ []) k empty_set)
     each zero less = first
     each (suc zero) less = second
     each (suc (suc zero)) less = third

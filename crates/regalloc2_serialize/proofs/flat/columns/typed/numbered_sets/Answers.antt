@@ -2,11 +2,11 @@ use Rattle.std.proofs.Common.{◌≡◌, ◌∙◌, ◌+◌, ◌++◌, ◌∷◌
 use Rattle.std.proofs.lemmas.List.{get_or_append_left, get_or_push, length_push}
 use Rattle.regalloc2_names.specs.declared.sets.PRegSet.{PRegSet}
 use Rattle.regalloc2_function.specs.Machine.{empty_set}
-use Rattle.regalloc2_serialize.specs.Flat.Columns.Value.{AreNumbered, HasBits, bits_at}
+use Rattle.regalloc2_serialize.specs.Flat.Columns.Value.{AreNumbered, HasBits, set_words_at}
 use Rattle.regalloc2_serialize.proofs.flat.columns.typed.numbered_sets.Goals as goal
 
 -- one more set
-more : (words : List ℕ) (k : ℕ) (sets : List PRegSet) (s : PRegSet) → AreNumbered words k sets → HasBits (bits_at words k) s →
+more : (words : List ℕ) (k : ℕ) (sets : List PRegSet) (s : PRegSet) → AreNumbered words k sets → HasBits (set_words_at words k) s →
     AreNumbered words (k + 1) (sets ++ s ∷ [])
 more words k sets s old here = record {
   count_is = length_push sets s ∙ ap (λ n. n + 1) old.count_is;

@@ -54,17 +54,17 @@ returns-clause-err g c = tt
 pub returns-then-len-ge-BLOCK_LIMIT-clause-ok : goal.returns-then-len-ge-BLOCK_LIMIT-clause-ok
 returns-then-len-ge-BLOCK_LIMIT-clause-ok g c = tt
 
-pub returns-then-num_vregs-ge-LIMIT-clause-ok : goal.returns-then-num_vregs-ge-LIMIT-clause-ok
-returns-then-num_vregs-ge-LIMIT-clause-ok g c = tt
+pub returns-then-num_vregs-ge-VREG_LIMIT-clause-ok : goal.returns-then-num_vregs-ge-VREG_LIMIT-clause-ok
+returns-then-num_vregs-ge-VREG_LIMIT-clause-ok g c = tt
 
 pub of_blocks-requires-clause-insts : goal.of_blocks-requires-clause-insts
 of_blocks-requires-clause-insts g c = c.in_ok-blocks.ensures.few
 
 pub of_blocks-requires-clause-vregs : goal.of_blocks-requires-clause-vregs
-of_blocks-requires-clause-vregs g c = c.if-num_vregs-ge-LIMIT.false
+of_blocks-requires-clause-vregs g c = c.if-num_vregs-ge-VREG_LIMIT.false
 
 pub returns-then-len-ge-BLOCK_LIMIT-clause-err : goal.returns-then-len-ge-BLOCK_LIMIT-clause-err
 returns-then-len-ge-BLOCK_LIMIT-clause-err g c = rw length-map (omega (arith, c.if-len-ge-BLOCK_LIMIT.true, c.len.ensures, c.args.self.blocks.ok.0))
 
-pub returns-then-num_vregs-ge-LIMIT-clause-err : goal.returns-then-num_vregs-ge-LIMIT-clause-err
-returns-then-num_vregs-ge-LIMIT-clause-err g c = c.if-num_vregs-ge-LIMIT.true
+pub returns-then-num_vregs-ge-VREG_LIMIT-clause-err : goal.returns-then-num_vregs-ge-VREG_LIMIT-clause-err
+returns-then-num_vregs-ge-VREG_LIMIT-clause-err g c = c.if-num_vregs-ge-VREG_LIMIT.true

@@ -9,5 +9,5 @@ returns-in-TooMany g c = λ plain ok.
 
 pub returns-in-SlotSize : goal.returns-in-SlotSize
 returns-in-SlotSize g c = λ plain ok.
-    has_written_of_eq _ _ _ _ _ (rw (c.in-SlotSize.is, c.class_of_number.ensures) (simp append_assoc))
+    has_written_of_eq _ _ _ _ _ (rw c.in-SlotSize.is (simp append_assoc))
     (c.write-in-SlotSize.ensures.writes plain ok)

@@ -1,5 +1,5 @@
 use Rattle.std.proofs.Common.{length}
 use Rattle.regalloc2_text.proofs.writer.moves.Moves.write_after.Given as goal
 
-abbrev pub decreases-loop-from : goal.decreases-loop-from
-decreases-loop-from g l = length l.self.rest.now
+abbrev pub decreases-loop-point : goal.decreases-loop-point
+decreases-loop-point g l = length l.self.rest.now
