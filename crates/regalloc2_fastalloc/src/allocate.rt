@@ -82,17 +82,17 @@ fn fill_places<A: Allocator + Copy, F: Function, B: Allocator>(
     })
 }
 
-/// Allocates registers to the operands of a well-formed function, of which `found` is the survey. Returns an
+/// Allocates registers to the operands of the well-formed function `f`, of which `survey` is the survey. Returns an
 /// error if some instruction fails an operand test, though perhaps another error than that test's.
 pub fn allocate<A: Allocator + Copy, F: Function, B: Allocator>(
     alloc: A,
     f: &F,
     env: &MachineEnv<B>,
-    found: Survey<A>,
+    survey: Survey<A>,
 ) -> Result<Output<A>, RegAllocError>
     requires machine { MachineFits (F.function f.now) (machine_of env.now) }
     requires well_formed { IsWellFormed (machine_of env.now) (F.function f.now) }
-    requires found { IsSurvey (F.function f.now) found.offsets.items found.total found.wanted.items }
+    requires survey { IsSurvey (F.function f.now) survey.offsets.items survey.total survey.wanted.items }
     ensures allocation { IfOk result (λ out. IsAllocation (F.function f.now) (machine_of env.now) (output_of out)) }
     ensures passes { OnOk result (AllPassTests (F.function f.now)) }
     ensures err { IfErr result (LacksIfPassed (F.function f.now) (machine_of env.now)) }
@@ -101,7 +101,7 @@ pub fn allocate<A: Allocator + Copy, F: Function, B: Allocator>(
         offsets,
         total,
         wanted,
-    } = found;
+    } = survey;
     let mut allocs = vec![in alloc; Allocation::none(); total as usize]?;
     let rest = fill_places(alloc, f, env, &offsets, &mut allocs, &wanted)?;
     Ok(Output {

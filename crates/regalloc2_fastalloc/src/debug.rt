@@ -11,8 +11,8 @@ use regalloc2_function::Function;
 use regalloc2_names::{Allocation, ProgPoint, RegAllocError};
 use std::alloc::Allocator;
 
-/// Returns the place that shows a vreg's value over `range`: the vreg's slot if it has one, else the place of the operand that
-/// `range` names.
+/// Returns the place that shows a vreg's value over `range`: the vreg's slot if it has one, else
+/// the place of the operand that `range` names.
 fn place_of<B: Allocator>(
     range: LiveRange,
     slots: &SpillSlots<B>,
@@ -62,8 +62,8 @@ fn locate<A: Allocator, B: Allocator>(
     Ok(locations)
 }
 
-/// Returns the debug locations of a function whose walk left `slots` and the places `allocs`: one for each kept label, by rising
-/// label, and as listed where labels are equal.
+/// Returns the debug locations of a function whose walk left `slots` and the places `allocs`: one
+/// for each kept label, by rising label, and as listed where labels are equal.
 pub fn locations<A: Allocator + Copy, F: Function, B: Allocator>(
     alloc: A,
     f: &F,

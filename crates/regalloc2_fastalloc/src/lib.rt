@@ -61,10 +61,12 @@ impl<A: Allocator + Copy> Ctx<A> {
         }
     }
 
-    /// Allocates registers to a function, puts the output into `self.output` and lends it.
+    /// Allocates registers to `f` on the machine `env`, puts the output into `self.output` and
+    /// lends it.
     ///
-    /// Has the preconditions, output and errors of [`run`]. After the loan, `self.output` holds what the borrower left in the lent output.
-    /// After an error, `self.output` holds the output that it held at the call.
+    /// Has the preconditions, output and errors of [`run`]. After the loan, `self.output` holds
+    /// what the borrower left in the lent output. After an error, `self.output` holds the output
+    /// that it held at the call.
     ///
     /// Upstream: no such method. Spec: `LendsOutput` in `specs/Lending.antt`.
     pub fn run<F: Function, B: Allocator>(
@@ -109,9 +111,9 @@ impl<A: Allocator + Copy> Ctx<A> {
 /// function does: along every path, and whatever the instructions compute, each use reads the
 /// function's own value. Where a path comes to a block, each vreg that is live there owns a slot,
 /// which holds its value; but what the branch into the block defines is still in the place of the
-/// branch's operand, and so is each parameter that is given it. The place of each debug location holds its vreg's value,
-/// from where that is given up to each step that uses it, at all steps but branches. This premise
-/// isn't tested here.
+/// branch's operand, and so is each parameter that is given it. The place of each debug location
+/// holds its vreg's value, from where that is given up to each step that uses it, at all steps but
+/// branches. This premise isn't tested here.
 ///
 /// # Errors
 ///
@@ -196,8 +198,9 @@ pub fn run_into_ctx<A: Allocator + Copy, F: Function, B: Allocator>(
 
 /// Allocates registers to a function, puts the output into `ctx.output` and lends it.
 ///
-/// Calls [`Ctx::run`], and lends the output as a `&`. The contract says nothing of `ctx` after the call, because the toolchain proves no
-/// such clause for upstream's signature. [`Ctx::run`] and [`run_into_ctx`] have one.
+/// Calls [`Ctx::run`], and lends the output as a `&`. The contract says nothing of `ctx` after the
+/// call, because the toolchain proves no such clause for upstream's signature. [`Ctx::run`] and
+/// [`run_into_ctx`] have one.
 pub fn run_with_ctx<'c, A: Allocator + Copy, F: Function, B: Allocator>(
     f: &F,
     env: &MachineEnv<B>,

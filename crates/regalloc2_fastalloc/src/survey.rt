@@ -34,7 +34,8 @@ fn add_operands(total: u32, operands: usize) -> Option<u32>
     total.checked_add(u32::try_from(operands).ok()?)
 }
 
-/// Makes the pass. Stops if memory runs out or there are 2^32 operands; the error doesn't tell which.
+/// Makes the pass over `f`. Stops if memory runs out or there are 2^32 operands; the error doesn't
+/// tell which.
 fn survey_once<A: Allocator + Copy, F: Function>(
     alloc: A,
     f: &F,
@@ -59,8 +60,8 @@ fn survey_once<A: Allocator + Copy, F: Function>(
     })
 }
 
-/// Makes the pass. The error is `TooManyOperands` if there are 2^32 operands or more, even if memory
-/// runs out before they are counted; else it is `Memory`.
+/// Makes the pass over `f`. The error is `TooManyOperands` if there are 2^32 operands or more, even
+/// if memory runs out before they are counted; else it is `Memory`.
 pub fn survey_operands<A: Allocator + Copy, F: Function>(
     alloc: A,
     f: &F,
@@ -77,7 +78,7 @@ pub fn survey_operands<A: Allocator + Copy, F: Function>(
     Err(RegAllocError::Memory)
 }
 
-/// Makes the operand tests one after the other if some instruction fails one, for the error that
+/// Makes the operand tests of `f` one after the other unless `passes` is true, for the error that
 /// comes first.
 pub fn validate_unless_passed<F: Function>(f: &F, passes: bool) -> Result<(), RegAllocError>
     requires { IsTrue passes → AllPassTests (F.function f.now) }

@@ -3,7 +3,7 @@
 -- Depends on the specs, and on `Cells` and `Plain` of regalloc2_semantics for maps that change at one place.
 -- Locations: `inverse_marked` in `VRegInPRegInverse`, the two tables stay inverse; `RegistersOfVRegs`. Slots:
 -- `SpillSlotUnits` (how many units they take), `SlotsAsPlaces`. Registers: `LrusOfMachine`, `LrusByClass` and `GreatestOfClass`,
--- over `ArraysByClass`, `ClassIsEmpty`, `SetMembers`, `SetOfList` and `CountingLaws`. Edits:
+-- over `ArraysByClass`, `ClassIsEmpty`, `SetMembers` and `CountingLaws`. Edits:
 -- `PointsDescend` (points never rise), `EditsPushed`. Operands of an instruction as masks: `MaskLemmas`.
 -- Other crates cite `ArraysByClass`, `CountingLaws`, `PointsDescend`, `SetMembers`, `SlotsAsPlaces`,
 -- `SpillSlotUnits` and `TakenOut`.
@@ -18,7 +18,6 @@ pub mod MaskLemmas
 pub mod PointsDescend
 pub mod RegistersOfVRegs
 pub mod SetMembers
-pub mod SetOfList
 pub mod SlotsAsPlaces
 pub mod SpillSlotUnits
 pub mod TakenOut

@@ -1,5 +1,5 @@
 -- The set of the registers at which the vregs of a list are located.
-use Rattle.std.proofs.Common.{◌≡◌, ◌<◌, ◌++◌, [], ◌∷◌, true, false, List, refl, sym, ap, ◌∙◌, subst, ⊎_elim, arith}
+use Rattle.std.proofs.Common.{◌≡◌, ◌<◌, ◌++◌, [], ◌∷◌, Bool, true, false, List, refl, sym, ap, ◌∙◌, subst, ⊎_elim, arith}
 use Rattle.std.specs.Prelude.{Some, Contains, ◌↔◌, ◌||◌, slice_index_or}
 use Rattle.std.proofs.lemmas.List.Elements.{Contains-append_left, Contains-append_right, Contains-push, Contains-push_cases}
 use Rattle.std.proofs.lemmas.Bool.{or_left, or_right, cases_Bool}
@@ -11,7 +11,11 @@ use Rattle.regalloc2_semantics.proofs.Cells.{is_register-true, is_register-same}
 use Rattle.regalloc2_semantics.proofs.Forms.{same_register}
 use Rattle.regalloc2_fastalloc_state.specs.FilledRegs.{AreRegistersOf}
 use Rattle.regalloc2_fastalloc_state.specs.StateParts.{VRegAllocsValue, IsInverse, vreg_of_preg}
-use Rattle.regalloc2_fastalloc_state.proofs.SetOfList.{or_false}
+
+-- of a true disjunction whose first part is false, the second is true
+or_false : (b c : Bool) → b ≡ false → (b || c) ≡ true → c ≡ true
+or_false true c e h = absurd cc
+or_false false c e h = h
 
 -- a set with the register of one vreg more
 pub one_found : (allocs : List Place) (vregs : List VirtualRegister) (x : VirtualRegister) (r : Register) (set new : PRegSet) →

@@ -132,13 +132,17 @@ owners s = count_by (λ p. not (is_no_place p)) s.vreg_spillslots
 abbrev pub AreUpTo : ℕ → List ℕ → Type 0
 AreUpTo most sizes = (c : ℕ) → c < 3 → slice_index sizes c ≤ most
 
+-- no two vregs have the same slot
+abbrev pub NoSlotIsShared : SpillSlotsValue → Type 0
+NoSlotIsShared s = (m n k : ℕ) → slot_name s m ≡ InSlot k → slot_name s n ≡ InSlot k → m ≡ n
+
 -- Each name has one owner, and lies below the count. A slot takes a unit at least, and is aligned to its size, so it takes less than twice as many units.
 pub record SlotsHaveOneOwner (s : SpillSlotsValue) : Type 0 where
   pub three : length s.sizes ≡ 3
   pub sizes : (c : ℕ) → c < 3 → 0 < slice_index s.sizes c × slice_index s.sizes c ≤ most_units
   pub few : s.count ≤ most_units
   pub below : (n : ℕ) → IsSlotOrNone s.count (slot_name s n)
-  pub own : (m n k : ℕ) → slot_name s m ≡ InSlot k → slot_name s n ≡ InSlot k → m ≡ n
+  pub own : NoSlotIsShared s
   pub room : (most : ℕ) → AreUpTo most s.sizes → s.count ≤ (owners s + s.num_temp_slots) * (2 * most)
   pub some : s.num_temp_slots ≤ s.count
 

@@ -42,7 +42,7 @@ impl<A: Allocator> Model for AllocatableRegs<A> {
     ghost invariant = { λ t. AreLrus t.allocatable t.lrus.items × AreSplit t.allocatable t.of_class × HasSmall t.fixed_stack };
 }
 
-/// The registers of a class in a set, by rising number.
+/// The registers of `class` in `set`, by rising number.
 fn class_registers<A: Allocator>(
     alloc: A,
     set: PRegSet,
@@ -61,8 +61,8 @@ fn class_registers<A: Allocator>(
     Ok(regs)
 }
 
-/// The LRU list of each class, of its registers in the class's set: the lowest number is the most
-/// recently used.
+/// The LRU list of each class, of the registers of the class in `int`, `float` or `vector`: the
+/// lowest number is the most recently used.
 fn lrus_of<A: Allocator + Copy>(
     alloc: A,
     int: PRegSet,
@@ -78,28 +78,9 @@ fn lrus_of<A: Allocator + Copy>(
     Lrus::new(alloc, &int_regs, &float_regs, &vector_regs)
 }
 
-/// The allocatable registers of a class.
-pub fn allocatable_of<A: Allocator>(env: &MachineEnv<A>, class: RegClass) -> PRegSet
-    ensures { (r : Register) → has_register result r ≡ is_allocatable (machine_of env.now) class r }
-{
-    let index = class.code();
-    env.preferred_regs_by_class[index] | env.non_preferred_regs_by_class[index]
-}
-
-/// Returns the set of the registers `regs`.
-fn set_of(regs: &[PReg]) -> PRegSet
-    ensures { (r : Register) → (has_register result r ≡ true) ↔ Contains regs.now r }
-{
-    let mut set = PRegSet::empty();
-    for k in 0..regs.len() {
-        set.add(regs[k]);
-    }
-    set
-}
-
 impl<A: Allocator + Copy> AllocatableRegs<A> {
-    /// Returns the registers of a machine; in each class the lowest number is the most recently
-    /// used.
+    /// Returns the registers of the machine `env`; in each class the lowest number is the most
+    /// recently used.
     pub fn new<B: Allocator>(alloc: A, env: &MachineEnv<B>) -> Result<Self, RegAllocError>
         requires { (c : RegClass) (r : Register) → is_allocatable (machine_of env.now) c r ≡ true → r.class ≡ c }
         ensures ok { IfOk result (λ t. (r : Register) → r.number < 64 → has_register t.allocatable r ≡ true →
@@ -111,14 +92,14 @@ impl<A: Allocator + Copy> AllocatableRegs<A> {
         ensures err { IfErr result (λ e. e ≡ RegAllocError.Memory) }
         ensures lrus { IfOk result (λ t. AreLrus t.allocatable t.lrus) }
     {
-        let int = allocatable_of(env, RegClass::Int);
-        let float = allocatable_of(env, RegClass::Float);
-        let vector = allocatable_of(env, RegClass::Vector);
+        let int = env.allocatable(RegClass::Int);
+        let float = env.allocatable(RegClass::Float);
+        let vector = env.allocatable(RegClass::Vector);
         let lrus = lrus_of(alloc, int, float, vector)?;
         Ok(AllocatableRegs {
             allocatable: int | float | vector,
             lrus,
-            fixed_stack: set_of(&env.fixed_stack_slots),
+            fixed_stack: PRegSet::from_slice(&env.fixed_stack_slots),
             dedicated_scratch: [
                 env.scratch_by_class[0],
                 env.scratch_by_class[1],
@@ -137,7 +118,7 @@ impl<A: Allocator> AllocatableRegs<A> {
         self.allocatable | self.fixed_stack
     }
 
-    /// Whether the register may be allocated.
+    /// Whether `preg` may be allocated.
     pub fn is_allocatable(&self, preg: PReg) -> bool
         ensures { result ≡ has_register self.now.allocatable preg }
     {
@@ -151,7 +132,7 @@ impl<A: Allocator> AllocatableRegs<A> {
         self.fixed_stack
     }
 
-    /// The allocatable register of the class with the greatest number.
+    /// The allocatable register of `class` with the greatest number.
     pub fn preferred_victim(&self, class: RegClass) -> Option<PReg>
         ensures found { IfSome result (λ r. (r.class ≡ class) × (r.number < 64) × (has_register self.now.allocatable r ≡ true)) }
         ensures greatest { IfSome result (λ r. NoneIsFrom self.now.allocatable class (r.number + 1)) }
@@ -160,7 +141,7 @@ impl<A: Allocator> AllocatableRegs<A> {
         self.of_class(class).max_preg()
     }
 
-    /// Whether the place is on the stack: a spill slot or a fixed stack slot.
+    /// Whether `place` is on the stack: a spill slot or a fixed stack slot.
     pub fn is_stack(&self, place: Allocation) -> bool
         ensures { result ≡ is_memory self.now.fixed_stack place }
     {
@@ -171,21 +152,21 @@ impl<A: Allocator> AllocatableRegs<A> {
         }
     }
 
-    /// The register of the class that is kept for stack-to-stack moves.
+    /// The register of `class` that is kept for stack-to-stack moves.
     pub fn dedicated_scratch(&self, class: RegClass) -> Option<PReg>
         ensures { result ≡ slice_index_or self.now.dedicated_scratch (class_code class) None }
     {
         self.dedicated_scratch[class.code()]
     }
 
-    /// The allocatable registers of the class.
+    /// The allocatable registers of `class`.
     pub fn of_class(&self, class: RegClass) -> PRegSet
         ensures { (r : Register) → (has_register result r ≡ true) ↔ (r.class ≡ class) × (has_register self.now.allocatable r ≡ true) }
     {
         self.of_class[class.code()]
     }
 
-    /// How many registers of the class are to be kept for stack-to-stack moves: one if there are
+    /// How many registers of `class` are to be kept for stack-to-stack moves: one if there are
     /// fixed stack slots of the class and no dedicated register for such moves.
     pub fn scratch_reserve_of(&self, class: RegClass) -> usize
         ensures { result ≡ scratch_reserve_for self.now.fixed_stack self.now.dedicated_scratch class }
@@ -197,7 +178,7 @@ impl<A: Allocator> AllocatableRegs<A> {
         }
     }
 
-    /// Chooses the least recently used of the available registers of a class.
+    /// Chooses the least recently used of the registers of `class` in `available`.
     ///
     /// `chosen` defines the choice. Nothing else decides it: to change the policy, edit that
     /// definition, and this function with its short cut `first_choice`.
@@ -209,8 +190,8 @@ impl<A: Allocator> AllocatableRegs<A> {
         self.lrus.items[class.code()].last(available)
     }
 
-    /// Returns the register that `choose_register` chooses if all registers of the class are available,
-    /// and from each set that has that register. Searches nothing.
+    /// Returns the register that `choose_register` chooses for `class` if all its registers are
+    /// available, and from each set that has that register. Searches nothing.
     #[inline(always)]
     pub fn first_choice(&self, class: RegClass) -> Option<PReg>
         ensures chosen { result ≡ chosen (λ r. true) (lru_of self.now class) }

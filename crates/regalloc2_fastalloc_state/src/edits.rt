@@ -45,7 +45,7 @@ impl<A: Allocator + Copy> Model for Edits<A> {
     ghost invariant = { λ e. PointsDescend (map kept_move (flat_map (λ chunk. chunk.items) e.full.items ++ e.current.items)) };
 }
 
-/// A move as the output has it.
+/// The move `kept` as the output has it.
 fn as_edit(kept: KeptMove) -> (ProgPoint, Edit)
     ensures { edit_of result ≡ kept_move kept }
 {

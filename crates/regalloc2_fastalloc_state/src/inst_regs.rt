@@ -112,7 +112,7 @@ impl InstRegs {
         self.awaited[class as usize] = awaited + is_one as usize;
     }
 
-    /// Counts an operand of the class that required any register as placed.
+    /// Counts an operand of `class` that required any register as placed.
     pub fn remove_any_reg_op(&mut self, class: RegClass)
         ensures sets { SameAvailable self.old self.new }
         ensures awaited { self.new.awaited ≡ slice_set self.old.awaited (class_code class) (awaited_of self.old class - 1) }
@@ -121,28 +121,28 @@ impl InstRegs {
         self.awaited[class as usize] = awaited.saturating_sub(1);
     }
 
-    /// How many operands of the class that require any register are still to be allocated.
+    /// How many operands of `class` that require any register are still to be allocated.
     pub fn awaited(&self, class: RegClass) -> usize
         ensures { result ≡ awaited_of self.now class }
     {
         self.awaited[class as usize]
     }
 
-    /// Whether the register is free at both positions.
+    /// Whether `preg` is free at both positions.
     pub fn is_free(&self, preg: PReg) -> bool
         ensures { result ≡ is_free_throughout self.now preg }
     {
         self.early.contains(preg) && self.late.contains(preg)
     }
 
-    /// The register that stack-to-stack moves of the class go through, if one was chosen.
+    /// The register that stack-to-stack moves of `class` go through, if one was chosen.
     pub fn scratch_of(&self, class: RegClass) -> Option<PReg>
         ensures { result ≡ slice_index_or self.now.scratch (class_code class) None }
     {
         self.scratch[class as usize]
     }
 
-    /// Sets the register that stack-to-stack moves of the class go through from now on.
+    /// Makes `preg` the register that stack-to-stack moves of `class` go through from now on.
     pub fn set_scratch(&mut self, class: RegClass, preg: PReg)
         ensures early { self.new.early ≡ self.old.early }
         ensures late { self.new.late ≡ self.old.late }

@@ -13,7 +13,7 @@ ghost use Rattle.regalloc2_fastalloc_state.specs.Masks.{AreMasks, selected};
 use regalloc2_names::Operand;
 use std::marker::Model;
 
-/// The late operands and the uses of an instruction with at most 63 operands: bit k for the operand k.
+/// The late operands and the uses of an instruction with at most `MAX_OPERANDS` operands: bit k for the operand k.
 #[derive(Clone, Copy)]
 pub struct Masks {
     late: u64,
@@ -21,6 +21,9 @@ pub struct Masks {
 }
 
 impl Masks {
+    /// The greatest number of operands that have masks: 1 shifted left by this number fits a word.
+    pub const MAX_OPERANDS: usize = u64::BITS as usize - 1;
+
     /// Returns the masks of no operand.
     #[inline(always)]
     pub fn none() -> Masks
@@ -32,7 +35,7 @@ impl Masks {
     /// Returns the masks of `operand` followed by the operands of `self`.
     #[inline(always)]
     pub fn before(self, operand: Operand) -> Masks
-        ensures { (operands : List OperandValue) → length operands < 63 → AreMasks operands self → AreMasks (operand ∷ operands) result }
+        ensures { (operands : List OperandValue) → length operands < Masks.MAX_OPERANDS → AreMasks operands self → AreMasks (operand ∷ operands) result }
     {
         Masks {
             late: (self.late << 1) | operand.is_late() as u64,
@@ -40,11 +43,11 @@ impl Masks {
         }
     }
 
-    /// The late operands, with their indexes.
+    /// The late operands among `operands`, with their indexes.
     #[inline(always)]
     pub fn late<'o>(&self, operands: &'o [Operand]) -> Selected<'o>
         requires masks { AreMasks operands.now self.now }
-        requires few { length operands.now ≤ 63 }
+        requires few { length operands.now ≤ Masks.MAX_OPERANDS }
         ensures { result ≡ picked is_late_operand operands.now }
     {
         Selected {
@@ -53,11 +56,11 @@ impl Masks {
         }
     }
 
-    /// The early operands, with their indexes.
+    /// The early operands among `operands`, with their indexes.
     #[inline(always)]
     pub fn early<'o>(&self, operands: &'o [Operand]) -> Selected<'o>
         requires masks { AreMasks operands.now self.now }
-        requires few { length operands.now ≤ 63 }
+        requires few { length operands.now ≤ Masks.MAX_OPERANDS }
         ensures { result ≡ picked is_early_operand operands.now }
     {
         Selected {
@@ -66,11 +69,11 @@ impl Masks {
         }
     }
 
-    /// The uses, with their indexes.
+    /// The uses among `operands`, with their indexes.
     #[inline(always)]
     pub fn uses<'o>(&self, operands: &'o [Operand]) -> Selected<'o>
         requires masks { AreMasks operands.now self.now }
-        requires few { length operands.now ≤ 63 }
+        requires few { length operands.now ≤ Masks.MAX_OPERANDS }
         ensures { result ≡ picked is_use_operand operands.now }
     {
         Selected {
@@ -99,7 +102,7 @@ impl<'o> Model for Selected<'o> {
     ghost invariant = { λ it. it.left < 2 ^ length it.operands.now };
 }
 
-/// Clears the lowest bit set in a word, and returns its index.
+/// Clears the lowest bit that is set in `word`, and returns its index.
 #[inline(always)]
 fn take_lowest(word: &mut u64) -> usize
     requires { word.old ≢ 0 }

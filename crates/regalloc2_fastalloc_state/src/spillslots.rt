@@ -52,6 +52,7 @@ impl<A: Allocator> SpillSlots<A> {
     ) -> Result<Self, RegAllocError>
         requires sizes { (c : ℕ) → c < 3 → 0 < slice_index sizes c × slice_index sizes c ≤ most_units }
         ensures empty { IfOk result (λ s. s ≡ no_slots vregs sizes by_last) }
+        ensures owned { IfOk result SlotsHaveOneOwner }
         ensures err { IfErr result (λ e. e ≡ RegAllocError.Memory) }
     {
         let vreg_spillslots = vec![in alloc; Allocation::none(); vregs]?;

@@ -15,12 +15,12 @@ pub mod constraints;
 
 use constraints::validate_fixed;
 
-/// Tests that a function is well-formed: by [`test_shape`], then [`test_soundness`], then
-/// [`validate_fixed`].
+/// Tests that `f` is well-formed on the machine `env`: by [`test_shape`], then [`test_soundness`],
+/// then [`validate_fixed`].
 ///
-/// `CFGInfo::new` and `validate_ssa` make the same tests; the tables that `CFGInfo::new` fills in are
-/// left out, because no test reads them. The first test that fails decides the error. Returns `Memory` if
-/// memory runs out.
+/// `CFGInfo::new` and `validate_ssa` make the same tests; the tables that `CFGInfo::new` fills in
+/// are left out, because no test reads them. The first test that fails decides the error. Returns
+/// `Memory` if memory runs out.
 pub fn validate_function<A: Allocator + Copy, F: Function, B: Allocator>(
     alloc: A,
     f: &F,

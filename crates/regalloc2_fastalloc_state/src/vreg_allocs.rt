@@ -123,7 +123,7 @@ fn put_in_front<A: Allocator>(in_registers: &mut VRegSet<A>, place: Allocation, 
     }
 }
 
-/// The registers in which the vregs of a list are located.
+/// The registers in which `vregs` are located by `vreg_allocs`.
 fn registers_of_vregs<A: Allocator>(vregs: &VRegSet<A>, vreg_allocs: &Vec<Allocation, A>) -> PRegSet
     requires { All (λ v. v.number < length vreg_allocs.now.items) vregs.now.members }
     ensures { AreRegistersOf vreg_allocs.now.items vregs.now.members result }

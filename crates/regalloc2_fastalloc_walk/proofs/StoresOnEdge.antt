@@ -17,7 +17,7 @@ use Rattle.regalloc2_semantics.specs.Stores.IsOneOf.{first, later}
 use Rattle.regalloc2_semantics.proofs.SingleDef.{IsDefOperand, not_both, one_operand}
 use Rattle.regalloc2_semantics.proofs.Soundness.{well_formed_are_sound}
 use Rattle.regalloc2_analysis.specs.BranchDefs.BranchDefs.{DefinesNumber, IsEdgeInto, fixed_definition}
-use Rattle.regalloc2_fastalloc_state.specs.StateParts.{SpillSlotsValue, GetsSpillSlot, NoneIsFrom, slot_name}
+use Rattle.regalloc2_fastalloc_state.specs.StateParts.{NoSlotIsShared, SpillSlotsValue, GetsSpillSlot, NoneIsFrom, slot_name}
 use Rattle.regalloc2_fastalloc_proofs.specs.InstSteps.{StateValue, SameMachine, no_register}
 use Rattle.regalloc2_fastalloc_proofs.specs.BlockSteps.{MayBeAllocated}
 use Rattle.regalloc2_fastalloc_proofs.specs.BranchSteps.{RegsAvoidStack}
@@ -304,12 +304,12 @@ pub record EdgeStores : Type 0 where
   pub ms : List StoreMove
   pub s : SpillSlotsValue
   pub finds : FindsStores (branch_operands f e) ds t.slots (length ds) ms s
-  pub own : (m n i : ℕ) → slot_name s m ≡ InSlot i → slot_name s n ≡ InSlot i → m ≡ n
+  pub own : NoSlotIsShared s
 
 abbrev pub edge_stores : (f : FunctionValue) → MayBeAllocated f → (b e k : ℕ) → IsEdgeInto f b e k → (t : StateValue) → RegsAvoidStack t →
     (ds : List StoredDef) →
     ListsStores f e k t.slots ds → (ms : List StoreMove) (s : SpillSlotsValue) → FindsStores (branch_operands f e) ds t.slots (length ds) ms s →
-    ((m n i : ℕ) → slot_name s m ≡ InSlot i → slot_name s n ≡ InSlot i → m ≡ n) → EdgeStores
+    NoSlotIsShared s → EdgeStores
 edge_stores f may b e k edge t apart ds lists ms s finds own = record {
   f = f;
   may = may;

@@ -7,7 +7,6 @@ ghost use Rattle.regalloc2_fastalloc_walk.specs.StateView.{IsStepAt, ComesTo};
 ghost use Rattle.regalloc2_fastalloc_state.specs.StateParts.{AllAtOrAfter, vreg_of_preg};
 ghost use Rattle.regalloc2_fastalloc_proofs.specs.BlockStart.{ReloadParam, ReloadParams, ReloadRegs, ReloadAtBegin};
 
-use super::inst::are_places_different;
 use super::state::State;
 use regalloc2_fastalloc_state::inst_regs::InstRegs;
 use regalloc2_index::Inst;
@@ -34,11 +33,11 @@ impl<'a, A: Allocator> State<'a, A> {
         }
         let slot = self.slots.get_spillslot(param)?;
         self.places.set_alloc(param, Allocation::none());
-        let is_moved = are_places_different(slot, current);
+        let is_moved = slot != current;
         self.add_move_if(inst_regs, point, is_moved, param.class(), slot, current)
     }
 
-    /// Reloads the parameters of the block that begins, in order.
+    /// Reloads `params`, the parameters of the block that begins at `point`, in order.
     fn reload_params(
         &mut self,
         inst_regs: &mut InstRegs,
@@ -56,7 +55,7 @@ impl<'a, A: Allocator> State<'a, A> {
         Ok(())
     }
 
-    /// Reloads each vreg in a register from its slot, the last filled register's first.
+    /// Reloads each vreg in a register from its slot at `point`, the last filled register's first.
     fn reload_regs(
         &mut self,
         inst_regs: &mut InstRegs,
@@ -73,8 +72,9 @@ impl<'a, A: Allocator> State<'a, A> {
         Ok(())
     }
 
-    /// Reloads at the beginning of a block: its parameters arrive in their slots, and so does each
-    /// vreg that is in a register after the block's beginning.
+    /// Reloads at the beginning of the block whose first instruction is `first`: its parameters
+    /// `params` arrive in their slots, and so does each vreg that is in a register after the
+    /// block's beginning.
     pub fn reload_at_begin(&mut self, first: Inst, params: &[VReg]) -> Result<(), RegAllocError>
         requires inst { first < inst_limit }
         requires later { AllAtOrAfter (before first) self.old.edits }

@@ -51,17 +51,6 @@ impl<A: Allocator> OwnDefs<'_, A> {
     }
 }
 
-/// The place of `preg`, if it is a register.
-fn as_place(preg: Option<PReg>) -> Option<Allocation>
-    ensures some { (p : Place) → result ≡ Some p → (r : Register) × (p ≡ InRegister r) × (preg ≡ Some r) }
-    ensures none { result ≡ None → preg ≡ None }
-{
-    match preg {
-        Some(preg) => Some(Allocation::reg(preg)),
-        None => None,
-    }
-}
-
 /// Whether no edge out of `block` leads to a block with parameters.
 fn passes_nothing<F: Function>(f: &F, block: Block) -> bool
     requires block { block < length (F.function f.now).blocks }
@@ -78,7 +67,7 @@ fn passes_nothing<F: Function>(f: &F, block: Block) -> bool
     true
 }
 
-/// Whether there are no moves.
+/// Whether there are no `moves`.
 fn are_none<A: Allocator + Copy>(moves: &MoveVecWithScratch<(), A>) -> bool
     ensures same { IsTrue result → with_place NoPlace moves.now ≡ moves_listed moves.now }
     ensures none { IsTrue result ↔ (moves_listed moves.now ≡ []) }
@@ -164,7 +153,8 @@ impl<'a, A: Allocator> State<'a, A> {
         }
     }
 
-    /// The scratch registers for moves of a class.
+    /// The scratch registers for moves of `class`: registers that are free at both positions in
+    /// `inst_regs`.
     fn scratch_regs(&self, inst_regs: &InstRegs, class: RegClass) -> ScratchPair
         ensures scratch_reserve { (p : Place) → IsOfScratchPair result p → IsScratchRegFor inst_regs.now (tables_of self.now) class p }
         ensures differ { DoDiffer result }
@@ -184,11 +174,14 @@ impl<'a, A: Allocator> State<'a, A> {
         rest.remove(first);
         ScratchPair {
             first: Some(Allocation::reg(first)),
-            second: as_place(self.registers.choose_register(class, rest)),
+            second: self
+                .registers
+                .choose_register(class, rest)
+                .map(Allocation::reg),
         }
     }
 
-    /// The temporary slots for moves of a class.
+    /// The temporary slots for moves of `class`.
     fn temp_slots(&self, class: RegClass) -> ScratchPair
         ensures { AreNextTempSlots self.now.slots class result }
     {
@@ -198,7 +191,7 @@ impl<'a, A: Allocator> State<'a, A> {
         }
     }
 
-    /// The parallel moves of a class, in an order in which they can be made one after another.
+    /// Orders `moves`, the parallel moves of `class`, so that they can be made one after another.
     fn order<'b, B: Allocator>(
         &mut self,
         inst_regs: &InstRegs,
@@ -230,7 +223,7 @@ impl<'a, A: Allocator> State<'a, A> {
         Ok(made.moves)
     }
 
-    /// Orders the parallel moves of a class, and pushes them.
+    /// Orders `moves`, the parallel moves of `class`, and pushes them at `point`.
     #[inline(never)]
     fn push_some<'b, B: Allocator>(
         &mut self,
@@ -249,10 +242,10 @@ impl<'a, A: Allocator> State<'a, A> {
         self.edits.push_all(point, made.as_slice())
     }
 
-    /// Pushes one slot-to-slot move by way of `by`, as two moves: the move pushed last is listed
-    /// first. `push_some` would push the same moves, since both ends are on the stack and `by` is
-    /// the first register that it would choose. Skipped is what only several moves need: ordering,
-    /// a second register and temporary slots.
+    /// Pushes the slot-to-slot move from `from` to `to` by way of `by`, as two moves: the move
+    /// pushed last is listed first. `push_some` would push the same moves, since both ends are on
+    /// the stack and `by` is the first register that it would choose. Skipped is what only several
+    /// moves need: ordering, a second register and temporary slots.
     #[inline(never)]
     fn push_one(
         &mut self,
@@ -272,7 +265,7 @@ impl<'a, A: Allocator> State<'a, A> {
         self.edits.push(point, from, by)
     }
 
-    /// Pushes the parallel moves of a class.
+    /// Pushes `moves`, the parallel moves of `class`, at `point`.
     #[inline(always)]
     fn push_moves<'b, B: Allocator>(
         &mut self,
@@ -305,8 +298,8 @@ impl<'a, A: Allocator> State<'a, A> {
 }
 
 impl<'a, A: Allocator> State<'a, A> {
-    /// Makes an argument's slot its location; the argument is reloaded from there to its expected
-    /// place.
+    /// Makes the slot of `argument` its location; `argument` is reloaded from there to its expected
+    /// place at `point`.
     fn spill_argument(
         &mut self,
         inst_regs: &mut InstRegs,
@@ -327,7 +320,7 @@ impl<'a, A: Allocator> State<'a, A> {
         Ok(slot)
     }
 
-    /// Adds a move of an edge: the argument is spilled, and goes to its parameter's slot.
+    /// Adds a move of an edge to `moves`: `argument` is spilled, and goes to the slot of `param`.
     fn gather_argument<'b, B: Allocator>(
         &mut self,
         inst_regs: &mut InstRegs,
@@ -351,8 +344,8 @@ impl<'a, A: Allocator> State<'a, A> {
         moves.add(argument.class(), from, to)
     }
 
-    /// The parallel moves of one edge: each argument that the branch doesn't define goes to its
-    /// parameter's slot.
+    /// Adds the parallel moves of one edge to `moves`: each of `arguments` that the branch doesn't
+    /// define goes to the slot of its parameter in `params`.
     fn gather_edge<'b, B: Allocator, C: Allocator>(
         &mut self,
         inst_regs: &mut InstRegs,
@@ -380,7 +373,7 @@ impl<'a, A: Allocator> State<'a, A> {
         Ok(())
     }
 
-    /// The parallel moves of all edges.
+    /// The parallel moves of all edges out of `block`, whose branch is `inst`.
     fn gather<'b, F: Function, B: Allocator, C: Allocator>(
         &mut self,
         inst_regs: &mut InstRegs,
@@ -410,7 +403,7 @@ impl<'a, A: Allocator> State<'a, A> {
         Ok(moves)
     }
 
-    /// Pushes the parallel moves of each class, one class after another.
+    /// Pushes `moves` at `point`, one class after another.
     fn push_gathered<'b, B: Allocator>(
         &mut self,
         inst_regs: &InstRegs,
@@ -429,9 +422,9 @@ impl<'a, A: Allocator> State<'a, A> {
         self.push_moves(inst_regs, point, RegClass::Vector, vector)
     }
 
-    /// Passes the arguments of a branch: all are spilled to their slots, and then moved to the slots
-    /// of the parameters. A branch that passes nothing returns at once, because lists for its moves
-    /// would cost more than all else.
+    /// Passes the arguments of the branch `inst` of `block`: all are spilled to their slots, and
+    /// then moved to the slots of the parameters. A branch that passes nothing returns at once,
+    /// because lists for its moves would cost more than all else.
     pub fn process_branch<F: Function, B: Allocator, C: Allocator>(
         &mut self,
         inst_regs: &mut InstRegs,
@@ -448,8 +441,6 @@ impl<'a, A: Allocator> State<'a, A> {
             return Ok(());
         }
         let moves = self.gather(inst_regs, alloc, cx, block, inst)?;
-        // read for its contract: each slot has one owner, so no two arguments go to one slot
-        let _count = self.slots.num_units();
         let point = ProgPoint::before(inst);
         self.push_gathered(inst_regs, point, moves)
     }

@@ -48,7 +48,7 @@ fn operands_at<'o>(operands: &'o [Operand], pos: OperandPos) -> PickedOperands<'
 #[inline(always)]
 fn masked_at<'o>(masks: &Masks, operands: &'o [Operand], pos: OperandPos) -> Selected<'o>
     requires masks { AreMasks operands.now masks.now }
-    requires few { length operands.now ≤ 63 }
+    requires few { length operands.now ≤ Masks.MAX_OPERANDS }
     ensures { result ≡ picked (is_at pos) operands.now }
 {
     match pos {
@@ -57,25 +57,7 @@ fn masked_at<'o>(masks: &Masks, operands: &'o [Operand], pos: OperandPos) -> Sel
     }
 }
 
-/// Whether `place` and `other` differ.
-pub fn are_places_different(place: Allocation, other: Allocation) -> bool
-    ensures { result ≡ not (is_place place other) }
-{
-    place != other
-}
-
-/// The index of the operand that `operand` names, if it is a reuse.
-fn reused(operand: Operand) -> Option<usize>
-    ensures some { IfSome result (λ n. operand.constraint ≡ OperandConstraint.Reuse n) }
-    ensures none { IsNone result → (n : ℕ) → operand.constraint ≡ OperandConstraint.Reuse n → ⊥ }
-{
-    match operand.constraint() {
-        OperandConstraint::Reuse(index) => Some(index),
-        _ => None,
-    }
-}
-
-/// What the constraint of an operand that isn't a reuse requires.
+/// What `constraint`, the constraint of an operand that isn't a reuse, requires.
 fn requirement_of(constraint: OperandConstraint) -> Requirement
     ensures { result ≡ requirement_of constraint }
 {
@@ -87,8 +69,8 @@ fn requirement_of(constraint: OperandConstraint) -> Requirement
     }
 }
 
-/// What a reuse requires, by the constraint of the operand that it names: its register if it is
-/// fixed, else any register.
+/// What a reuse requires, by `constraint`, the constraint of the operand that it names: its
+/// register if it is fixed, else any register.
 fn reuse_requirement_of(constraint: OperandConstraint) -> Requirement
     ensures { result ≡ reuse_requirement_of constraint }
 {
@@ -98,7 +80,8 @@ fn reuse_requirement_of(constraint: OperandConstraint) -> Requirement
     }
 }
 
-/// The request of a use: if a reuse that names it has a place, it requires that register.
+/// The request of the use `operand`: if a reuse that names it has chosen `place` for it, it
+/// requires that register.
 fn use_request(operand: Operand, place: Allocation) -> OperandRequest
     ensures { result ≡ use_request operand place }
 {
@@ -115,7 +98,7 @@ fn use_request(operand: Operand, place: Allocation) -> OperandRequest
     }
 }
 
-/// The request of a definition.
+/// The request of the definition `operand`.
 fn def_request(operand: Operand) -> OperandRequest
     ensures { result ≡ def_request operand }
 {
@@ -127,16 +110,16 @@ fn def_request(operand: Operand) -> OperandRequest
     }
 }
 
-/// Whether an operand requires any register, and no reuse has chosen one for it.
+/// Whether `operand` requires any register, and no reuse has chosen `place` for it.
 fn asks_any_reg(operand: Operand, place: Allocation) -> bool
     ensures { IsTrue result ↔ (operand.constraint ≡ OperandConstraint.Reg) × (place ≡ NoPlace) }
 {
     operand.is_any_reg() && place.is_none()
 }
 
-/// The register of a use, if it is determined before the use is placed: the register that a reuse
-/// has chosen for the use, else the register that the use is fixed to. `None` for a definition, and
-/// for a use that reads nothing: neither is placed as a use.
+/// The register of the use `operand`, if it is determined before the use is placed: the register
+/// that a reuse has chosen for it, `place`, else the register that it is fixed to. `None` for a
+/// definition, and for a use that reads nothing: neither is placed as a use.
 fn known_register(operand: Operand, place: Allocation) -> Option<PReg>
     ensures some { IfSome result (λ r. (is_reading operand ≡ true) × ((use_request operand place).requirement ≡ Requirement.InPReg r)) }
     ensures none { IfNone result (is_reading operand ≡ true → (r : Register) → (use_request operand place).requirement ≡ Requirement.InPReg r → ⊥) }
@@ -157,14 +140,14 @@ fn known_register(operand: Operand, place: Allocation) -> Option<PReg>
     }
 }
 
-/// Whether an operand is a use under `Any`.
+/// Whether `operand` is a use under `Any`.
 fn is_any_use(operand: Operand) -> bool
     ensures { IsTrue result ↔ (is_def operand.kind ≡ false) × (operand.constraint ≡ OperandConstraint.Any) }
 {
     !operand.is_def() && matches!(operand.constraint(), OperandConstraint::Any)
 }
 
-/// The request of an operand that requires any register and for which no reuse has chosen one.
+/// The request of `operand`, which requires any register and for which no reuse has chosen one.
 fn reg_request(operand: Operand) -> OperandRequest
     requires { operand.constraint ≡ OperandConstraint.Reg }
     ensures used { is_def operand.kind ≡ false → result ≡ use_request operand NoPlace }
@@ -178,7 +161,8 @@ fn reg_request(operand: Operand) -> OperandRequest
     }
 }
 
-/// The request of a reuse, which holds its register throughout, for the operand that it names too.
+/// The request of the reuse `operand`, which holds its register throughout, for the operand at
+/// `index` too, which it names.
 fn reuse_request(operand: Operand, operands: &[Operand], index: usize) -> OperandRequest
     ensures { result ≡ reuse_request operand (op_at operands.now index) }
 {
@@ -195,7 +179,7 @@ fn reuse_request(operand: Operand, operands: &[Operand], index: usize) -> Operan
     }
 }
 
-/// Sets the place at `index`, if it is in the list.
+/// Sets the place at `index` of `places` to `place`, if `index` is in the list.
 fn set_place(places: &mut [Allocation], index: usize, place: Allocation)
     ensures { places.new ≡ slice_set places.old index place }
 {
@@ -247,7 +231,7 @@ impl<'a, A: Allocator> State<'a, A> {
             allocs[k] = self.alloc_use(inst_regs, point, &request)?;
             return Ok(());
         }
-        if let Some(index) = reused(operand) {
+        if let Some(index) = operand.reused_index() {
             let request = reuse_request(operand, operands, index);
             let place = self.alloc_def_op(inst_regs, point, &request, cx.ends_block)?;
             allocs[k] = place;
@@ -327,7 +311,7 @@ impl<'a, A: Allocator> State<'a, A> {
         Ok(())
     }
 
-    /// The slot that a use under `Any` is read from, if its vreg is in a slot.
+    /// The slot that `operand` is read from, if it is a use under `Any` and its vreg is in a slot.
     /// [`Self::process_operand`] would choose the slot too, and do nothing else: no register is
     /// claimed, no move is added, and the vreg keeps its location. `None` if the vreg is in a
     /// register or has no location yet.
@@ -408,8 +392,8 @@ impl<'a, A: Allocator> State<'a, A> {
         Ok(())
     }
 
-    /// Allocates the operands at the position `pos`, in operand order. There are at most 63
-    /// operands, whose `masks` are given.
+    /// Allocates the operands at the position `pos`, in operand order. There are at most
+    /// `Masks::MAX_OPERANDS` operands, whose `masks` are given.
     #[inline(always)]
     pub fn process_operands_at(
         &mut self,
@@ -420,7 +404,7 @@ impl<'a, A: Allocator> State<'a, A> {
         allocs: &mut [Allocation],
     ) -> Result<(), RegAllocError>
         requires masks { AreMasks cx.now.operands.now masks.now }
-        requires few { length cx.now.operands.now ≤ 63 }
+        requires few { length cx.now.operands.now ≤ Masks.MAX_OPERANDS }
         requires inst { cx.now.inst < inst_limit }
         requires later { AllAtOrAfter (after cx.now.inst) self.old.edits }
         requires in_tables { InTables cx.now.operands.now (tables_of self.old) }
@@ -450,12 +434,12 @@ impl<'a, A: Allocator> State<'a, A> {
         ensures step { IsStepAt point result self.old self.new }
     {
         let current = self.places.current_alloc(operand.vreg());
-        let is_moved = are_places_different(current, place);
+        let is_moved = current != place;
         self.add_move_if(inst_regs, point, is_moved, operand.class(), current, place)
     }
 
-    /// Moves the uses of an instruction from their vregs' current locations to their places, in
-    /// operand order, however many there are.
+    /// Moves the uses among `operands` from their vregs' current locations to their places in
+    /// `allocs`, in operand order, however many there are.
     #[inline(never)]
     fn move_each(
         &mut self,
@@ -478,8 +462,9 @@ impl<'a, A: Allocator> State<'a, A> {
         Ok(())
     }
 
-    /// Moves the uses of an instruction from their vregs' current locations to their places, in
-    /// operand order. There are at most 63 operands, whose `masks` are given.
+    /// Moves the uses among `operands` from their vregs' current locations to their places in
+    /// `allocs`, in operand order. There are at most `Masks::MAX_OPERANDS` operands, whose `masks`
+    /// are given.
     pub fn move_uses(
         &mut self,
         inst_regs: &mut InstRegs,
@@ -489,7 +474,7 @@ impl<'a, A: Allocator> State<'a, A> {
         allocs: &[Allocation],
     ) -> Result<(), RegAllocError>
         requires masks { AreMasks operands.now masks.now }
-        requires few { length operands.now ≤ 63 }
+        requires few { length operands.now ≤ Masks.MAX_OPERANDS }
         requires later { AllAtOrAfter point self.old.edits }
         requires in_tables { InTables operands.now (tables_of self.old) }
         requires allocs_long { length allocs.now ≡ length operands.now }
@@ -506,7 +491,8 @@ impl<'a, A: Allocator> State<'a, A> {
 }
 
 impl<'a, A: Allocator> State<'a, A> {
-    /// Sorts the operands of an instruction, claims its fixed registers and its clobbers, and empties them.
+    /// Sorts the operands of the instruction `cx`, claims its fixed registers and its clobbers, and
+    /// empties them.
     #[inline(always)]
     fn prepare_regs(
         &mut self,
@@ -528,7 +514,8 @@ impl<'a, A: Allocator> State<'a, A> {
         Ok(sorted)
     }
 
-    /// Allocates the operands of an instruction whose registers are prepared, and moves its uses.
+    /// Allocates the operands of the instruction `cx`, whose registers are prepared, and moves its
+    /// uses.
     #[inline(never)]
     fn place_each(
         &mut self,
@@ -549,9 +536,11 @@ impl<'a, A: Allocator> State<'a, A> {
         self.move_each(inst_regs, ProgPoint::before(cx.inst), cx.operands, allocs)
     }
 
-    /// Allocates an instruction: `allocs`, which has no place yet, gets the places of its operands.
+    /// Allocates the instruction `cx`: `allocs`, which has no place yet, gets the places of its
+    /// operands.
     ///
-    /// Returns whether no operand has `Limit`. An operand under `Limit` requires any register, as under `Reg`.
+    /// Returns whether no operand has `Limit`. An operand under `Limit` requires any register, as
+    /// under `Reg`.
     pub fn alloc_inst(
         &mut self,
         inst_regs: &mut InstRegs,
@@ -571,7 +560,7 @@ impl<'a, A: Allocator> State<'a, A> {
     {
         let sorted = self.prepare_regs(inst_regs, cx)?;
         let masks = &sorted.masks;
-        if cx.operands.len() > 63 {
+        if cx.operands.len() > Masks::MAX_OPERANDS {
             self.place_each(inst_regs, cx, allocs)?;
             return Ok(sorted.unlimited);
         }
@@ -587,7 +576,8 @@ impl<'a, A: Allocator> State<'a, A> {
         Ok(sorted.unlimited)
     }
 
-    /// Allocates an instruction whose operands' places begin at `start`. Returns whether no operand has `Limit`.
+    /// Allocates the instruction `cx`, whose operands' places begin at `start` in `allocs`. Returns
+    /// whether no operand has `Limit`.
     pub fn alloc_inst_at(
         &mut self,
         inst_regs: &mut InstRegs,

@@ -19,7 +19,7 @@ use super::state::State;
 use regalloc2_fastalloc_state::inst_regs::InstRegs;
 use regalloc2_fastalloc_state::masks::Masks;
 use regalloc2_fastalloc_state::positions::Positions;
-use regalloc2_fastalloc_state::validate::constraints::is_unlimited;
+use regalloc2_fastalloc_state::validate::constraints::are_unlimited;
 use regalloc2_names::{
     Operand, OperandConstraint, OperandUnion, PReg, PRegSet, ProgPoint, RegAllocError,
 };
@@ -73,7 +73,7 @@ impl ReservedRegs {
 /// What one pass over an instruction's operands finds.
 #[derive(Clone, Copy)]
 pub struct Sorted {
-    /// Which operands are late, and which are uses, if there are at most 63 operands.
+    /// Which operands are late, and which are uses, if there are at most `Masks::MAX_OPERANDS` operands.
     pub masks: Masks,
     /// Whether any operand is fixed to a register.
     pub any_fixed: bool,
@@ -108,19 +108,6 @@ fn sort(inst_regs: &mut InstRegs, operands: &[Operand]) -> Sorted
     }
 }
 
-/// Whether no operand has `Limit`.
-#[inline(never)]
-fn are_unlimited(operands: &[Operand]) -> bool
-    ensures { IsTrue result ↔ All IsTakenOperand operands.now }
-{
-    for k in 0..operands.len() {
-        if !is_unlimited(operands[k]) {
-            return false;
-        }
-    }
-    true
-}
-
 /// The register that `operand` is fixed to.
 fn fixed_register(operand: Operand) -> Option<PReg>
     ensures some { IfSome result (λ r. operand.constraint ≡ OperandConstraint.FixedReg r) }
@@ -147,8 +134,9 @@ fn reused_register(operand: Operand, operands: &[Operand]) -> Option<PReg>
     }
 }
 
-/// What the operand `k` claims before operands are allocated: its fixed register, unless it reads and defines nothing; or for a
-/// reuse the fixed register of the operand that it names, while late operands are there.
+/// What the operand `k` claims before operands are allocated: its fixed register, unless it reads
+/// and defines nothing; or for a reuse the fixed register of the operand that it names, while late
+/// operands are there.
 fn reserved_by(operands: &[Operand], k: usize) -> Option<(PReg, Positions)>
     requires { k < length operands.now }
     ensures some { IfSome result (λ c. NeedsFixedReg operands.now k c.0 c.1) }
@@ -174,8 +162,8 @@ fn reserved_by(operands: &[Operand], k: usize) -> Option<(PReg, Positions)>
     }
 }
 
-/// Makes the register that `operand` is fixed to unavailable. The operand claims nothing, since it reads and defines nothing,
-/// but its register is named.
+/// Makes the register that `operand` is fixed to unavailable. The operand claims nothing, since it
+/// reads and defines nothing, but its register is named.
 fn remove_unclaimed(inst_regs: &mut InstRegs, operand: Operand)
     ensures shrinks { Shrinks inst_regs.old inst_regs.new }
     ensures takes { (r : Register) → is_free_throughout inst_regs.old r ≡ true → is_free_throughout inst_regs.new r ≡ false →
@@ -189,13 +177,6 @@ fn remove_unclaimed(inst_regs: &mut InstRegs, operand: Operand)
     }
 }
 
-/// Whether `set` has no register.
-fn has_none(set: PRegSet) -> bool
-    ensures { IsTrue result ↔ ((r : Register) → has_register set r ≡ false) }
-{
-    set.max_preg().is_none()
-}
-
 impl<'a, A: Allocator> State<'a, A> {
     /// Whether `preg` is allocatable, or a fixed stack slot.
     fn is_of_machine(&self, preg: PReg) -> bool
@@ -204,8 +185,8 @@ impl<'a, A: Allocator> State<'a, A> {
         self.registers.is_allocatable(preg) || self.registers.fixed_stack().contains(preg)
     }
 
-    /// Reserves `preg` at `positions`. Returns an error if `preg` is neither allocatable nor a fixed stack slot, or if an earlier
-    /// operand claimed it at one of these positions.
+    /// Reserves `preg` at `positions`. Returns an error if `preg` is neither allocatable nor a
+    /// fixed stack slot, or if an earlier operand claimed it at one of these positions.
     fn reserve_preg(
         &self,
         inst_regs: &mut InstRegs,
@@ -248,7 +229,8 @@ impl<'a, A: Allocator> State<'a, A> {
         ensures err { IfErr result (IsResourceErrorIn self.now.slots) }
     {
         if let Some(claim) = reserved_by(operands, k) {
-            return self.reserve_preg(inst_regs, claims, claim.0, claim.1);
+            let (preg, positions) = claim;
+            return self.reserve_preg(inst_regs, claims, preg, positions);
         }
         remove_unclaimed(inst_regs, operands[k]);
         Ok(())
@@ -293,7 +275,7 @@ impl<'a, A: Allocator> State<'a, A> {
         Ok(())
     }
 
-    /// Reserves what the operands claim before they are placed, in operand order.
+    /// Reserves what `operands` claim before they are placed, in operand order.
     fn reserve_each(
         &mut self,
         inst_regs: &mut InstRegs,
@@ -313,7 +295,7 @@ impl<'a, A: Allocator> State<'a, A> {
         Ok(())
     }
 
-    /// Sorts the operands, counts those that require any register, and reserves what operands claim
+    /// Sorts `operands`, counts those that require any register, and reserves what operands claim
     /// before they are placed.
     #[inline(always)]
     pub fn reserve(
@@ -335,7 +317,7 @@ impl<'a, A: Allocator> State<'a, A> {
         Ok(sorted)
     }
 
-    /// Removes the clobbers from the available registers while late operands are there.
+    /// Removes `clobbers` from the available registers while late operands are there.
     pub fn remove_clobbers_from_available_pregs(
         &mut self,
         inst_regs: &mut InstRegs,
@@ -347,8 +329,8 @@ impl<'a, A: Allocator> State<'a, A> {
         inst_regs.remove_late(clobbers);
     }
 
-    /// Empties the fixed registers of the operands, in operand order, of all vregs but each
-    /// operand's own. Most instructions have no fixed operand: then `any_fixed` is false.
+    /// Empties the fixed registers of `operands`, in operand order, of all vregs but each operand's
+    /// own. Most instructions have no fixed operand: then `any_fixed` is false.
     pub fn evict_fixed(
         &mut self,
         inst_regs: &mut InstRegs,
@@ -383,8 +365,8 @@ impl<'a, A: Allocator> State<'a, A> {
         Ok(())
     }
 
-    /// Empties the clobbers that hold vregs, by rising index; all others are empty already. Most
-    /// instructions clobber nothing.
+    /// Empties the registers of `clobbers` that hold vregs, by rising index; all others are empty
+    /// already. Most instructions clobber nothing.
     pub fn evict_clobbers(
         &mut self,
         inst_regs: &mut InstRegs,
@@ -396,7 +378,7 @@ impl<'a, A: Allocator> State<'a, A> {
         ensures awaited { inst_regs.new.awaited ≡ inst_regs.old.awaited }
         ensures step { IsStepAt point result self.old self.new }
     {
-        if has_none(clobbers) {
+        if clobbers == PRegSet::empty() {
             return Ok(());
         }
         let held = clobbers & self.places.filled();

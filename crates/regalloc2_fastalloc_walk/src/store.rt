@@ -42,51 +42,30 @@ struct StoreMove {
     to: Allocation,
 }
 
+/// The stores of the operands `stored` of a branch to the slots of their own vregs. A vreg's own value is
+/// stored even if the vreg has no slot yet: its reader may be an instruction that the walk hasn't reached.
+fn own_stores<A: Allocator>(
+    alloc: A,
+    operands: &[Operand],
+    stored: &[usize],
+) -> Result<Vec<StoredDef, A>, RegAllocError>
+    requires { All (λ j. j < length operands.now) stored.now }
+    ensures ok { IfOk result (λ v. v.items ≡ map (own_store operands.now) stored.now) }
+    ensures err { IfErr result (λ e. e ≡ RegAllocError.Memory) }
+{
+    let mut stores = Vec::new(alloc);
+    for index in stored {
+        stores.push(StoredDef {
+            index: *index,
+            to: operands[*index].vreg(),
+        })?;
+    }
+    Ok(stores)
+}
+
 impl<'a, A: Allocator> State<'a, A> {
-    /// Lists the value of the operand `index` for the slot of `to`, the operand's own vreg or a parameter, if the value is stored there.
-    fn list_store<B: Allocator>(
-        &self,
-        stores: &mut Vec<StoredDef, B>,
-        is_own: bool,
-        index: usize,
-        to: VReg,
-    ) -> Result<(), RegAllocError>
-        requires { to.number < length self.now.slots.vreg_spillslots }
-        ensures ok { OnOk result (stores.new.items ≡ (if is_own || not (is_no_place (slot_name self.now.slots to.number))
-            then stores.old.items ++ record { index = index; to = to } ∷ [] else stores.old.items)) }
-        ensures err { IfErr result (λ e. e ≡ RegAllocError.Memory) }
-    {
-        // a vreg's own value is stored even if the vreg has no slot yet: its reader may be an instruction that the walk hasn't
-        // reached; a parameter without a slot has no reader
-        if !is_own && self.slots.find_spillslot(to).is_none() {
-            return Ok(());
-        }
-        stores.push(StoredDef { index, to })?;
-        Ok(())
-    }
-
-    /// The values of operands that go to the slots of their own vregs.
-    fn own_stores<'b, B: Allocator>(
-        &self,
-        alloc: &'b B,
-        operands: &[Operand],
-        stored: &[usize],
-    ) -> Result<Vec<StoredDef, &'b B>, RegAllocError>
-        requires inside { All (λ j. j < length operands.now) stored.now }
-        requires known { All (λ j. (op_at operands.now j).vreg.number < length self.now.slots.vreg_spillslots) stored.now }
-        ensures ok { IfOk result (λ v. v.items ≡ map (own_store operands.now) stored.now) }
-        ensures err { IfErr result (λ e. e ≡ RegAllocError.Memory) }
-    {
-        let mut stores = Vec::new(alloc);
-        for index in stored {
-            let to = operands[*index].vreg();
-            self.list_store(&mut stores, true, *index, to)?;
-        }
-        Ok(stores)
-    }
-
-    /// Lists the value that a parameter is given, if the branch of the edge defines it, and
-    /// something uses the parameter.
+    /// Lists the value that `argument` gives `param`, if the branch of `edge` defines `argument`, and
+    /// something uses `param`.
     fn list_given<B: Allocator, C: Allocator>(
         &self,
         stores: &mut Vec<StoredDef, B>,
@@ -105,7 +84,15 @@ impl<'a, A: Allocator> State<'a, A> {
         if site.branch != edge.branch {
             return Ok(());
         }
-        self.list_store(stores, false, site.index, param)
+        // a parameter without a slot has no reader
+        if self.slots.find_spillslot(param).is_none() {
+            return Ok(());
+        }
+        stores.push(StoredDef {
+            index: site.index,
+            to: param,
+        })?;
+        Ok(())
     }
 
     /// Lists the values that the branch of `edge` defines and passes to `params`.
@@ -129,8 +116,9 @@ impl<'a, A: Allocator> State<'a, A> {
         Ok(())
     }
 
-    /// Lists the values that the beginning of a block stores, by the operands that define them: for
-    /// each operand first the store for its own vreg, and then the stores for parameters in order.
+    /// Lists the values that the block behind `edge` stores at its beginning, by the operands that
+    /// define them: for each operand first the store for its own vreg, and then the stores for
+    /// parameters in order.
     fn list_stores<'b, F: Function, B: Allocator, C: Allocator>(
         &self,
         alloc: &'b B,
@@ -143,7 +131,7 @@ impl<'a, A: Allocator> State<'a, A> {
         ensures err { IfErr result (λ e. e ≡ RegAllocError.Memory) }
     {
         let operands = f.inst_operands(edge.branch);
-        let mut stores = self.own_stores(alloc, operands, defs.stored_on(edge))?;
+        let mut stores = own_stores(alloc, operands, defs.stored_on(edge))?;
         let params = f.block_params(f.block_succs(edge.from)[edge.position]);
         let arguments = f.branch_blockparams(edge.from, edge.branch, edge.position);
         self.list_params(&mut stores, defs, edge, params, arguments)?;
@@ -151,7 +139,7 @@ impl<'a, A: Allocator> State<'a, A> {
         Ok(stores)
     }
 
-    /// The place in which a branch leaves an operand's definition: the register that it is fixed
+    /// The place in which a branch leaves the definition `operand`: the register that it is fixed
     /// to, else its vreg's slot.
     fn defined_place(&mut self, operand: Operand) -> Result<Allocation, RegAllocError>
         requires { operand.vreg.number < length self.old.slots.vreg_spillslots }
@@ -164,7 +152,7 @@ impl<'a, A: Allocator> State<'a, A> {
         self.slots.get_spillslot(operand.vreg())
     }
 
-    /// The move that stores a value.
+    /// The move that stores the value of `operand` in the slot of `to`.
     fn store_move(&mut self, operand: Operand, to: VReg) -> Result<StoreMove, RegAllocError>
         requires from { operand.vreg.number < length self.old.slots.vreg_spillslots }
         requires to { to.number < length self.old.slots.vreg_spillslots }
@@ -180,7 +168,7 @@ impl<'a, A: Allocator> State<'a, A> {
         })
     }
 
-    /// The moves that store values, in their order.
+    /// The moves that make `stores`, of definitions among `operands`, in their order.
     fn store_moves<'b, B: Allocator>(
         &mut self,
         alloc: &'b B,
@@ -244,8 +232,8 @@ impl<'a, A: Allocator> State<'a, A> {
         Ok(())
     }
 
-    /// Pushes the stores from the stack if `from_memory` is true, else the stores from registers. The last store is pushed
-    /// first.
+    /// Pushes the stores from the stack if `from_memory` is true, else the stores from registers.
+    /// The last store is pushed first.
     fn push_stores(
         &mut self,
         point: ProgPoint,
@@ -268,7 +256,8 @@ impl<'a, A: Allocator> State<'a, A> {
         Ok(())
     }
 
-    /// Pushes the stores from the stack, and then the stores from registers.
+    /// Pushes the stores from the stack among `moves` at `point`, and then the stores from
+    /// registers.
     fn push_all_stores(
         &mut self,
         point: ProgPoint,
@@ -279,8 +268,8 @@ impl<'a, A: Allocator> State<'a, A> {
         ensures outcome { ComesTo (PushAllStores point moves.now) tt result self.old self.new }
         ensures step { IsStepAt point result self.old self.new }
     {
-        // the stores pushed first are made last: by then the definitions in registers are stored, and the stores from the stack
-        // may go through any register
+        // the stores pushed first are made last: by then the definitions in registers are stored,
+        // and the stores from the stack may go through any register
         self.push_stores(point, held, true, moves)?;
         self.push_stores(point, held, false, moves)
     }
@@ -304,8 +293,6 @@ impl<'a, A: Allocator> State<'a, A> {
         };
         let stores = self.list_stores(alloc, f, defs, &edge)?;
         let moves = self.store_moves(alloc, f.inst_operands(edge.branch), &stores)?;
-        // read for its contract: each slot has one owner
-        let _count = self.slots.num_units();
         // nothing may follow the branch in its own block
         let point = ProgPoint::before(f.block_insns(block).first());
         self.push_all_stores(point, edge.held, &moves)

@@ -43,13 +43,15 @@ pub struct Found<A: Allocator> {
     /// Whether all operands pass their tests: none has `Limit`, and a branch defines only in
     /// registers that it names and in stack places.
     pub passes: bool,
-    /// The instructions at which a watched vreg got its location or was left without one, the last instruction first. All other instructions
-    /// define no watched vreg, and none is the last use of a watched vreg.
+    /// The instructions at which a watched vreg got its location or was left without one, the last
+    /// instruction first. All other instructions define no watched vreg, and none is the last use
+    /// of a watched vreg.
     pub changed: Vec<u32, A>,
 }
 
 impl<A: Allocator> Found<A> {
-    /// Notes what was found at an instruction.
+    /// Notes what was found at `inst`: whether its operands pass their tests, and whether a watched
+    /// vreg's location changed there.
     #[inline(always)]
     fn note(&mut self, inst: Inst, passes: bool, is_changed: bool) -> Result<(), RegAllocError>
         requires { inst < inst_limit }
@@ -81,9 +83,10 @@ fn ends_block<F: Function>(f: &F, inst: Inst) -> bool
 }
 
 impl<'a, A: Allocator> State<'a, A> {
-    /// Allocates an instruction of a block. A branch passes its arguments.
+    /// Allocates the instruction `at` of `block`. A branch passes its arguments.
     ///
-    /// Returns whether its operands pass their tests. An operand under `Limit` requires any register, as under `Reg`.
+    /// Returns whether its operands pass their tests. An operand under `Limit` requires any
+    /// register, as under `Reg`.
     fn alloc_inst_in_block<F: Function, B: Allocator, C: Allocator>(
         &mut self,
         alloc: &B,
@@ -117,7 +120,7 @@ impl<'a, A: Allocator> State<'a, A> {
         Ok(unlimited & is_sound)
     }
 
-    /// Allocates an instruction of a block, and notes what is found at it.
+    /// Allocates the instruction `at` of `block`, and notes in `found` what is found at it.
     fn alloc_and_note<F: Function, B: Allocator, C: Allocator>(
         &mut self,
         alloc: &B,
@@ -139,7 +142,8 @@ impl<'a, A: Allocator> State<'a, A> {
         found.note(inst, passes, is_changed)
     }
 
-    /// Allocates the instructions of a block, from the last to the first, and notes what is found.
+    /// Allocates the instructions of `block`, from the last to the first, and notes in `found` what
+    /// is found.
     fn alloc_block<F: Function, B: Allocator, C: Allocator>(
         &mut self,
         alloc: &B,
@@ -189,7 +193,9 @@ impl<'a, A: Allocator> State<'a, A> {
         self.store_branch_defs(alloc, f, cx.defs, block)
     }
 
-    /// Allocates all instructions, from the last block to the first. Returns what the walk finds out of the function.
+    /// Allocates all instructions of `f`, from the last block to the first. The places of an
+    /// instruction's operands begin in `allocs` at its offset in `offsets`. Returns what the walk
+    /// finds out of the function.
     pub fn alloc_blocks<F: Function, B: Allocator + Copy>(
         &mut self,
         alloc: B,

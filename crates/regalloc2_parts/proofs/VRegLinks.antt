@@ -8,11 +8,11 @@ use Rattle.std.proofs.lemmas.List.{get_or-map, get_or-replicate, get_or_default,
 use Rattle.std.proofs.lemmas.List.{length-map, length-replicate, length-set, get_or-set_same, get_or-set_other}
 use Rattle.std.proofs.lemmas.List.Elements.{All-head, All-tail, All-from_recursion}
 use Rattle.std.proofs.lemmas.Map.Keys.{IsDistinct-head, IsDistinct-tail}
-use Rattle.regalloc2_names.specs.Register.{VirtualRegister, invalid_vreg}
+use Rattle.regalloc2_names.specs.Register.{VirtualRegister, invalid_vreg, vreg_limit}
 use Rattle.regalloc2_parts.specs.declared.vregset.VRegNode.{VRegNode}
 use Rattle.regalloc2_parts.specs.LiveList.{NamesEachOnce}
 use Rattle.regalloc2_parts.specs.Links.{IsFewLinksApart, IsRing, IsWalk, LacksNumber, Leads, changed, walked_links}
-use Rattle.regalloc2_parts.specs.VRegNodes.{IsVRegList, Lists, vreg_changed_links, vreg_limit, members_of, nexts, vreg_ring_numbers, prevs, rest_from, vregs, vregs_at}
+use Rattle.regalloc2_parts.specs.VRegNodes.{IsVRegList, Lists, vreg_changed_links, members_of, nexts, vreg_ring_numbers, prevs, rest_from, vregs, vregs_at}
 use Rattle.regalloc2_parts.proofs.Numbers.{differs, each_without, flip, lacks, of_member, without}
 use Rattle.regalloc2_parts.proofs.Linked.{next_of_member, prev_of_member}
 use Rattle.regalloc2_parts.proofs.LinkRings.{IsRing-inserted, IsRing-removed, around, head_links, ring_walked, step, walked-end}

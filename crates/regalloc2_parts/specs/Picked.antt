@@ -7,7 +7,7 @@ use Rattle.regalloc2_names.specs.declared.OperandKind.{OperandKind}
 use Rattle.regalloc2_names.specs.declared.OperandKind.TheVariants as kinds
 use Rattle.regalloc2_names.specs.declared.OperandPos.{OperandPos}
 use Rattle.regalloc2_names.specs.declared.OperandPos.TheVariants as positions
-use Rattle.regalloc2_names.specs.Operand.{OperandValue}
+use Rattle.regalloc2_names.specs.Operand.{OperandValue, is_fixed_operand}
 use Rattle.regalloc2_parts.specs.declared.iter.Pick.{Pick}
 use Rattle.regalloc2_parts.specs.declared.iter.Pick.TheVariants as picks
 
@@ -54,18 +54,6 @@ asks_reuse (Limit n) = false
 -- an operand that takes the place of another operand
 abbrev pub is_reuse_operand : OperandValue → Bool
 is_reuse_operand o = asks_reuse o.constraint
-
-abbrev pub asks_by_name : OperandConstraint → Bool
-asks_by_name Any = false
-asks_by_name Reg = false
-asks_by_name Stack = false
-asks_by_name (FixedReg r) = true
-asks_by_name (Reuse i) = false
-asks_by_name (Limit n) = false
-
--- an operand that is fixed to a register
-abbrev pub is_fixed_operand : OperandValue → Bool
-is_fixed_operand o = asks_by_name o.constraint
 
 abbrev pub asks_any_reg : OperandConstraint → Bool
 asks_any_reg Any = false

@@ -1,13 +1,9 @@
 -- The nodes of the list of live vregs, and the list that their links represent.
 use Rattle.std.specs.Prelude.{ℕ, ◌≡◌, ◌+◌, ◌≤◌, List, length, map, slice_index, slice_index_or}
 use Rattle.std.specs.List.{AllByRecursion}
-use Rattle.regalloc2_names.specs.Register.{VirtualRegister, invalid_vreg}
+use Rattle.regalloc2_names.specs.Register.{VirtualRegister, invalid_vreg, vreg_limit}
 use Rattle.regalloc2_parts.specs.declared.vregset.VRegNode.{VRegNode}
 use Rattle.regalloc2_parts.specs.Links.{IsRing, changed, walked_links}
-
--- vregs have numbers below 2^30
-abbrev pub vreg_limit : ℕ
-vreg_limit = 1073741824
 
 abbrev pub nexts : List VRegNode → List ℕ
 nexts nodes = map (λ n. n.next) nodes

@@ -5,8 +5,8 @@
 //! other places than free registers and free slots.
 
 ghost use Rattle.std.specs.Prelude.{◌≡◌, ◌≤◌, length, IfOk, IfErr, MatchResult};
+ghost use Rattle.regalloc2_names.specs.Place.{slot_limit};
 ghost use Rattle.regalloc2_parts.specs.Callmoves.CallMoves.{fault_of, with_units, HasNone, NamesNoPlace, IsCallFault, IsProper, IsScheduled};
-ghost use Rattle.regalloc2_parts.specs.Callmoves.Frame.{slot_limit};
 
 mod fault;
 mod frame;
@@ -85,7 +85,7 @@ impl From<MoveFault> for CallFault {
     }
 }
 
-/// The moves as parallel moves.
+/// Returns `moves` as parallel moves.
 fn in_parallel<A: Allocator + Copy>(
     alloc: A,
     moves: &[(Allocation, Allocation)],
@@ -101,8 +101,8 @@ fn in_parallel<A: Allocator + Copy>(
     Ok(parallel)
 }
 
-/// `schedule` for moves and scratch resources without errors. It orders the moves over `&alloc`,
-/// whose size is known, and copies them.
+/// Does what `schedule` does, for `moves` and a `frame` without errors. Orders the moves over
+/// `&alloc`, whose size is known, and copies them.
 fn schedule_proper<A: Allocator + Copy, B: Allocator>(
     alloc: A,
     moves: &[(Allocation, Allocation)],
@@ -119,13 +119,13 @@ fn schedule_proper<A: Allocator + Copy, B: Allocator>(
     Ok(SmallVec::from_slice(alloc, made.moves.as_slice())?)
 }
 
-/// Orders the parallel moves of a call so that they can be made one after another.
+/// Orders `moves`, the parallel moves of a call, so that they can be made one after another.
 ///
-/// A cycle goes through a free register, or else through a slot of the range; a stack-to-stack move
-/// goes through a free register, or else through the borrowed one, which is saved in a slot and
-/// restored. The range ends at most at 2^24.
+/// A cycle goes through a free register of `frame`, or else through a slot of its range; a
+/// stack-to-stack move goes through a free register, or else through the borrowed register, which
+/// is saved in a slot and restored. The range ends at most at 2^24.
 ///
-/// `alloc` allocates the list and the tables used to make it. An error in the moves or the frame is
+/// `alloc` allocates the list and the tables used to make it. An error in `moves` or `frame` is
 /// reported even if memory runs out.
 ///
 /// The contract leaves the order and the number of the moves open.
@@ -135,7 +135,7 @@ pub fn schedule<A: Allocator + Copy, B: Allocator>(
     frame: &CallFrame<B>,
 ) -> Result<MoveVec<(), A>, CallFault>
     requires range { frame.now.slots.start ≤ frame.now.slots.«end» }
-    requires small { frame.now.slots.«end» ≤ 16777216 }
+    requires small { frame.now.slots.«end» ≤ slot_limit }
     ensures { MatchResult result (λ made. IsProper moves.now frame.now × IsScheduled moves.now frame.now made.items) (IsCallFault moves.now frame.now) }
 {
     if let Some(fault) = fault::find_fault(alloc, moves, frame) {

@@ -2,8 +2,8 @@
 
 ghost use Rattle.std.specs.Prelude.{◌≡◌, ◌+◌, ◌-◌, ◌<◌, ◌∷◌, [], IfSome, IfNone, length, slice_index_or};
 ghost use Rattle.std.specs.Iterator.{YieldsFirst, item_count, at_most};
-ghost use Rattle.regalloc2_names.specs.Operand.{OperandValue};
-ghost use Rattle.regalloc2_parts.specs.Picked.{accepts, left_from, picked, is_def_operand, is_use_operand, is_reuse_operand, is_fixed_operand, is_any_reg_operand, is_late_operand, is_early_operand};
+ghost use Rattle.regalloc2_names.specs.Operand.{OperandValue, is_fixed_operand};
+ghost use Rattle.regalloc2_parts.specs.Picked.{accepts, left_from, picked, is_def_operand, is_use_operand, is_reuse_operand, is_any_reg_operand, is_late_operand, is_early_operand};
 ghost use Rattle.regalloc2_parts.specs.Matching.{GivesNextMatch, walked_operands, next_index, predicate_of};
 
 use regalloc2_names::{Operand, OperandConstraint, OperandKind, OperandPos};
@@ -36,6 +36,7 @@ impl<'a> Operands<'a> {
         }
     }
 
+    /// The operands that `pick` selects, with their indexes.
     #[inline(always)]
     fn picked(&self, pick: Pick) -> PickedOperands<'a>
         ensures { result ≡ picked (accepts pick) self.now.0.now }
@@ -126,6 +127,7 @@ enum Pick {
 }
 
 impl Pick {
+    /// Whether `operand` is selected.
     #[inline(always)]
     fn accepts(self, operand: Operand) -> bool
         ensures { result ≡ accepts self operand }

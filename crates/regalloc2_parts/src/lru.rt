@@ -44,17 +44,6 @@ impl<A: Allocator> Model for Lru<A> {
     ghost invariant = { λ ring. IsLruNodes ring.nodes.items ring.head };
 }
 
-/// The set of the registers `regs`.
-fn set_of(regs: &[PReg]) -> PRegSet
-    ensures { (r : Register) → (has_register result r ≡ true) ↔ Contains regs.now r }
-{
-    let mut set = PRegSet::empty();
-    for preg in regs {
-        set.add(*preg);
-    }
-    set
-}
-
 impl<A: Allocator> Lru<A> {
     /// Returns the ring of these registers of class `regclass`: the lowest number is the most
     /// recently used, the highest the least.
@@ -67,7 +56,7 @@ impl<A: Allocator> Lru<A> {
         ensures memory { IfErr result (λ e. e ≡ RegAllocError.Memory) }
         ensures empty { regs.now ≡ [] → IsOk result }
     {
-        let mut rest = set_of(regs).into_iter();
+        let mut rest = PRegSet::from_slice(regs).into_iter();
         let Some(newest) = rest.next() else {
             return Ok(Lru {
                 nodes: Vec::new(alloc),
@@ -135,7 +124,7 @@ impl<A: Allocator> Lru<A> {
         self.oldest()
     }
 
-    /// Returns the least recently used member that is in the set; `None` if no member is.
+    /// Returns the least recently used member that is in `from`; `None` if no member is.
     pub fn last(&self, from: PRegSet) -> Option<PReg>
         ensures oldest { result ≡ find (has_register from) (reverse self.now) }
         ensures member { IfSome result (λ r. Contains self.now r) }
@@ -187,7 +176,7 @@ impl<T> Index<RegClass> for PartedByRegClass<T> {
 }
 
 impl<T: Drop> PartedByRegClass<T> {
-    /// Sets the value of a class; the values of the other two stay.
+    /// Sets the value of `class` to `value`; the values of the other two classes stay.
     ///
     /// Upstream: `IndexMut`.
     pub fn set(&mut self, class: RegClass, value: T)
@@ -212,8 +201,8 @@ impl<T: fmt::Display> fmt::Display for PartedByRegClass<T> {
 pub type Lrus<A = Global> = PartedByRegClass<Lru<A>>;
 
 impl<A: Allocator + Copy> PartedByRegClass<Lru<A>> {
-    /// Returns the rings of the registers of the three classes, each as `Lru::new` makes it, or its
-    /// error.
+    /// Returns the rings of `int_regs`, `float_regs` and `vec_regs`, each as `Lru::new` makes it,
+    /// or its error.
     ///
     /// A function that is generic in its allocator makes rings that stay within it over `&alloc`.
     pub fn new(
@@ -242,8 +231,8 @@ impl<A: Allocator + Copy> PartedByRegClass<Lru<A>> {
 }
 
 impl<A: Allocator> PartedByRegClass<Lru<A>> {
-    /// Makes a member of a class's ring its most recently used, as `Lru::poke` does; the other
-    /// rings don't change.
+    /// Makes `preg`, a member of the ring of `class`, its most recently used, as `Lru::poke` does;
+    /// the other rings don't change.
     pub fn poke(&mut self, class: RegClass, preg: PReg)
         requires { Contains (ring_of self.old.items class) preg }
         ensures moved { ring_of self.new.items class ≡ preg ∷ filter (λ r. not (is_register preg r)) (ring_of self.old.items class) }
@@ -251,19 +240,10 @@ impl<A: Allocator> PartedByRegClass<Lru<A>> {
         ensures distinct { IsDistinct is_register (ring_of self.new.items class) }
         ensures others { (other : RegClass) → other ≢ class → ring_of self.new.items other ≡ ring_of self.old.items other }
     {
-        self.poke_ring(class, preg);
-    }
-
-    fn poke_ring(&mut self, class: RegClass, preg: PReg)
-        requires { Contains (ring_of self.old.items class) preg }
-        ensures moved { ring_of self.new.items class ≡ preg ∷ filter (λ r. not (is_register preg r)) (ring_of self.old.items class) }
-        ensures distinct { IsDistinct is_register (ring_of self.new.items class) }
-        ensures others { (other : RegClass) → other ≢ class → ring_of self.new.items other ≡ ring_of self.old.items other }
-    {
         self.items[class as usize].poke(preg);
     }
 
-    /// Returns the least recently used member of a class's ring, as `Lru::pop` does.
+    /// Returns the least recently used member of the ring of `class`, as `Lru::pop` does.
     pub fn pop(&mut self, class: RegClass) -> Option<PReg>
         ensures oldest { result ≡ slice_get (ring_of self.old.items class) (length (ring_of self.old.items class) - 1) }
         ensures member { IfSome result (λ r. Contains (ring_of self.old.items class) r) }
@@ -272,8 +252,8 @@ impl<A: Allocator> PartedByRegClass<Lru<A>> {
         self.items[class as usize].pop()
     }
 
-    /// Returns the least recently used member of a class's ring that is in the set, as `Lru::last`
-    /// does.
+    /// Returns the least recently used member of the ring of `class` that is in `from`, as
+    /// `Lru::last` does.
     pub fn last(&self, class: RegClass, from: PRegSet) -> Option<PReg>
         ensures oldest { result ≡ find (has_register from) (reverse (ring_of self.now.items class)) }
         ensures member { IfSome result (λ r. Contains (ring_of self.now.items class) r) }

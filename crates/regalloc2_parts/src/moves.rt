@@ -120,8 +120,8 @@ impl<T: Copy + Default, A: Allocator + Copy> ParallelMoves<T, A> {
         }
     }
 
-    /// Adds a move from a place to a place. Returns `Memory` only from the 17th move on, and then
-    /// nothing changes.
+    /// Adds a move from `from` to `to` that carries `t`. Returns `Memory` only from the 17th move
+    /// on; nothing changes then.
     pub fn add(&mut self, from: Allocation, to: Allocation, t: T) -> Result<(), MoveFault>
         requires from { from ≢ NoPlace }
         requires to { to ≢ NoPlace }
@@ -130,7 +130,9 @@ impl<T: Copy + Default, A: Allocator + Copy> ParallelMoves<T, A> {
         ensures memory { IfErr result (λ e. e ≡ MoveFault.Memory) }
         ensures inline { length self.old < 16 → IsOk result }
     {
-        let _words = (from.bits(), to.bits());
+        // `resolve` compares places by their encodings
+        prove!(Allocation::is_bits(from.bits()));
+        prove!(Allocation::is_bits(to.bits()));
         self.parallel_moves.push((from, to, t))?;
         Ok(())
     }

@@ -2,6 +2,7 @@
 
 ghost use Rattle.std.specs.Prelude.{◌≡◌, ◌≢◌, ◌∷◌, [], ◌<◌, ◌≤◌, ◌==◌, IfOk, IfErr, All, Any, Contains, length, map, not, filter, slice_set};
 ghost use Rattle.std.specs.Iterator.{YieldsFirst, item_count};
+ghost use Rattle.regalloc2_names.specs.Register.{vreg_limit};
 ghost use Rattle.regalloc2_parts.specs.Links.{IsFewLinksApart};
 ghost use Rattle.regalloc2_parts.specs.LiveList.{NamesEachOnce};
 ghost use Rattle.regalloc2_parts.specs.VRegNodes.{IsVRegList, Lists, vreg_changed_links, nexts, members_of, vreg_ring_numbers, prevs, vregs};
@@ -90,7 +91,7 @@ impl<A: Allocator> VRegSet<A> {
     /// Returns `Memory` if there is no room for them, which no contract can foresee; no later call
     /// allocates.
     pub fn with_capacity(alloc: A, num_vregs: usize) -> Result<Self, RegAllocError>
-        requires { num_vregs ≤ 1073741824 }
+        requires { num_vregs ≤ vreg_limit }
         ensures made { IfOk result (λ set. set ≡ record { members = []; capacity = num_vregs }) }
         ensures memory { IfErr result (λ e. e ≡ RegAllocError.Memory) }
     {

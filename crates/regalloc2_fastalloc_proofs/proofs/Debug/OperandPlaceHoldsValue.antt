@@ -49,7 +49,7 @@ use Rattle.regalloc2_fastalloc_proofs.proofs.Slots.StepsKeepSlots.{AnyPlace}
 
 module _ (walk : WholeWalk) (m : IsOutputOfWalk walk.f walk.env (Made walk.f) (MayInBlocks walk.f) walk.last walk.out) (written : IsWrittenFirst walk.f)
     (v : VirtualRegister) (known : Made walk.f v) (id d il ko : ℕ) (un : IsUnslotted walk.f (allocs_of walk.out) walk.last v.number id il ko)
-    (defines : defined.DefinesAt walk.f v.number id d) (reads_v : (op_at (inst_at walk.f il).operands ko).vreg ≡ v) (il_lt : il < length walk.f.insts)
+    (defines : defined.IsDefOperand walk.f v.number id d) (reads_v : (op_at (inst_at walk.f il).operands ko).vreg ≡ v) (il_lt : il < length walk.f.insts)
     (last_use : (j : ℕ) → UsesAt walk.f v j → j ≤ il) where
   open walk use {env, f, limited, ok, blank, begin, last, out, empty, fit, walks}
 
@@ -161,7 +161,7 @@ module _ (walk : WholeWalk) (m : IsOutputOfWalk walk.f walk.env (Made walk.f) (M
     carries_first : j ≡ id → Carries v (walked (inst_at f) (at_point out.edits) (allocs_of out) j 1) (λ q. ⊥) (λ q. q ≡ p)
     carries_first e =
         let w : MetAt j = meets j lt in
-        let here : defined.DefinesAt f v.number j d = subst (λ (i : ℕ). defined.DefinesAt f v.number i d) (sym e) defines in
+        let here : defined.IsDefOperand f v.number j d = subst (λ (i : ℕ). defined.IsDefOperand f v.number i d) (sym e) defines in
         let is : defined_by (inst_at f j).operands v.number ≡ true = ap (defined_by (inst_at f j).operands) (sym here.number)
         ∙ defined_by-at (inst_at f j).operands d here.operand here.definition in
         from_nowhere walk m v (λ q. q ≡ p) j w
@@ -269,7 +269,7 @@ module _ (walk : WholeWalk) (m : IsOutputOfWalk walk.f walk.env (Made walk.f) (M
       let start : IsPath f (Onward ∷ given) = start_path f out v plain (Onward ∷ given) here on here_path in
       let i : ℕ = (end_of f given).inst in
       let e : op_at (inst_at f i).operands k ≡ o = op_is (inst_at f i).operands k o less is in
-      let here_defined : defined.DefinesAt f v.number i k = record {
+      let here_defined : defined.IsDefOperand f v.number i k = record {
         inst = lt;
         operand = less;
         definition = ap (λ (x : OperandValue). is_def x.kind) e ∙ def;

@@ -4,7 +4,7 @@ use Rattle.std.specs.Prelude.{Option, Contains, slice_index_or}
 use Rattle.std.proofs.lemmas.List.{get_or_default}
 use Rattle.regalloc2_names.specs.declared.OperandPos.{OperandPos}
 use Rattle.regalloc2_names.specs.declared.OperandPos.TheVariants.{Early, Late}
-use Rattle.regalloc2_names.specs.Register.{VirtualRegister}
+use Rattle.regalloc2_names.specs.Register.{VirtualRegister, no_vreg}
 use Rattle.regalloc2_names.specs.Operand.{OperandValue, is_def, is_late, is_reading}
 use Rattle.regalloc2_names.specs.Place.{Place, NoPlace, InRegister, InSlot}
 use Rattle.regalloc2_function.specs.FunctionValue.{FunctionValue, block_at, inst_at, no_operand, op_at}
@@ -92,7 +92,7 @@ module _ (walk : WholeWalk) (m : IsOutputOfWalk walk.f walk.env (Made walk.f) (M
     read_is j k jl less rd e = one_made f ok.defined_once (op_at (inst_at f j).operands k).vreg v (((all_proper env f limited ok).knows j jl).reading k less
         rd) known e
 
-    module _ (id d : ℕ) (at : defined.DefinesAt f v.number id d) where
+    module _ (id d : ℕ) (at : defined.IsDefOperand f v.number id d) where
       sooner : id < il
       sooner = reads_later f ok.defined_once v.number id d il ko at lt (reads_defined f some_block ok.follow ok.uses_defined il lt) within reads number
 
@@ -123,9 +123,9 @@ module _ (walk : WholeWalk) (m : IsOutputOfWalk walk.f walk.env (Made walk.f) (M
           λ e. not_both f ok.defined_once v.number id d (target_at f b k) j at (record { block = sound.targets b k edge; param = few; number = e }),
           λ e.
               let xs : List VirtualRegister = arguments_at f b k in
-              let w : VirtualRegister = slice_index_or xs j defined.no_vreg in
+              let w : VirtualRegister = slice_index_or xs j no_vreg in
               let inside : j < length xs = (let n = sound.arguments b k edge in omega (arith, few, n)) in
-              let has : Contains xs w = (j, inside, get_or_default xs j w defined.no_vreg inside) in
+              let has : Contains xs w = (j, inside, get_or_default xs j w no_vreg inside) in
               let same : w ≡ v = one_made f ok.defined_once w v (used_made f ok.defined_once ok.follow ok.uses_defined w b lb (inr (k, edge, has))) known e in
               let most = greatest (last_of (block_at f b)) (inr (inr (b, k, lb, refl, edge, subst (Contains xs) same has, other b behind))) in
               omega (arith, most, behind),
@@ -151,7 +151,7 @@ module _ (walk : WholeWalk) (m : IsOutputOfWalk walk.f walk.env (Made walk.f) (M
         used_slots walk (processes_branch_between f) v
         (record { block = w.block; within = w.within; unwritten = unwritten; used = inl (il, ko, w.ge, w.less, within, reads, is) }) none
 
-    by_maker : Made f v → ((id d : ℕ) → defined.DefinesAt f v.number id d → ComesFirst (inst_at f il).operands v.number ko) →
+    by_maker : Made f v → ((id d : ℕ) → defined.IsDefOperand f v.number id d → ComesFirst (inst_at f il).operands v.number ko) →
         HoldsValue f out v (place_at (allocs_of out il) ko)
     by_maker (by_operand id d at e) first = shows_at id d at (first id d at)
     by_maker (Made.by_param b k at e) first = absurd (param_slot b k at)

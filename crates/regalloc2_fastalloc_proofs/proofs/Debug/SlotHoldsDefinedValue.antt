@@ -2,7 +2,7 @@
 use Rattle.std.proofs.Common.{ℕ, ◌≡◌, ◌+◌, ◌<◌, inl, inr, true, false, List, [], ◌∷◌, ◌++◌, length, refl, sym, ap, ◌∙◌, subst, arith}
 use Rattle.std.specs.Prelude.{slice_index_or}
 use Rattle.std.proofs.lemmas.List.{get_or_default}
-use Rattle.regalloc2_names.specs.Register.{VirtualRegister}
+use Rattle.regalloc2_names.specs.Register.{VirtualRegister, no_vreg}
 use Rattle.regalloc2_names.specs.Operand.{OperandValue, is_def}
 use Rattle.regalloc2_names.specs.Place.{Place, InSlot}
 use Rattle.regalloc2_names.specs.Point.{before}
@@ -71,7 +71,7 @@ module _ (env : MachineValue) (f : FunctionValue) (limited : IsLimited f) (ok : 
   some_block = (let e : f.entry < length f.blocks = ok.successors.0 in omega (arith, e))
 
   -- nothing before its definition names a number
-  pub unnamed_before_definition : (x i d : ℕ) → (inst_at f i).is_branch ≡ false → defined.DefinesAt f x i d → IsUnnamedBefore f x i
+  pub unnamed_before_definition : (x i d : ℕ) → (inst_at f i).is_branch ≡ false → defined.IsDefOperand f x i d → IsUnnamedBefore f x i
   unnamed_before_definition x i d plain at = record {
     insts = λ j less k c e.
         let lj : j < length f.insts = (let l = at.inst in omega (arith, less, l)) in
@@ -86,9 +86,9 @@ module _ (env : MachineValue) (f : FunctionValue) (limited : IsLimited f) (ok : 
       λ e. not_both f ok.defined_once x i d (target_at f b k) j at (record { block = sound.targets b k edge; param = less; number = e }),
       λ e.
           let xs : List VirtualRegister = arguments_at f b k in
-          let w : VirtualRegister = slice_index_or xs j defined.no_vreg in
+          let w : VirtualRegister = slice_index_or xs j no_vreg in
           let inside : j < length xs = (let n = sound.arguments b k edge in omega (arith, less, n)) in
-          let later = passes_later f ok.defined_once x i d b k w at ok.follow ok.uses_defined lb edge (j, inside, get_or_default xs j w defined.no_vreg inside)
+          let later = passes_later f ok.defined_once x i d b k w at ok.follow ok.uses_defined lb edge (j, inside, get_or_default xs j w no_vreg inside)
           e in
           omega (arith, sooner, later),
     );
@@ -240,14 +240,14 @@ module _ (walk : WholeWalk) (m : IsOutputOfWalk walk.f walk.env (Made walk.f) (M
           let undefined : Undefined (inst_at f next).operands v = λ j less def is.
           let o = defines.1 in
           let e : op_at (inst_at f i).operands o.0 ≡ o.1 = op_is (inst_at f i).operands o.0 o.1 o.2 o.3 in
-          let first : defined.DefinesAt f v.number i o.0 = record {
+          let first : defined.IsDefOperand f v.number i o.0 = record {
             inst = defines.0;
             operand = o.2;
             definition = ap (λ (x : OperandValue). is_def x.kind) e
                 ∙ o.4;
             number = ap (λ (x : OperandValue). x.vreg.number) e ∙ ap (λ (x : VirtualRegister). x.number) o.5;
           } in
-          let second : defined.DefinesAt f v.number next j = record {
+          let second : defined.IsDefOperand f v.number next j = record {
             inst = lt;
             operand = less;
             definition = def;

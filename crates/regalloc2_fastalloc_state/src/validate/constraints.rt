@@ -11,7 +11,6 @@ ghost use Rattle.regalloc2_fastalloc_state.specs.Validate.NoLimits.{IsTakenOpera
 ghost use Rattle.regalloc2_fastalloc_state.specs.Validate.Constraints.{IsNoReuse, IsReusedOperand, IsReuseTarget, IsSoundReuse, AreReusesApart, AvoidsClobbers, OperandAvoidsClobbers, IsUnlimited};
 ghost use Rattle.regalloc2_fastalloc_state.specs.Validate.Constraints.{AreUnlimited, BranchDefinesInPlace, DefinesInPlace, IsFirstFailing, IsFixedFault, IsUnsupported};
 
-use crate::allocatable::allocatable_of;
 use regalloc2_function::{Function, MachineEnv};
 use regalloc2_index::Inst;
 use regalloc2_names::{
@@ -19,19 +18,11 @@ use regalloc2_names::{
 };
 use std::alloc::Allocator;
 
-/// The index of the operand that a reuse names, which fits five bits.
-fn reused_index(operand: Operand) -> Option<usize>
-    ensures some { IfSome result (λ n. operand.constraint ≡ OperandConstraint.Reuse n) }
-    ensures small { IfSome result (λ n. n < 32) }
-    ensures none { IfNone result ((n : ℕ) → operand.constraint ≡ OperandConstraint.Reuse n → ⊥) }
-{
-    match operand.constraint() {
-        OperandConstraint::Reuse(index) => Some(index),
-        _ => None,
-    }
-}
+/// A reuse names an operand whose index is below this: an encoded operand has five bits for the index.
+const REUSE_LIMIT: usize = 32;
 
-/// Whether a definition of `class` may reuse an operand under `constraint`: `Reg`, or a fixed register that is allocatable.
+/// Whether a definition of `class` may reuse an operand under `constraint`: `Reg`, or a fixed
+/// register that is allocatable on the machine `env`.
 fn may_be_reused<B: Allocator>(
     env: &MachineEnv<B>,
     class: RegClass,
@@ -41,13 +32,13 @@ fn may_be_reused<B: Allocator>(
 {
     match constraint {
         OperandConstraint::Reg => true,
-        OperandConstraint::FixedReg(preg) => allocatable_of(env, class).contains(preg),
+        OperandConstraint::FixedReg(preg) => env.allocatable(class).contains(preg),
         _ => false,
     }
 }
 
-/// Whether a definition of `class` may reuse `operand`: an early use that reads a vreg of the class, under a constraint that
-/// `may_be_reused` allows.
+/// Whether a definition of `class` may reuse `operand`: an early use that reads a vreg of the
+/// class, under a constraint that `may_be_reused` allows.
 fn is_target<B: Allocator>(env: &MachineEnv<B>, class: RegClass, operand: Operand) -> bool
     ensures { IsTrue result ↔ IsReuseTarget (machine_of env.now) class operand }
 {
@@ -78,13 +69,13 @@ fn names_target<B: Allocator>(
 fn is_valid_reuse<B: Allocator>(env: &MachineEnv<B>, operands: &[Operand], operand: Operand) -> bool
     ensures { IsTrue result ↔ IsSoundReuse (machine_of env.now) operands.now operand }
 {
-    match reused_index(operand) {
+    match operand.reused_index() {
         Some(index) => names_target(env, operands, operand, index),
         None => true,
     }
 }
 
-/// Whether all reuses are valid.
+/// Whether all reuses among `operands` are valid.
 fn are_valid_reuses<B: Allocator>(env: &MachineEnv<B>, operands: &[Operand]) -> bool
     ensures { IsTrue result ↔ ((k : ℕ) → k < length operands.now → IsSoundReuse (machine_of env.now) operands.now (op_at operands.now k)) }
 {
@@ -96,14 +87,14 @@ fn are_valid_reuses<B: Allocator>(env: &MachineEnv<B>, operands: &[Operand]) -> 
     true
 }
 
-/// Whether an operand is no reuse.
+/// Whether `operand` is no reuse.
 fn is_no_reuse(operand: Operand) -> bool
     ensures { IsTrue result ↔ IsNoReuse operand }
 {
     !matches!(operand.constraint(), OperandConstraint::Reuse(_))
 }
 
-/// Whether no operand is a reuse.
+/// Whether none of `operands` is a reuse.
 fn are_no_reuses(operands: &[Operand]) -> bool
     ensures { IsTrue result ↔ ((k : ℕ) → k < length operands.now → IsNoReuse (op_at operands.now k)) }
 {
@@ -115,13 +106,13 @@ fn are_no_reuses(operands: &[Operand]) -> bool
     true
 }
 
-/// For each operand, by index, whether a reuse names it.
-fn named_by_reuses(operands: &[Operand]) -> [bool; 32]
+/// For each of `operands`, by index, whether a reuse names it.
+fn named_by_reuses(operands: &[Operand]) -> [bool; REUSE_LIMIT]
     ensures { (k : ℕ) → IsTrue (slice_index_or result k false) ↔ IsReusedOperand operands.now k }
 {
-    let mut named = [false; 32];
+    let mut named = [false; REUSE_LIMIT];
     for k in 0..operands.len() {
-        if let Some(index) = reused_index(operands[k]) {
+        if let Some(index) = operands[k].reused_index() {
             named[index] = true;
         }
     }
@@ -135,13 +126,13 @@ fn is_named(named: &[bool], k: usize) -> bool
     if k < named.len() { named[k] } else { false }
 }
 
-/// Whether no two reuses name one operand.
+/// Whether no two reuses among `operands` name one operand.
 fn are_apart(operands: &[Operand]) -> bool
     ensures { IsTrue result ↔ AreReusesApart operands.now (length operands.now) }
 {
-    let mut named = [false; 32];
+    let mut named = [false; REUSE_LIMIT];
     for k in 0..operands.len() {
-        if let Some(index) = reused_index(operands[k]) {
+        if let Some(index) = operands[k].reused_index() {
             if named[index] {
                 return false;
             }
@@ -151,7 +142,7 @@ fn are_apart(operands: &[Operand]) -> bool
     true
 }
 
-/// Whether an instruction's reuses are late definitions of early uses, each of its own.
+/// Whether the reuses of `inst` are late definitions of early uses, and no two name one operand.
 fn has_valid_reuses<F: Function, B: Allocator>(f: &F, env: &MachineEnv<B>, inst: Inst) -> bool
     requires { inst < length (F.function f.now).insts }
     ensures { IsTrue result ↔ ReusesAreSound (machine_of env.now) (inst_at (F.function f.now) inst) }
@@ -160,7 +151,7 @@ fn has_valid_reuses<F: Function, B: Allocator>(f: &F, env: &MachineEnv<B>, inst:
     are_valid_reuses(env, operands) && are_apart(operands)
 }
 
-/// Whether an instruction has no reuses, or valid ones.
+/// Whether `inst` has no reuses, or valid ones.
 fn passes_reuse_test<F: Function, B: Allocator>(f: &F, env: &MachineEnv<B>, inst: Inst) -> bool
     requires { inst < length (F.function f.now).insts }
     ensures { IsTrue result ↔ ReusesAreSound (machine_of env.now) (inst_at (F.function f.now) inst) }
@@ -168,7 +159,8 @@ fn passes_reuse_test<F: Function, B: Allocator>(f: &F, env: &MachineEnv<B>, inst
     are_no_reuses(f.inst_operands(inst)) || has_valid_reuses(f, env, inst)
 }
 
-/// Whether an operand is fixed to no clobber, if it is a definition, a late use or reused.
+/// Whether `operand` is fixed to none of `clobbers`, if it is a definition, a late use, or reused:
+/// `is_reused` is true.
 fn avoids_clobbers(clobbers: PRegSet, operand: Operand, is_reused: bool) -> bool
     ensures { IsTrue result ↔ AvoidsClobbers clobbers operand is_reused }
 {
@@ -182,7 +174,7 @@ fn avoids_clobbers(clobbers: PRegSet, operand: Operand, is_reused: bool) -> bool
     !clobbers.contains(preg)
 }
 
-/// Whether no definition, late use or reused operand is fixed to a clobber.
+/// Whether no definition, late use or reused operand of `operands` is fixed to one of `clobbers`.
 fn avoid_clobbers(operands: &[Operand], clobbers: PRegSet) -> bool
     ensures { IsTrue result ↔ ((k : ℕ) → k < length operands.now → OperandAvoidsClobbers clobbers operands.now k) }
 {
@@ -196,7 +188,7 @@ fn avoid_clobbers(operands: &[Operand], clobbers: PRegSet) -> bool
     true
 }
 
-/// Whether no definition, late use or reused operand of an instruction is fixed to a clobber.
+/// Whether no definition, late use or reused operand of `inst` is fixed to one of its clobbers.
 fn has_no_clash<F: Function>(f: &F, inst: Inst) -> bool
     requires { inst < length (F.function f.now).insts }
     ensures { IsTrue result ↔ FixedAvoidClobbers (inst_at (F.function f.now) inst) }
@@ -204,22 +196,15 @@ fn has_no_clash<F: Function>(f: &F, inst: Inst) -> bool
     avoid_clobbers(f.inst_operands(inst), f.inst_clobbers(inst))
 }
 
-/// Whether a set has no register.
-fn is_empty(set: PRegSet) -> bool
-    ensures { IsTrue result ↔ ((r : Register) → has_register set r ≡ false) }
-{
-    set.max_preg().is_none()
-}
-
-/// Whether an instruction has no clobbers, or its operands pass `avoid_clobbers`.
+/// Whether `inst` has no clobbers, or its operands pass `avoid_clobbers`.
 fn passes_clobber_test<F: Function>(f: &F, inst: Inst) -> bool
     requires { inst < length (F.function f.now).insts }
     ensures { IsTrue result ↔ FixedAvoidClobbers (inst_at (F.function f.now) inst) }
 {
-    is_empty(f.inst_clobbers(inst)) || has_no_clash(f, inst)
+    f.inst_clobbers(inst) == PRegSet::empty() || has_no_clash(f, inst)
 }
 
-/// Whether an operand has no `Limit`.
+/// Whether `operand` has no `Limit`.
 pub fn is_unlimited(operand: Operand) -> bool
     ensures unlimited { IsTrue result ↔ IsUnlimited operand }
     ensures of_class { IsConstraintOf operand.vreg.class operand.constraint }
@@ -227,10 +212,12 @@ pub fn is_unlimited(operand: Operand) -> bool
     !matches!(operand.constraint(), OperandConstraint::Limit(_))
 }
 
-/// Whether no operand has `Limit`.
-fn are_unlimited(operands: &[Operand]) -> bool
+/// Whether none of `operands` has `Limit`. Not inlined: the walk calls it only where an operand may
+/// have one.
+#[inline(never)]
+pub fn are_unlimited(operands: &[Operand]) -> bool
     ensures unlimited { IsTrue result ↔ ((k : ℕ) → k < length operands.now → IsUnlimited (op_at operands.now k)) }
-    ensures taken { IsTrue result → (k : ℕ) → k < length operands.now → IsTakenOperand (op_at operands.now k) }
+    ensures taken { IsTrue result ↔ All IsTakenOperand operands.now }
 {
     for k in 0..operands.len() {
         if !is_unlimited(operands[k]) {
@@ -240,7 +227,7 @@ fn are_unlimited(operands: &[Operand]) -> bool
     true
 }
 
-/// Whether no operand of an instruction has `Limit`.
+/// Whether no operand of `inst` has `Limit`.
 fn has_no_limit<F: Function>(f: &F, inst: Inst) -> bool
     requires { inst < length (F.function f.now).insts }
     ensures unlimited { IsTrue result ↔ AreUnlimited (inst_at (F.function f.now) inst) }
@@ -249,7 +236,8 @@ fn has_no_limit<F: Function>(f: &F, inst: Inst) -> bool
     are_unlimited(f.inst_operands(inst))
 }
 
-/// Tests reuses. The error is `Unsupported` with the first instruction that fails.
+/// Tests the reuses of `f` on the machine `env`. The error is `Unsupported` with the first
+/// instruction that fails.
 fn validate_reuses<F: Function, B: Allocator>(
     f: &F,
     env: &MachineEnv<B>,
@@ -266,8 +254,8 @@ fn validate_reuses<F: Function, B: Allocator>(
     Ok(())
 }
 
-/// Tests fixed registers beside clobbers. The error is `Unsupported` with the first instruction that
-/// fails.
+/// Tests the fixed registers of `f` beside clobbers. The error is `Unsupported` with the first
+/// instruction that fails.
 fn validate_clobbers<F: Function>(f: &F) -> Result<(), RegAllocError>
     ensures ok { IsOk result ↔ ((i : ℕ) → i < length (F.function f.now).insts → FixedAvoidClobbers (inst_at (F.function f.now) i)) }
     ensures first { IfErr result (λ e. (i : ℕ) × (e ≡ RegAllocError.Unsupported i) × IsFirstFailing (F.function f.now) (FixedAvoidClobbers) i) }
@@ -281,12 +269,13 @@ fn validate_clobbers<F: Function>(f: &F) -> Result<(), RegAllocError>
     Ok(())
 }
 
-/// Tests reuses, and then fixed registers beside clobbers.
+/// Tests the reuses of `f` on the machine `env`, and then its fixed registers beside clobbers.
 ///
-/// A reuse is a late definition; it names an early use that reads a vreg of its class, in any register or fixed to an
-/// allocatable one; and no two reuses name one operand. No definition, late use or reused operand is fixed to a clobber of its
-/// instruction. The error is `Unsupported` with the first instruction that breaks the first rule, or if there is none,
-/// the second. Upstream takes both for granted.
+/// A reuse is a late definition; it names an early use that reads a vreg of its class, in any
+/// register or fixed to an allocatable register; and no two reuses name one operand. No definition,
+/// late use or reused operand is fixed to a clobber of its instruction. The error is `Unsupported`
+/// with the first instruction that breaks the first rule, or if there is none, the second. Upstream
+/// takes both for granted.
 pub fn validate_fixed<F: Function, B: Allocator>(
     f: &F,
     env: &MachineEnv<B>,
@@ -299,7 +288,8 @@ pub fn validate_fixed<F: Function, B: Allocator>(
     validate_clobbers(f)
 }
 
-/// Tests that no operand has `Limit`. The error is `Unsupported` with the first instruction that has one.
+/// Tests that no operand of `f` has `Limit`. The error is `Unsupported` with the first instruction
+/// that has one.
 ///
 /// Upstream's fast allocator stops the program there.
 pub fn validate_limits<F: Function>(f: &F) -> Result<(), RegAllocError>
@@ -316,8 +306,8 @@ pub fn validate_limits<F: Function>(f: &F) -> Result<(), RegAllocError>
     Ok(())
 }
 
-/// Whether an operand defines nothing, or defines in a register that it names or in a stack place
-/// if need be.
+/// Whether `operand` defines nothing, or defines in a register that it names or in a stack place if
+/// need be.
 fn defines_in_place(operand: Operand) -> bool
     ensures { IsTrue result ↔ DefinesInPlace operand }
 {
@@ -330,7 +320,7 @@ fn defines_in_place(operand: Operand) -> bool
     }
 }
 
-/// Whether all operands pass `defines_in_place`.
+/// Whether all `operands` pass `defines_in_place`.
 fn define_in_place(operands: &[Operand]) -> bool
     ensures { IsTrue result ↔ ((k : ℕ) → k < length operands.now → DefinesInPlace (op_at operands.now k)) }
 {
@@ -342,8 +332,7 @@ fn define_in_place(operands: &[Operand]) -> bool
     true
 }
 
-/// Whether an instruction is no branch, or defines only in registers that it names and in stack
-/// places.
+/// Whether `inst` is no branch, or defines only in registers that it names and in stack places.
 pub fn is_sound_branch<F: Function>(f: &F, inst: Inst) -> bool
     requires { inst < length (F.function f.now).insts }
     ensures { IsTrue result ↔ BranchDefinesInPlace (inst_at (F.function f.now) inst) }
@@ -351,11 +340,11 @@ pub fn is_sound_branch<F: Function>(f: &F, inst: Inst) -> bool
     !f.is_branch(inst) || define_in_place(f.inst_operands(inst))
 }
 
-/// Tests that no branch has a definition in any register or in the place of another operand. The
-/// error is `Unsupported` with the first branch that has one.
+/// Tests that no branch of `f` has a definition in any register or in the place of another operand.
+/// The error is `Unsupported` with the first branch that has one.
 ///
 /// Successors store a branch's definitions at their beginning, and the walk visits a block before
-/// the blocks that lead to it: so the place must be known before the branch is allocated.
+/// the blocks that lead to it. Therefore the place must be known before the branch is allocated.
 /// Upstream's fast allocator stops the program there.
 pub fn validate_branches<F: Function>(f: &F) -> Result<(), RegAllocError>
     ensures ok { IsOk result ↔ ((i : ℕ) → i < length (F.function f.now).insts → BranchDefinesInPlace (inst_at (F.function f.now) i)) }
@@ -370,7 +359,8 @@ pub fn validate_branches<F: Function>(f: &F) -> Result<(), RegAllocError>
     Ok(())
 }
 
-/// Whether an instruction has no operand under `Limit`, and is no branch with a definition in any register or by a reuse.
+/// Whether `inst` has no operand under `Limit`, and is no branch with a definition in any register
+/// or by a reuse.
 fn passes_operand_tests<F: Function>(f: &F, inst: Inst) -> bool
     requires { inst < length (F.function f.now).insts }
     ensures passed { IsTrue result → AreUnlimited (inst_at (F.function f.now) inst) × BranchDefinesInPlace (inst_at (F.function f.now) inst) }
@@ -380,7 +370,7 @@ fn passes_operand_tests<F: Function>(f: &F, inst: Inst) -> bool
     has_no_limit(f, inst) && is_sound_branch(f, inst)
 }
 
-/// Whether all instructions pass both tests.
+/// Whether all instructions of `f` pass both tests.
 fn all_pass_operand_tests<F: Function>(f: &F) -> bool
     ensures unlimited { IsTrue result → (i : ℕ) → i < length (F.function f.now).insts → AreUnlimited (inst_at (F.function f.now) i) }
     ensures branches { IsTrue result → (i : ℕ) → i < length (F.function f.now).insts → BranchDefinesInPlace (inst_at (F.function f.now) i) }
@@ -396,11 +386,12 @@ fn all_pass_operand_tests<F: Function>(f: &F) -> bool
     true
 }
 
-/// Tests that no operand has `Limit`, and then that no branch has a definition in any register or in the place of another
-/// operand, as [`validate_limits`] and [`validate_branches`] do.
+/// Tests that no operand of `f` has `Limit`, and then that no branch has a definition in any
+/// register or in the place of another operand, as [`validate_limits`] and [`validate_branches`]
+/// do.
 ///
-/// One pass makes both tests, and nearly every function passes it. Only where an instruction fails one are they made one after
-/// the other, for the error that comes first.
+/// One pass makes both tests, and nearly every function passes it. Only where an instruction fails
+/// one are they made one after the other, for the error that comes first.
 pub fn validate_operands<F: Function>(f: &F) -> Result<(), RegAllocError>
     ensures unlimited { OnOk result ((i : ℕ) → i < length (F.function f.now).insts → AreUnlimited (inst_at (F.function f.now) i)) }
     ensures taken { OnOk result (AreTaken (F.function f.now)) }

@@ -1,12 +1,8 @@
 -- The free registers and the slots of a call's frame.
 use Rattle.std.specs.Prelude.{ℕ, ◌≡◌, ◌+◌, ◌<◌, ◌≤◌, length, slice_index_or, Option, None, Some}
-use Rattle.regalloc2_names.specs.Place.{Place, InRegister, InSlot}
+use Rattle.regalloc2_names.specs.Place.{Place, InRegister, InSlot, slot_limit}
 use Rattle.regalloc2_names.specs.Register.{Register, invalid_register}
 use Rattle.regalloc2_parts.specs.declared.callmoves.CallFrame.{CallFrame}
-
--- slots have numbers below 2^24
-abbrev pub slot_limit : ℕ
-slot_limit = 16777216
 
 abbrev pub free_at : {A : Type 0} → CallFrame A → ℕ → Register
 free_at f k = slice_index_or f.free_regs.items k invalid_register

@@ -1,10 +1,9 @@
 //! The errors in the moves of a call, or in its scratch resources.
 
 ghost use Rattle.std.specs.Prelude.{◌≡◌, ◌≢◌, ◌<◌, ◌≤◌, ◌||◌, true, false, length, ℕ, IfOk, MatchOption};
-ghost use Rattle.regalloc2_names.specs.Place.{InRegister, InSlot, is_place};
+ghost use Rattle.regalloc2_names.specs.Place.{InRegister, InSlot, is_place, slot_limit};
 ghost use Rattle.regalloc2_names.specs.Register.{Register};
 ghost use Rattle.regalloc2_names.specs.RegisterSet.{has_register};
-ghost use Rattle.regalloc2_parts.specs.Callmoves.Frame.{slot_limit};
 ghost use Rattle.regalloc2_parts.specs.Callmoves.CallMoves.{source, target, HasNone, IsFirstOrNone, NamesNoPlace, HasOtherSource, MovesName};
 ghost use Rattle.regalloc2_parts.specs.Callmoves.CallMoves.{IsLower, IsNotFree, IsFreeRegister, IsBorrowedTaken, IsNamedSlot, IsFirstInUseOrNone, IsFoundOrNone};
 
@@ -43,7 +42,7 @@ fn names_none(moves: &[(Allocation, Allocation)], at: usize) -> bool
     source_at(moves, at).is_same(none) || target_at(moves, at).is_same(none)
 }
 
-/// The index of the first move that names no place.
+/// The index of the first of `moves` that names no place.
 fn find_none(moves: &[(Allocation, Allocation)]) -> Option<usize>
     ensures { IsFirstOrNone (length moves.now) (NamesNoPlace moves.now) result }
 {
@@ -80,8 +79,8 @@ fn has_other_source(moves: &[(Allocation, Allocation)], at: usize) -> bool
     false
 }
 
-/// The index of the first move whose destination an earlier move has with another source. It
-/// compares each move with all earlier ones.
+/// The index of the first of `moves` whose destination an earlier move has with another source.
+/// Compares each move with all earlier moves.
 fn find_by_pairs(moves: &[(Allocation, Allocation)]) -> Option<usize>
     ensures { IsFirstOrNone (length moves.now) (HasOtherSource moves.now) result }
 {
@@ -93,8 +92,8 @@ fn find_by_pairs(moves: &[(Allocation, Allocation)]) -> Option<usize>
     None
 }
 
-/// Returns what `find_by_pairs` does, by a table of destinations: in time linear in the number of
-/// moves.
+/// What `find_by_pairs` returns for `moves`, found by a table of destinations: in time linear in
+/// the number of moves.
 fn find_by_table<A: Allocator + Copy>(
     alloc: A,
     moves: &[(Allocation, Allocation)],
@@ -114,8 +113,8 @@ fn find_by_table<A: Allocator + Copy>(
     Ok(None)
 }
 
-/// Returns what `find_by_pairs` does, by the table if that is faster and its memory can be
-/// allocated.
+/// What `find_by_pairs` returns for `moves`, found by the table if that is faster and its memory
+/// can be allocated.
 fn find_two_sources<A: Allocator + Copy>(
     alloc: A,
     moves: &[(Allocation, Allocation)],
@@ -140,7 +139,7 @@ fn add_place(set: &mut PRegSet, place: Allocation)
     }
 }
 
-/// The registers that the moves name.
+/// The registers that `moves` name.
 fn named_registers(moves: &[(Allocation, Allocation)]) -> PRegSet
     ensures yes { (r : Register) → has_register result r ≡ true → MovesName moves.now (InRegister r) }
     ensures no { (r : Register) → MovesName moves.now (InRegister r) → has_register result r ≡ true }
@@ -153,7 +152,7 @@ fn named_registers(moves: &[(Allocation, Allocation)]) -> PRegSet
     named
 }
 
-/// The index of the first free register that is in use.
+/// The index of the first free register of `frame` that is in use.
 fn find_taken<A: Allocator>(
     moves: &[(Allocation, Allocation)],
     frame: &CallFrame<A>,
@@ -186,7 +185,7 @@ fn is_free<A: Allocator>(frame: &CallFrame<A>, preg: PReg) -> bool
     false
 }
 
-/// Whether the borrowed register is free or represents a stack place.
+/// Whether the borrowed register of `frame` is free or represents a stack place.
 fn is_borrowed_taken<A: Allocator>(frame: &CallFrame<A>) -> bool
     ensures yes { result ≡ true → IsBorrowedTaken frame.now }
     ensures no { result ≡ false → IsBorrowedTaken frame.now → ⊥ }
@@ -227,7 +226,8 @@ fn lower(place: Allocation, start: usize, lowest: usize) -> usize
     }
 }
 
-/// The lowest slot of the range that a move names, or the range's end if no move names one.
+/// The lowest slot of the range of `frame` that a move of `moves` names, or the range's end if no
+/// move names one.
 fn lowest_slot<A: Allocator>(moves: &[(Allocation, Allocation)], frame: &CallFrame<A>) -> usize
     ensures end { result ≤ frame.now.slots.«end» }
     ensures named { result < frame.now.slots.«end» → IsNamedSlot moves.now frame.now result }
@@ -242,7 +242,7 @@ fn lowest_slot<A: Allocator>(moves: &[(Allocation, Allocation)], frame: &CallFra
     lowest
 }
 
-/// The first place in use that should be free.
+/// The first place of `frame` that should be free and is in use.
 fn find_in_use<A: Allocator>(
     moves: &[(Allocation, Allocation)],
     frame: &CallFrame<A>,
@@ -263,7 +263,7 @@ fn find_in_use<A: Allocator>(
     None
 }
 
-/// The first error of the moves and the frame, if any. Two sources are looked for last: only this
+/// The first error of `moves` and `frame`, if any. Two sources are looked for last: only this
 /// search may allocate.
 pub(super) fn find_fault<A: Allocator + Copy, B: Allocator>(
     alloc: A,

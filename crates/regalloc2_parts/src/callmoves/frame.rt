@@ -1,8 +1,9 @@
 //! The registers and slots of a frame that the moves of a call may use.
 
 ghost use Rattle.std.specs.Prelude.{◌≤◌};
+ghost use Rattle.regalloc2_names.specs.Place.{slot_limit};
 ghost use Rattle.regalloc2_parts.specs.Callmoves.CallMoves.{IsPoolOf};
-ghost use Rattle.regalloc2_parts.specs.Callmoves.Frame.{IsRegisterAt, IsSlotAt, slot_limit};
+ghost use Rattle.regalloc2_parts.specs.Callmoves.Frame.{IsRegisterAt, IsSlotAt};
 
 use super::CallFrame;
 use crate::scratch_pool::{ScratchPair, ScratchPool};
@@ -35,7 +36,7 @@ fn slot_at<A: Allocator>(frame: &CallFrame<A>, index: usize) -> Option<Allocatio
     }
 }
 
-/// The scratch places for a frame's moves: at most two registers and two slots are needed. The
+/// The scratch places for the moves of `frame`: at most two registers and two slots are needed. The
 /// borrowed register is none of these registers, because its value is needed.
 pub(super) fn scratch_pool<A: Allocator>(frame: &CallFrame<A>) -> ScratchPool
     requires range { frame.now.slots.start ≤ frame.now.slots.«end» }

@@ -69,8 +69,8 @@ fn make_oldest(nodes: &mut [LruNode], head: u8, number: u8)
     append_node(nodes, head, number);
 }
 
-/// Makes any member the most recently used of a ring, as `poke_node` does, which calls it for members
-/// other than the least recently used.
+/// Makes `number`, any member, the most recently used of the ring of `head`, as `poke_node` does,
+/// which calls it for members other than the least recently used.
 #[inline(never)]
 fn poke_younger(nodes: &mut [LruNode], head: &mut u8, number: u8)
     requires ring { IsNodeRing nodes.old head.old }
@@ -144,7 +144,7 @@ impl<'a> Model for OldestFirst<'a> {
 }
 
 impl<'a> OldestFirst<'a> {
-    /// A walk over no register.
+    /// A walk over no register. `nodes` and `class` are unused.
     pub fn none(nodes: &'a [LruNode], class: RegClass) -> Self
         requires { length nodes.now ≤ 64 }
         ensures { result ≡ [] }

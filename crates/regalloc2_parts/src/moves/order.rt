@@ -78,9 +78,10 @@ fn is_pending(state: &[State], at: usize) -> bool
     at < state.len() && matches!(state[at], State::Pending)
 }
 
-/// Opens the ring that a chain closes: emits its last move as a move from `Allocation::none()`, which
-/// stands for the scratch place. Returns the indexes of the last move, whose source `give_chain`
-/// saves, and of the ring's first move; past the end for both if there is no ring.
+/// Opens the ring that `chain` closes at `stop`: emits its last move as a move from
+/// `Allocation::none()`, which stands for the scratch place. Returns the indexes of the last move,
+/// whose source `give_chain` saves, and of the ring's first move; past the end for both if there is
+/// no ring.
 fn open_ring<'a, T: Copy + Default, A: Allocator + Copy>(
     moves: &[(Allocation, Allocation, T)],
     nexts: &[usize],
@@ -150,7 +151,8 @@ fn give_from<'a, T: Copy + Default, A: Allocator + Copy>(
     give_chain(moves, nexts, state, chain, given, ring)
 }
 
-/// The emitted moves, from the last to the first, with marks that are all `Todo` and an empty chain.
+/// The emitted `moves`, from the last to the first, found with a `state` that is `Todo` for each
+/// move and an empty `chain`.
 fn give_chains<'a, T: Copy + Default, A: Allocator + Copy>(
     alloc: A,
     moves: &[(Allocation, Allocation, T)],
@@ -174,7 +176,7 @@ fn give_chains<'a, T: Copy + Default, A: Allocator + Copy>(
     Ok(given)
 }
 
-/// The emitted moves, from the last to the first.
+/// The emitted `moves`, from the last to the first.
 fn give_all<T: Copy + Default, A: Allocator + Copy>(
     alloc: A,
     moves: &[(Allocation, Allocation, T)],
@@ -261,8 +263,8 @@ fn find_writer_near<T: Copy + Default>(
     find_writer(moves, place)
 }
 
-/// The index of each move's next, or past the end if it has none. Slots of arguments and of
-/// parameters are mostly numbered in one order, so the guess is the index after the last found.
+/// The index of the next of each of `moves`, or past the end if it has none. Slots of arguments and
+/// of parameters are mostly numbered in one order, so the guess is the index after the last found.
 fn find_nexts<'a, T: Copy + Default, B: Allocator>(
     alloc: &'a B,
     moves: &[(Allocation, Allocation, T)],
@@ -281,7 +283,7 @@ fn find_nexts<'a, T: Copy + Default, B: Allocator>(
     Ok(nexts)
 }
 
-/// Sorts the moves by the encodings of their destinations.
+/// Sorts `moves` by the encodings of their destinations.
 fn sort_moves<T: Copy + Default, A: Allocator + Copy>(moves: &mut MoveVec<T, A>)
     ensures permutation { IsPermutation moves.old.items moves.new.items }
     ensures sorted { IsNonDecreasingBy (λ (m : Place × Place × _). bits_of_place m.1) moves.new.items }
@@ -289,7 +291,8 @@ fn sort_moves<T: Copy + Default, A: Allocator + Copy>(moves: &mut MoveVec<T, A>)
     moves.sort_unstable_by_key(|m| m.1.bits());
 }
 
-/// Whether the encodings of the destinations rise strictly, and no move is to its own source.
+/// Whether the encodings of the destinations of `moves` rise strictly, and no move is to its own
+/// source.
 fn is_tidy<T: Copy + Default>(moves: &[(Allocation, Allocation, T)]) -> bool
     ensures { IsTrue result → IsTidied (ends_of moves.now) (ends_of moves.now) }
 {
@@ -304,7 +307,7 @@ fn is_tidy<T: Copy + Default>(moves: &[(Allocation, Allocation, T)]) -> bool
     true
 }
 
-/// Sorts the moves by destination, and drops repeats and moves that change nothing.
+/// Sorts `moves` by destination, and drops repeats and moves that change nothing.
 fn tidy<T: Copy + Default, A: Allocator + Copy>(moves: &mut MoveVec<T, A>)
     requires fair { AreFair (ends_of moves.old.items) }
     requires proper { AreProper (ends_of moves.old.items) }
@@ -319,7 +322,7 @@ fn tidy<T: Copy + Default, A: Allocator + Copy>(moves: &mut MoveVec<T, A>)
     moves.retain(|m| m.0.bits() != m.1.bits());
 }
 
-/// Reverses the moves.
+/// Reverses `moves`.
 fn turn_round<T: Copy + Default, A: Allocator + Copy>(moves: &mut MoveVec<T, A>)
     ensures { moves.new.items ≡ reverse moves.old.items }
 {
@@ -352,7 +355,7 @@ fn in_turn_order<T: Copy + Default, A: Allocator + Copy>(
     }))
 }
 
-/// The moves of a tidy list in another order; `None` if they can be made as they stand.
+/// The moves of the tidy list `moves` in another order; `None` if they can be made as they stand.
 #[inline(always)]
 fn reordered<T: Copy + Default, A: Allocator + Copy>(
     alloc: A,
@@ -367,7 +370,7 @@ fn reordered<T: Copy + Default, A: Allocator + Copy>(
     in_turn_order(alloc, moves, nexts.as_slice())
 }
 
-/// The moves, ordered so that they can be made one after another as if in parallel.
+/// Returns `moves`, ordered so that they can be made one after another as if in parallel.
 pub(super) fn resolve<T: Copy + Default, A: Allocator + Copy>(
     mut moves: MoveVec<T, A>,
 ) -> Result<MoveVecWithScratch<T, A>, MoveFault>

@@ -32,7 +32,8 @@ pub(super) struct ScratchReg {
     pub save: Allocation,
 }
 
-/// Saves the value that the register must hold, unless it is saved.
+/// Saves the value that the register of `via` must hold, unless it is saved. `held` says where the
+/// value is; the result says where it is then.
 fn save_first<T: Copy + Default, A: Allocator + Copy>(
     via: &ScratchReg,
     held: Held,
@@ -54,8 +55,8 @@ fn save_first<T: Copy + Default, A: Allocator + Copy>(
     }
 }
 
-/// Makes the register hold the value that the moves put into it: moves it back if it is in the save
-/// slot only.
+/// Makes the register of `via` hold the value that the moves put into it: moves it back if `held`
+/// says that it is in the save slot only. The result says where it is then.
 pub(super) fn restore_first<T: Copy + Default, A: Allocator + Copy>(
     via: &ScratchReg,
     held: Held,
@@ -92,10 +93,8 @@ fn pass<T: Copy + Default, A: Allocator + Copy>(
         ⊎ GoesThrough via.now.register m.now x) }
 {
     let after = save_first(via, held, out)?;
-    let first = *m;
-    out.push((first.0, via.register, first.2))?;
-    let second = *m;
-    out.push((via.register, second.1, second.2))?;
+    out.push((m.0, via.register, m.2))?;
+    out.push((via.register, m.1, m.2))?;
     Ok(after)
 }
 

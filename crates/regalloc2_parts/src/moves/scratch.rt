@@ -102,7 +102,7 @@ where
         (self.is_stack_alloc)(from) && (self.is_stack_alloc)(to)
     }
 
-    /// Whether one of the moves is stack-to-stack.
+    /// Whether one of `moves` is stack-to-stack.
     fn has_stack_to_stack<T: Copy + Default>(&self, moves: &[(Allocation, Allocation, T)]) -> bool
         requires callable { IsStackAlloc.IsAlwaysCallable self.now.is_stack_alloc }
         ensures none { result ≡ false → AreSeenApart (λ p b. IsStackAlloc.post self.now.is_stack_alloc p b) moves.now }
@@ -136,7 +136,8 @@ where
         }
     }
 
-    /// The moves, of which each stack-to-stack move is made by way of a register.
+    /// Returns `moves`, each stack-to-stack move made by way of the register of `via`. `first` says
+    /// where that register's value is before the moves.
     fn expand<T: Copy + Default, A: Allocator + Copy>(
         &self,
         alloc: A,
@@ -154,11 +155,12 @@ where
             let is_passing = self.is_stack_to_stack(m.0, m.1);
             held = passing::make(m, is_passing, via, held, &mut out)?;
         }
-        let _held = passing::restore_first(via, held, &mut out)?;
+        passing::restore_first(via, held, &mut out)?;
         Ok(SmallVec::from_vec(out))
     }
 
-    /// `compute`, but keeps the resolver: a caller can read the states that its closures reached.
+    /// Does with `moves` what `compute` does, but keeps the resolver: a caller can read the states
+    /// that its closures reached.
     pub fn compute_by_ref<T: Copy + Default, A: Allocator + Copy>(
         &mut self,
         moves: MoveVecWithScratch<T, A>,

@@ -19,13 +19,13 @@ fill_places-requires g c =
     record {
       machine = c.requires.machine;
       well_formed = c.requires.well_formed;
-      offsets_long = ap length c.deref.ensures.value ∙ c.requires.found.offsets_long;
-      offsets = λ i lt. ap (λ xs. slice_index xs i) c.deref.ensures.value ∙ c.requires.found.offsets_each i lt;
-      allocs_long = c.deref_mut.ensures.len ∙ c.in_ok-allocs.ensures.len ∙ c.requires.found.counted;
+      offsets_long = ap length c.deref.ensures.value ∙ c.requires.survey.offsets_long;
+      offsets = λ i lt. ap (λ xs. slice_index xs i) c.deref.ensures.value ∙ c.requires.survey.offsets_each i lt;
+      allocs_long = c.deref_mut.ensures.len ∙ c.in_ok-allocs.ensures.len ∙ c.requires.survey.counted;
       no_places = λ k. ap (λ (xs : List Place). slice_index_or xs k NoPlace)
           (c.deref_mut.ensures.value ∙ c.in_ok-allocs.ensures.items_if_clones_equal (λ y h. h))
-          ∙ ap (λ (p : Place). slice_index_or (replicate c.args.found.total p) k NoPlace) c.none.ensures ∙ always c.args.found.total k NoPlace;
-      marked = subst (AreLabelsMarked f) (sym c.deref-2.ensures.value) c.requires.found.marked;
+          ∙ ap (λ (p : Place). slice_index_or (replicate c.args.survey.total p) k NoPlace) c.none.ensures ∙ always c.args.survey.total k NoPlace;
+      marked = subst (AreLabelsMarked f) (sym c.deref-2.ensures.value) c.requires.survey.marked;
     }
 
 -- the output with the places in their list
@@ -42,7 +42,7 @@ pub returns-clause-allocation : goal.returns-clause-allocation
 returns-clause-allocation g c =
     same_out (g.F.Function.function c.args.f.now) (machine_of c.args.env.now) c.in_ok-rest.rest.num_spillslots (map edit_of c.in_ok-rest.rest.edits.items)
     c.fill_places.new.allocs
-    (with_items c.in_ok-allocs.allocs c.fill_places.new.allocs).items c.deref.result.now c.args.found.offsets.items
+    (with_items c.in_ok-allocs.allocs c.fill_places.new.allocs).items c.deref.result.now c.args.survey.offsets.items
     (map location_of c.in_ok-rest.rest.debug_locations.items)
     (with_items_is c.in_ok-allocs.allocs c.fill_places.new.allocs (c.fill_places.auto.allocs ∙ c.deref_mut.ensures.len)) c.deref.ensures.value
     c.in_ok-rest.ensures.allocation

@@ -36,4 +36,4 @@ returns-then-not-may_have_limit-clause-sorted c =
 pub returns-else-not-may_have_limit-clause-sorted : goal.returns-else-not-may_have_limit-clause-sorted
 returns-else-not-may_have_limit-clause-sorted c =
     sorted_all c.args.operands.now c.loop-k.k c.args.inst_regs.now c.loop-k.inst_regs c.loop-k.masks c.loop-k.union c.any_fixed-any_fixed.result
-    c.are_unlimited-unlimited.result (omega arith) c.loop-k.invariant c.any_fixed-any_fixed.ensures c.are_unlimited-unlimited.ensures
+    c.are_unlimited-unlimited.result (omega arith) c.loop-k.invariant c.any_fixed-any_fixed.ensures c.are_unlimited-unlimited.ensures.taken

@@ -14,75 +14,75 @@ use Rattle.regalloc2_fastalloc_state.proofs.allocatable.AllocatableRegs.new.Goal
 pub invariant_of-result : goal.invariant_of-result
 invariant_of-result g c =
     let env = machine_of c.args.env.now in
-    let int : PRegSet = c.allocatable_of-int.result in
-    let float : PRegSet = c.allocatable_of-float.result in
-    let vector : PRegSet = c.allocatable_of-vector.result in
+    let int : PRegSet = c.allocatable-int.result in
+    let float : PRegSet = c.allocatable-float.result in
+    let vector : PRegSet = c.allocatable-vector.result in
     let u : IsUnion c.bitor-2.result int float vector = record {
       same = λ r. c.bitor-2.ensures r ∙ ap (λ (b : Bool). b || has_register vector r) (c.bitor.ensures r);
-      int_class = λ r h. c.requires Int r (sym (c.allocatable_of-int.ensures r) ∙ h);
-      float_class = λ r h. c.requires Float r (sym (c.allocatable_of-float.ensures r) ∙ h);
-      vector_class = λ r h. c.requires Vector r (sym (c.allocatable_of-vector.ensures r) ∙ h);
+      int_class = λ r h. c.requires Int r (sym (c.allocatable-int.ensures r) ∙ h);
+      float_class = λ r h. c.requires Float r (sym (c.allocatable-float.ensures r) ∙ h);
+      vector_class = λ r h. c.requires Vector r (sym (c.allocatable-vector.ensures r) ∙ h);
     } in (
       rings_of c.bitor-2.result int float vector c.in_ok-lrus.lrus.items u c.in_ok-lrus.ensures.ok,
       split_from c.bitor-2.result int float vector u,
-      λ r h. has_register-small c.set_of.result (λ i. search rules) r h,
+      λ r h. has_register-small c.from_slice.result (λ i. search rules) r h,
     )
 
 pub returns-clause-ok : goal.returns-clause-ok
 returns-clause-ok g c = λ r lt h.
     let env = machine_of c.args.env.now in
-    let int : PRegSet = c.allocatable_of-int.result in
-    let float : PRegSet = c.allocatable_of-float.result in
-    let vector : PRegSet = c.allocatable_of-vector.result in
+    let int : PRegSet = c.allocatable-int.result in
+    let float : PRegSet = c.allocatable-float.result in
+    let vector : PRegSet = c.allocatable-vector.result in
     let u : IsUnion c.bitor-2.result int float vector = record {
       same = λ q. c.bitor-2.ensures q ∙ ap (λ (b : Bool). b || has_register vector q) (c.bitor.ensures q);
-      int_class = λ q x. c.requires Int q (sym (c.allocatable_of-int.ensures q) ∙ x);
-      float_class = λ q x. c.requires Float q (sym (c.allocatable_of-float.ensures q) ∙ x);
-      vector_class = λ q x. c.requires Vector q (sym (c.allocatable_of-vector.ensures q) ∙ x);
+      int_class = λ q x. c.requires Int q (sym (c.allocatable-int.ensures q) ∙ x);
+      float_class = λ q x. c.requires Float q (sym (c.allocatable-float.ensures q) ∙ x);
+      vector_class = λ q x. c.requires Vector q (sym (c.allocatable-vector.ensures q) ∙ x);
     } in
     let P : RegClass → Type 0 = λ k. is_allocatable env k r ≡ true in
     by_class c.bitor-2.result int float vector (is_allocatable env r.class r ≡ true) r u h
-    (λ x. subst P (sym (u.int_class r x)) (sym (c.allocatable_of-int.ensures r) ∙ x))
-    (λ x. subst P (sym (u.float_class r x)) (sym (c.allocatable_of-float.ensures r) ∙ x))
-    (λ x. subst P (sym (u.vector_class r x)) (sym (c.allocatable_of-vector.ensures r) ∙ x))
+    (λ x. subst P (sym (u.int_class r x)) (sym (c.allocatable-int.ensures r) ∙ x))
+    (λ x. subst P (sym (u.float_class r x)) (sym (c.allocatable-float.ensures r) ∙ x))
+    (λ x. subst P (sym (u.vector_class r x)) (sym (c.allocatable-vector.ensures r) ∙ x))
 
 pub returns-clause-small : goal.returns-clause-small
 returns-clause-small g c =
     let every_fits : (i : ℕ) → slice_index c.bitor-2.result.bits i < 18446744073709551616 = λ i. search rules in
-    let fixed_fits : (i : ℕ) → slice_index c.set_of.result.bits i < 18446744073709551616 = λ i. search rules in
+    let fixed_fits : (i : ℕ) → slice_index c.from_slice.result.bits i < 18446744073709551616 = λ i. search rules in
     λ r h. elim h [
       | inl a ↦ has_register-small c.bitor-2.result every_fits r a
-      | inr b ↦ has_register-small c.set_of.result fixed_fits r b
+      | inr b ↦ has_register-small c.from_slice.result fixed_fits r b
     ]
 
 pub returns-clause-all : goal.returns-clause-all
 returns-clause-all g c = λ r h.
     let env = machine_of c.args.env.now in
-    let int : PRegSet = c.allocatable_of-int.result in
-    let float : PRegSet = c.allocatable_of-float.result in
-    let vector : PRegSet = c.allocatable_of-vector.result in
+    let int : PRegSet = c.allocatable-int.result in
+    let float : PRegSet = c.allocatable-float.result in
+    let vector : PRegSet = c.allocatable-vector.result in
     in_union c.bitor-2.result int float vector (λ q. c.bitor-2.ensures q ∙ ap (λ (b : Bool). b || has_register vector q) (c.bitor.ensures q)) r
-    (λ e. c.allocatable_of-int.ensures r ∙ ap (λ (k : RegClass). is_allocatable env k r) (sym e) ∙ h)
-    (λ e. c.allocatable_of-float.ensures r ∙ ap (λ (k : RegClass). is_allocatable env k r) (sym e) ∙ h)
-    (λ e. c.allocatable_of-vector.ensures r ∙ ap (λ (k : RegClass). is_allocatable env k r) (sym e) ∙ h)
+    (λ e. c.allocatable-int.ensures r ∙ ap (λ (k : RegClass). is_allocatable env k r) (sym e) ∙ h)
+    (λ e. c.allocatable-float.ensures r ∙ ap (λ (k : RegClass). is_allocatable env k r) (sym e) ∙ h)
+    (λ e. c.allocatable-vector.ensures r ∙ ap (λ (k : RegClass). is_allocatable env k r) (sym e) ∙ h)
 
 pub returns-clause-lrus : goal.returns-clause-lrus
 returns-clause-lrus g c =
     let env = machine_of c.args.env.now in
-    let int : PRegSet = c.allocatable_of-int.result in
-    let float : PRegSet = c.allocatable_of-float.result in
-    let vector : PRegSet = c.allocatable_of-vector.result in
+    let int : PRegSet = c.allocatable-int.result in
+    let float : PRegSet = c.allocatable-float.result in
+    let vector : PRegSet = c.allocatable-vector.result in
     let u : IsUnion c.bitor-2.result int float vector = record {
       same = λ r. c.bitor-2.ensures r ∙ ap (λ (b : Bool). b || has_register vector r) (c.bitor.ensures r);
-      int_class = λ r h. c.requires Int r (sym (c.allocatable_of-int.ensures r) ∙ h);
-      float_class = λ r h. c.requires Float r (sym (c.allocatable_of-float.ensures r) ∙ h);
-      vector_class = λ r h. c.requires Vector r (sym (c.allocatable_of-vector.ensures r) ∙ h);
+      int_class = λ r h. c.requires Int r (sym (c.allocatable-int.ensures r) ∙ h);
+      float_class = λ r h. c.requires Float r (sym (c.allocatable-float.ensures r) ∙ h);
+      vector_class = λ r h. c.requires Vector r (sym (c.allocatable-vector.ensures r) ∙ h);
     } in
     rings_of c.bitor-2.result int float vector c.in_ok-lrus.lrus.items u c.in_ok-lrus.ensures.ok
 
 pub returns-clause-fixed_stack : goal.returns-clause-fixed_stack
 returns-clause-fixed_stack g c = λ r.
-    subst (λ (l : List Register). (has_register c.set_of.result r ≡ true) ↔ Contains l r) c.deref.ensures.value (c.set_of.ensures r)
+    subst (λ (l : List Register). (has_register c.from_slice.result r ≡ true) ↔ Contains l r) c.deref.ensures.value (c.from_slice.ensures r)
 
 pub returns-clause-dedicated_scratch : goal.returns-clause-dedicated_scratch
 returns-clause-dedicated_scratch g c =

@@ -1,6 +1,7 @@
 use Rattle.std.proofs.Common.{List, refl, sym, subst, arith, below_more, ◌∙◌}
+use Rattle.std.proofs.lemmas.List.{get_or_default}
 use Rattle.regalloc2_names.specs.Operand.{OperandValue}
-use Rattle.regalloc2_function.specs.FunctionValue.{op_at}
+use Rattle.regalloc2_function.specs.FunctionValue.{no_operand, op_at}
 use Rattle.regalloc2_fastalloc_state.specs.Validate.Constraints.{IsUnlimited}
 use Rattle.regalloc2_fastalloc_state.specs.Validate.NoLimits.{IsTakenOperand}
 use Rattle.regalloc2_fastalloc_state.proofs.ValidateLemmas.OperandReads.{read_operand}
@@ -27,3 +28,9 @@ loop-k-preserved c =
 
 pub returns-clause-unlimited : goal.returns-clause-unlimited
 returns-clause-unlimited c = (λ t. λ k lt. (c.loop-k.invariant.so_far k (omega arith)).unlimited, λ h. refl)
+
+pub returns-clause-taken : goal.returns-clause-taken
+returns-clause-taken c = (
+  λ t k d lt. subst IsTakenOperand (get_or_default c.args.operands.now k no_operand d lt) (c.loop-k.invariant.so_far k (omega arith)),
+  λ h. refl,
+)

@@ -2,8 +2,8 @@ use Rattle.std.proofs.Common.{ap, ◌∙◌, sym}
 use Rattle.regalloc2_names.specs.RegisterSet.{has_register}
 use Rattle.regalloc2_fastalloc_state.proofs.validate.constraints.passes_clobber_test.Goals as goal
 
-pub returns-then-is_empty : goal.returns-then-is_empty
-returns-then-is_empty g c = (
-  λ t. λ k d lt r is why. ap (λ s. has_register s r) (sym c.inst_clobbers.ensures) ∙ c.is_empty.ensures.0 c.if-is_empty.true r,
-  λ h. c.if-is_empty.true,
+pub returns-then-eq : goal.returns-then-eq
+returns-then-eq g c = (
+  λ t. λ k d lt r is why. ap (λ s. has_register s r) (sym c.inst_clobbers.ensures) ∙ c.eq.ensures.members.0 c.if-eq.true r ∙ c.empty.ensures r,
+  λ h. c.if-eq.true,
 )

@@ -12,9 +12,9 @@ pub process_operands_at-requires : goal.process_operands_at-requires
 process_operands_at-requires g c = (
   search rules,
   (
-    c.in_ok-sorted.ensures.sorted.masks c.if-cx-gt63.false,
+    c.in_ok-sorted.ensures.sorted.masks c.if-cx-gt-MAX_OPERANDS.false,
     (
-      c.if-cx-gt63.false,
+      c.if-cx-gt-MAX_OPERANDS.false,
       (
         c.requires.inst,
         (
@@ -33,9 +33,9 @@ pub process_operands_at-requires-2 : goal.process_operands_at-requires-2
 process_operands_at-requires-2 g c = (
   search rules,
   (
-    c.in_ok-sorted.ensures.sorted.masks c.if-cx-gt63.false,
+    c.in_ok-sorted.ensures.sorted.masks c.if-cx-gt-MAX_OPERANDS.false,
     (
-      c.if-cx-gt63.false,
+      c.if-cx-gt-MAX_OPERANDS.false,
       (
         c.requires.inst,
         (
@@ -56,9 +56,9 @@ move_uses-requires g c =
     let at = c.before-2.ensures.point (λ e. omega (arith, c.requires.inst)) in (
       search rules,
       (
-        c.in_ok-sorted.ensures.sorted.masks c.if-cx-gt63.false,
+        c.in_ok-sorted.ensures.sorted.masks c.if-cx-gt-MAX_OPERANDS.false,
         (
-          c.if-cx-gt63.false,
+          c.if-cx-gt-MAX_OPERANDS.false,
           (
             λ k d lt. let w = c.in_ok-process_operands_at-2.ensures.step.later k d lt in omega (arith, w, at),
             (
@@ -78,8 +78,8 @@ returns-clause-outcome g c = allocs_inst c.in_ok-sorted.ensures.outcome c.requir
     c.in_ok-process_operands_at-2.ensures.outcome c.in_ok-move_uses.ensures.outcome)
 
 -- more than 63 operands
-pub returns-then-cx-gt63-clause-outcome : goal.returns-then-cx-gt63-clause-outcome
-returns-then-cx-gt63-clause-outcome g c = allocs_inst c.in_ok-sorted.ensures.outcome c.requires.allocs_long c.requires.no_places c.requires.fresh
+pub returns-then-cx-gt-MAX_OPERANDS-clause-outcome : goal.returns-then-cx-gt-MAX_OPERANDS-clause-outcome
+returns-then-cx-gt-MAX_OPERANDS-clause-outcome g c = allocs_inst c.in_ok-sorted.ensures.outcome c.requires.allocs_long c.requires.no_places c.requires.fresh
     c.in_ok-place_each.ensures.outcome
 
 pub returns-in_err-place_each-clause-outcome : goal.returns-in_err-place_each-clause-outcome

@@ -48,9 +48,9 @@ loop-preg-preserved g c = record {
       });
 }
 
-pub returns-then-has_none-clause-outcome : goal.returns-then-has_none-clause-outcome
-returns-then-has_none-clause-outcome g c =
-    let none : registers_of c.args.clobbers ≡ [] = none_listed c.args.clobbers (c.if-has_none.ensures.0 refl) in
+pub returns-then-eq-clause-outcome : goal.returns-then-eq-clause-outcome
+returns-then-eq-clause-outcome g c =
+    let none : registers_of c.args.clobbers ≡ [] = none_listed c.args.clobbers (λ r. c.eq.ensures.members.0 c.if-eq.true r ∙ c.empty.ensures r) in
     subst (λ (rs : List Register). EvictsEach c.args.point rs c.args.inst_regs.now (tables_of c.args.self.now) c.args.inst_regs.now
     (tables_of c.args.self.now)) (sym none) (none_left c.args.inst_regs.now (tables_of c.args.self.now))
 
@@ -69,8 +69,8 @@ returns-clause-outcome g c =
     (are_small c.args.clobbers) left (subst (λ (rs : List Register). EvictsEach c.args.point rs c.args.inst_regs.now old c.loop-preg.inst_regs new)
     (shared_are c.bitand-held.result c.args.clobbers filled c.bitand-held.ensures) all)
 
-pub returns-then-has_none-clause-step : goal.returns-then-has_none-clause-step
-returns-then-has_none-clause-step g c = step_none c.args.self.now c.requires
+pub returns-then-eq-clause-step : goal.returns-then-eq-clause-step
+returns-then-eq-clause-step g c = step_none c.args.self.now c.requires
 
 pub returns-clause-awaited : goal.returns-clause-awaited
 returns-clause-awaited g c = c.loop-preg.invariant.awaited

@@ -21,35 +21,17 @@ use Rattle.regalloc2_analysis.proofs.BranchDefsLemmas.BlockEnds.{last_within}
 use Rattle.regalloc2_fastalloc_walk.proofs.state.State.list_stores.Goals as goal
 
 pub own_stores-requires : goal.own_stores-requires
-own_stores-requires g c =
+own_stores-requires g c = λ k d lt.
     let f : FunctionValue = g.F.Function.function c.args.f.now in
-    let n : ℕ = length c.args.self.now.slots.vreg_spillslots in
     let ie = c.requires.edge.1 in
-    let e : ℕ = c.args.edge.now.from in
     let ks : List ℕ = c.stored_on.result.now in
-    let ops : c.inst_operands-operands.result.now ≡ branch_operands f e = c.inst_operands-operands.ensures
+    let ops : c.inst_operands-operands.result.now ≡ branch_operands f c.args.edge.now.from = c.inst_operands-operands.ensures
     ∙ ap (λ (m : ℕ). (inst_at f m).operands) ie.branch in
-    let one : (k : ℕ) (d : ℕ) → k < length ks → IsStoredOperand f (branch_operands f e) (slice_index_or ks k d) = λ k d lt.
     let x : ℕ = slice_index_or ks k d in
     let has : Contains ks x = Contains-get_or ks k d lt in
-    subst (λ (m : ℕ). IsStoredOperand f (inst_at f m).operands x) ie.branch
+    let is : IsStoredOperand f (branch_operands f c.args.edge.now.from) x = subst (λ (m : ℕ). IsStoredOperand f (inst_at f m).operands x) ie.branch
     ((ie.stored.members x).0 (subst (λ (l : List ℕ). Contains l x) c.stored_on.ensures has)) in
-    let defines : (x : ℕ) → IsStoredOperand f (branch_operands f e) x →
-    DefinesNumber (branch_operands f e) (op_at (branch_operands f e) x).vreg.number x = λ x is. record {
-      operand = is.operand;
-      definition = fixed_defines (op_at (branch_operands f e) x) is.fixed;
-      number = refl;
-    } in
-    let known : (x : ℕ) → IsStoredOperand f (branch_operands f e) x → (op_at (branch_operands f e) x).vreg.number < n = λ x is.
-    made_below f n c.requires.room (op_at (branch_operands f e) x).vreg
-    (concerned_made f c.requires.well_formed.1.successors c.requires.well_formed.1.follow c.requires.edge.0 e c.args.edge.now.position
-    (op_at (branch_operands f e) x).vreg ie.edge (inl (x, defines x is, refl))) in (
-      search rules,
-      (
-        λ k d lt. subst (λ (l : List OperandValue). slice_index_or ks k d < length l) (sym ops) (one k d lt).operand,
-        λ k d lt. subst (λ (l : List OperandValue). (op_at l (slice_index_or ks k d)).vreg.number < n) (sym ops) (known (slice_index_or ks k d) (one k d lt)),
-      ),
-    )
+    subst (λ (l : List OperandValue). x < length l) (sym ops) is.operand
 
 pub list_params-requires : goal.list_params-requires
 list_params-requires g c =

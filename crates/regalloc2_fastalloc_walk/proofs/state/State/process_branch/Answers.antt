@@ -43,7 +43,7 @@ push_gathered-requires g c =
     let each : (class : RegClass) (ms : Moves) → ms ≡ of_class class x.0 → MayBeParallel m.slots.count ms = λ class ms is. record {
       ends = gathered_below f c.args.block (before c.args.inst) c.args.inst_regs.now old k c.gather.new.inst_regs m x.0 x.2 class ms is m.slots.count le;
       one_source = gathered_sources f c.args.block (before c.args.inst) c.args.inst_regs.now old k c.gather.new.inst_regs m x.0 x.2 class ms is
-          c.requires.differ c.num_units-count.ensures.owned;
+          c.requires.differ c.gather.new.self.unshared;
     } in (
       search rules,
       record {

@@ -1,5 +1,5 @@
 use Rattle.std.proofs.Common.{◌≡◌, Some, ap, ◌∙◌, refl, subst, ⊎_elim, sym}
-use Rattle.std.specs.Prelude.{Option, IfNone, None}
+use Rattle.std.specs.Prelude.{Option, IfNone, IsSomeAnd, MatchOption, None}
 use Rattle.regalloc2_names.specs.Register.{Register}
 use Rattle.regalloc2_names.specs.Place.{Place, InRegister}
 use Rattle.regalloc2_fastalloc_state.specs.InstRegs.{IsAvailableAt}
@@ -10,6 +10,18 @@ use Rattle.regalloc2_fastalloc_proofs.proofs.Moves.ParallelMovesOrdered.{spare_o
 use Rattle.regalloc2_fastalloc_walk.proofs.AvailableCount.{only_first}
 use Rattle.regalloc2_fastalloc_walk.proofs.Clashes.{none_is_nothing, not_both}
 use Rattle.regalloc2_fastalloc_walk.proofs.state.State.scratch_regs.Goals as goal
+
+-- the second scratch place is the second register's, if there is one
+second_is : (o : Option Register) (s : Option Place) → MatchOption o (s ≡ None) (λ x. IsSomeAnd s (λ p. p ≡ InRegister x)) → (p : Place) → s ≡ Some p →
+    (r : Register) × (p ≡ InRegister r) × (o ≡ Some r)
+second_is None s h p e = none_is_nothing (sym h ∙ e)
+second_is (Some x) None h p e = none_is_nothing e
+second_is (Some x) (Some q) h p e = (x, (let same : q ≡ p = cc in sym same ∙ h), refl)
+
+no_second : (o : Option Register) (s : Option Place) → MatchOption o (s ≡ None) (λ x. IsSomeAnd s (λ p. p ≡ InRegister x)) → s ≡ None → o ≡ None
+no_second None s h e = refl
+no_second (Some x) None h e = absurd h
+no_second (Some x) (Some q) h e = none_is_nothing (sym e)
 
 pub returns-clause-scratch_reserve : goal.returns-clause-scratch_reserve
 returns-clause-scratch_reserve g c =
@@ -22,7 +34,7 @@ returns-clause-scratch_reserve g c =
       rest = c.remove.new.self;
       first = c.in-Some.first;
       place = c.reg.result;
-      second = c.as_place.result;
+      second = c.map.result;
       oldest = c.choose_register.result;
       allocatable = refl;
       dedicated_scratch = refl;
@@ -30,7 +42,7 @@ returns-clause-scratch_reserve g c =
       chosen = c.in-Some.ensures.found;
       left = c.remove.ensures.members;
       at_first = c.reg.ensures;
-      at_second = c.as_place.ensures.some;
+      at_second = second_is c.choose_register.result c.map.result c.map.ensures.cases;
       found = c.choose_register.ensures.found;
     })
 
@@ -45,7 +57,7 @@ returns-clause-differ g c =
       rest = c.remove.new.self;
       first = c.in-Some.first;
       place = c.reg.result;
-      second = c.as_place.result;
+      second = c.map.result;
       oldest = c.choose_register.result;
       allocatable = refl;
       dedicated_scratch = refl;
@@ -53,7 +65,7 @@ returns-clause-differ g c =
       chosen = c.in-Some.ensures.found;
       left = c.remove.ensures.members;
       at_first = c.reg.ensures;
-      at_second = c.as_place.ensures.some;
+      at_second = second_is c.choose_register.result c.map.result c.map.ensures.cases;
       found = c.choose_register.ensures.found;
     })
 
@@ -75,7 +87,7 @@ returns-in_default-clause-all g c = λ r small of_class held free. not_both
 pub returns-clause-all : goal.returns-clause-all
 returns-clause-all g c = λ r small of_class held free. (
   λ none. none_is_nothing (sym none),
-  λ none. let gone = c.as_place.ensures.none none in
+  λ none. let gone = no_second c.choose_register.result c.map.result c.map.ensures.cases none in
       let rest = subst (λ (o : Option Register). IfNone o (NoneIsIn c.args.self.now.registers c.args.class c.remove.new.self)) gone
       c.choose_register.ensures.none in
       let same = only_first c.available_pregs-free.result c.remove.new.self c.in-Some.first r (c.remove.ensures.members r)

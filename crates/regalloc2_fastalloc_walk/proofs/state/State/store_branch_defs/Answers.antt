@@ -139,7 +139,7 @@ returns-clause-outcome g c =
     let tables : t ≡ record old { slots = slots } = c.store_moves.ensures.step.tables in
     let same : c.deref-2.result.now ≡ ms = c.deref-2.ensures.value in
     let stores = edge_stores f c.requires.well_formed c.args.block e k ie.edge old c.requires.apart ds c.in_ok-stores.ensures.ok ms slots finds
-    c.num_units-count.ensures.owned.own in
+    c.store_moves.new.self.unshared in
     let first : c.first.result ≡ (block_at f c.args.block).range.first = c.first.ensures ∙ ap (λ (r : Span). r.first) c.block_insns.ensures in
     let some = (c.requires.well_formed.1.follow c.args.block c.requires.block).0 in
     let within = end_within f c.requires.well_formed.1.follow c.args.block c.requires.block in

@@ -66,9 +66,9 @@ pub returns-in_err-held : goal.returns-in_err-held
 returns-in_err-held g c =
     let p = err_from_is_err_and c.from_residual-in_err-held.result c.from_residual-in_err-held.ensures.1 in rw p.1 (record { expanded = p.2 })
 
-pub returns-in_err-_held : goal.returns-in_err-_held
-returns-in_err-_held g c =
-    let p = err_from_is_err_and c.from_residual-in_err-_held.result c.from_residual-in_err-_held.ensures.1 in rw p.1 (record { expanded = p.2 })
+pub returns-in_err-restore_first : goal.returns-in_err-restore_first
+returns-in_err-restore_first g c =
+    let p = err_from_is_err_and c.from_residual-in_err-restore_first.result c.from_residual-in_err-restore_first.ensures.1 in rw p.1 (record { expanded = p.2 })
 
 pub returns : goal.returns
 returns g c =
@@ -78,11 +78,11 @@ returns g c =
     let stack : Place → Bool → Type 0 = λ p b. goal.IsStackAlloc-post g c.args.self.now.is_stack_alloc p b in
     let many : length (ends_of ms) ≡ length ms = length_ends ms in
     let expanded : IsExpanded stack r s ms c.restore_first.new.out.items = record {
-      same = λ q n. follows_all r s c.loop-m.held c.in_ok-_held._held ms c.loop-m.out.items c.restore_first.new.out.items c.loop-m.m-index
-          (let end : length ms ≤ c.loop-m.m-index = c.loop-m-test.false in omega arith) c.loop-m.invariant.follows c.in_ok-_held.ensures.tracks
-          c.in_ok-_held.ensures.restored own_names q n;
+      same = λ q n. follows_all r s c.loop-m.held c.in_ok-restore_first.field-0 ms c.loop-m.out.items c.restore_first.new.out.items c.loop-m.m-index
+          (let end : length ms ≤ c.loop-m.m-index = c.loop-m-test.false in omega arith) c.loop-m.invariant.follows c.in_ok-restore_first.ensures.tracks
+          c.in_ok-restore_first.ensures.restored own_names q n;
       each = made_last stack r s c.requires.can.no_memory c.requires.can.real ms c.loop-m.out.items c.restore_first.new.out.items c.loop-m.invariant.made
-          c.in_ok-_held.ensures.added;
+          c.in_ok-restore_first.ensures.added;
     } in
     record { expanded = subst (λ xs. IsExpanded stack r s ms xs) (sym c.from_vec.ensures.items) expanded }
 
