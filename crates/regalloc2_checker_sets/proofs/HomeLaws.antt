@@ -10,7 +10,7 @@ use Rattle.std.proofs.lemmas.Nat.Bits.{bit_at-lt, bit_at-zero, bit_at_set_same, 
 use Rattle.regalloc2_function.specs.Numbers.{has_number, times_listed}
 use Rattle.regalloc2_checker_sets.specs.Homes.{MorePlaces, HomePlaces, no_more, place_list, stands_for}
 use Rattle.regalloc2_checker_sets.specs.Homes.{is_one_of, is_first, has_more, has_saved_more, has_few, has_home, has_saved}
-use Rattle.regalloc2_checker_sets.proofs.MoreLaws.{is-times}
+use Rattle.regalloc2_checker_sets.proofs.MoreLaws.{is-times, saved-has}
 use Rattle.regalloc2_checker_sets.proofs.Walked.{times-one, times-nil}
 
 -- the place of a number is listed
@@ -90,6 +90,16 @@ home-split h i = by (is_first h.low h.first h.second i) (is_one_of h.more.number
 pub saved-split : (h : HomePlaces) (i : ℕ) → has_saved h i ≡ (is_first h.low h.first h.second i || has_saved_more h.more i)
 unfolding has_saved
 saved-split h i = refl
+
+-- a saved place is one of the home
+pub saved-is-home : (h : HomePlaces) (i : ℕ) → has_saved h i ≡ true → has_home h i ≡ true
+saved-is-home h i is =
+    home-split h i
+    ∙ by (is_first h.low h.first h.second i) (has_saved_more h.more i) (has_more h.more i) (saved-has h.more i) (sym (saved-split h i) ∙ is)
+  where
+    by : (a b c : Bool) → (b ≡ true → c ≡ true) → (a || b) ≡ true → (a || c) ≡ true
+    by true b c f e = refl
+    by false b c f e = f e
 
 -- a number stands for a place, in place of none or of the same
 number-put : (had n i : ℕ) → 0 < n → (had ≡ 0) ⊎ (had ≡ n) → stands_for n i ≡ cond (nat_eq i n) true (stands_for had i)
