@@ -1,20 +1,21 @@
 -- What is left of tables that are stored anew.
-use Rattle.std.proofs.Common.{ℕ, ◌≡◌, ◌<◌, ◌⊎◌, inl, inr, arith, Bool, true, false, List, length, get_or, sym, ap, ◌∙◌, subst}
+use Rattle.std.proofs.Common.{ℕ, ◌≡◌, ◌<◌, ◌≤◌, ◌⊎◌, inl, inr, arith, Bool, true, false, List, length, get_or, refl, sym, ap, ◌∙◌, subst}
 use Rattle.std.specs.Prelude.{◌&&◌, nat_lt, Option, None}
 use Rattle.regalloc2_function.specs.Numbers.{NumberSet}
-use Rattle.regalloc2_checker_sets.specs.Homes.{HomePlaces}
+use Rattle.regalloc2_checker_sets.specs.Homes.{no_homes}
 use Rattle.regalloc2_checker_sets.specs.SavedNumbers.{NumberCopies, saved_number, number_now, IsSomeArray, IsWithout}
-use Rattle.regalloc2_checker_sets.specs.EntrySets.{is_member, IsSetOf}
+use Rattle.regalloc2_checker_sets.specs.EntrySets.{is_member, AreMore, IsSetOf}
 use Rattle.regalloc2_checker.specs.Showing.{showing, read_as, shows_in, AreShown}
 use Rattle.regalloc2_checker.specs.declared.passing.Passed.{Passed}
-use Rattle.regalloc2_checker.specs.Holding.{Holding, count_of, holds_in, IsHome, AreEntries, IsSoundHolding}
-use Rattle.regalloc2_checker.proofs.TableLaws.{entries-as}
+use Rattle.regalloc2_checker.specs.Holding.{Holding, count_of, holds_in, IsHome, IsSavedHome, AreEntries, IsSoundHolding}
+use Rattle.regalloc2_checker.proofs.TableLaws.{entries-as, entries-more, entries-within}
+use Rattle.regalloc2_checker_sets.proofs.HomeLaws.{saved-is-home}
 use Rattle.regalloc2_checker.proofs.Shown.{when-below}
 
 -- each number is an old one, or that of the empty set
-entries-or-none : (s : List NumberSet) (v : List ℕ) (h : List HomePlaces) (n : ℕ) (f g : ℕ → ℕ) → IsSetOf s 0 (λ y. false) →
-    ((i : ℕ) → i < n → (g i ≡ 0) ⊎ (g i ≡ f i)) → AreEntries s v h n f → AreEntries s v h n g
-entries-or-none s v h n f g empty q e = record { below = low; homed = at }
+entries-or-none : (s : List NumberSet) (P : ℕ → ℕ → Type 0) (n count : ℕ) (f g : ℕ → ℕ) → count ≤ n → IsSetOf s 0 (λ y. false) →
+    ((i : ℕ) → i < n → (g i ≡ 0) ⊎ (g i ≡ f i)) → AreEntries s P n count f → AreEntries s P n count g
+entries-or-none s P n count f g within empty q e = record { below = low; homed = at }
   where
     true-false : (b : Bool) → b ≡ true → b ≡ false → ⊥
     true-false true x y = absurd cc
@@ -26,8 +27,8 @@ entries-or-none s v h n f g empty q e = record { below = low; homed = at }
       | inr d ↦ subst (λ (x : ℕ). x < length s) (sym d) (e.below i l)
     ]
 
-    at : (i y : ℕ) → i < n → is_member s (g i) y ≡ true → IsHome v h i y
-    at i y l is = elim (q i l) [
+    at : (i y : ℕ) → i < count → is_member s (g i) y ≡ true → P i y
+    at i y l is = elim (q i (omega (arith, l, within))) [
       | inl z ↦ absurd (true-false (is_member s 0 y) (ap (λ x. is_member s x y) (sym z) ∙ is) (empty.members y))
       | inr d ↦ e.homed i y l (ap (λ x. is_member s x y) (sym d) ∙ is)
     ]
@@ -45,17 +46,29 @@ sound-anew t f a el array each =
       few = a.few;
       empty = a.empty;
       homes_long = a.homes_long;
-      now = as-long (number_now f) (now-anew array);
-      tables = λ k. as-long (saved_number f k)
-          (entries-or-none t.sets t.vregs t.homes (length t.entries.cells) (saved_number t.entries k) (saved_number f k) a.empty (each k) (a.tables k));
+      now = as-long (IsHome t.vregs t.homes) (number_now f) (now-anew array);
+      tables = λ k. as-long (IsSavedHome t.vregs t.homes) (saved_number f k)
+          (entries-or-none t.sets (IsSavedHome t.vregs t.homes) (length t.entries.cells) (length t.places) (saved_number t.entries k) (saved_number f k)
+          (entries-within t a) a.empty (each k) (a.tables k));
     }
   where
-    as-long : (g : ℕ → ℕ) → AreEntries t.sets t.vregs t.homes (length t.entries.cells) g → AreEntries t.sets t.vregs t.homes (length f.cells) g
-    as-long g e = subst (λ (m : ℕ). AreEntries t.sets t.vregs t.homes m g) (sym el) e
+    as-long : (P : ℕ → ℕ → Type 0) (g : ℕ → ℕ) → AreEntries t.sets P (length t.entries.cells) (length t.places) g →
+        AreEntries t.sets P (length f.cells) (length t.places) g
+    as-long P g e = subst (λ (m : ℕ). AreEntries t.sets P m (length t.places) g) (sym el) e
 
-    now-anew : IsSomeArray t.entries f → AreEntries t.sets t.vregs t.homes (length t.entries.cells) (number_now f)
-    now-anew (inl h) = entries-as t.sets t.vregs t.homes (length t.entries.cells) (number_now t.entries) (number_now f) h a.now
-    now-anew (inr (k, h)) = entries-as t.sets t.vregs t.homes (length t.entries.cells) (saved_number t.entries k) (number_now f) h (a.tables k)
+    same : AreMore t.sets t.sets
+    same = record { longer = omega arith; kept = λ n y l. refl }
+
+    now-anew : IsSomeArray t.entries f → AreEntries t.sets (IsHome t.vregs t.homes) (length t.entries.cells) (length t.places) (number_now f)
+    now-anew (inl h) =
+        entries-as t.sets (IsHome t.vregs t.homes) (length t.entries.cells) (length t.places) (number_now t.entries) (number_now f) (entries-within t a) h
+        a.now
+    now-anew (inr (k, h)) =
+        entries-as t.sets (IsHome t.vregs t.homes) (length t.entries.cells) (length t.places) (saved_number t.entries k) (number_now f)
+        (entries-within t a) h
+        (entries-more t.sets t.sets (IsSavedHome t.vregs t.homes) (IsHome t.vregs t.homes) (length t.entries.cells) (length t.places)
+        (saved_number t.entries k) (entries-within t a) same
+        (λ i y home j less e. saved-is-home (get_or t.homes j no_homes) i (home j less e)) (a.tables k))
 
 -- tables stay sound where the saved copies stay
 pub sound-kept : (t : Holding) (f : NumberCopies) → IsSoundHolding t → ((k i : ℕ) → saved_number f k i ≡ saved_number t.entries k i) →

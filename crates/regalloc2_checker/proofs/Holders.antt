@@ -1,7 +1,7 @@
 -- Steps of walks over the places where a vreg may be.
 use Rattle.std.proofs.Common.{inl, inr, ℕ, ◌≡◌, ◌+◌, ◌<◌, arith, Bool, true, false}
 use Rattle.std.proofs.Common.{nat_eq, nat_lt, eq-eqb, List, [], ◌∷◌, ◌++◌, length, get_or, take, refl, sym, ap, ◌∙◌, subst}
-use Rattle.std.specs.Prelude.{◌&&◌, ◌||◌, if◌then◌else◌, ◌⊎◌}
+use Rattle.std.specs.Prelude.{◌&&◌, ◌||◌, if◌then◌else◌}
 use Rattle.std.specs.List.Sorted.{IsStrictlyIncreasing}
 use Rattle.std.proofs.lemmas.List.{take_more}
 use Rattle.std.proofs.lemmas.Bool.{false≢true, cases_eq, lt-ltb as below, ne_eqb}
@@ -10,7 +10,7 @@ use Rattle.regalloc2_function.specs.Numbers.{NumberSet, has_number, times_listed
 use Rattle.regalloc2_checker_sets.specs.SavedNumbers.{NumberCopies}
 use Rattle.regalloc2_checker_sets.specs.EntrySets.{AreMore}
 use Rattle.regalloc2_checker_sets.specs.Homes.{HomePlaces, no_homes, has_few, has_home}
-use Rattle.regalloc2_checker.specs.Holding.{IsHome, is_in}
+use Rattle.regalloc2_checker.specs.Holding.{IsHome, IsSavedHome, is_in}
 use Rattle.regalloc2_checker_sets.specs.Held.{AreBelow, AreStill}
 use Rattle.regalloc2_checker_sets.specs.Homes.{AreMoreHomes}
 use Rattle.regalloc2_checker_sets.proofs.Bits.{other-times, same-times}
@@ -195,38 +195,17 @@ pub dropped-few : (old mid : ℕ → ℕ → Bool) (home : HomePlaces) (bits siz
 dropped-few old mid home bits size lacks h =
     dropped-all old mid mid home bits size h (λ i y l. sym (ap (λ b. if b && nat_eq y bits then false else mid i y) (lacks i)))
 
--- dropped at the next of listed places
-pub dropped-next : (old mid new : ℕ → ℕ → Bool) (places : List ℕ) (k place bits size : ℕ) → k < length places → place ≡ get_or places k 0 →
-    ((i y : ℕ) → i < size → mid i y ≡ (if nat_lt 0 (times_listed (take k places) i) && nat_eq y bits then false else old i y)) →
-    ((i y : ℕ) → i < size → new i y ≡ (if nat_eq i place && nat_eq y bits then false else mid i y)) → (i y : ℕ) → i < size →
-    new i y ≡ (if nat_lt 0 (times_listed (take (k + 1) places) i) && nat_eq y bits then false else old i y)
-dropped-next old mid new places k place bits size less e h g i y l =
-    dropped-more old mid new (take k places) place bits size h g i y l
-    ∙ ap (λ (xs : List ℕ). if nat_lt 0 (times_listed xs i) && nat_eq y bits then false else old i y)
-    (sym (take_more places k 0 less ∙ ap (λ n. take k places ++ n ∷ []) (sym e)))
-
--- dropped at each place that holds something, and so at all
-pub dropped-filled : (old new : ℕ → ℕ → Bool) (places : List ℕ) (bits size : ℕ) →
-    ((i : ℕ) → i < size → ((y : ℕ) → old i y ≡ false) ⊎ (0 < times_listed places i)) →
-    ((i y : ℕ) → i < size → new i y ≡ (if nat_lt 0 (times_listed places i) && nat_eq y bits then false else old i y)) → (i y : ℕ) → i < size →
-    new i y ≡ (if nat_eq y bits then false else old i y)
-dropped-filled old new places bits size filled h i y l = elim (filled i l) [
-  | inl z ↦ h i y l ∙ either (nat_lt 0 (times_listed places i)) (nat_eq y bits) (old i y) (z y)
-  | inr c ↦ h i y l ∙ ap (λ b. if b && nat_eq y bits then false else old i y) (below 0 _ c)
-]
-  where
-    either : (a b o : Bool) → o ≡ false → (if a && b then false else o) ≡ (if b then false else o)
-    either true b o q = refl
-    either false true o q = q
-    either false false o q = refl
-
 -- homes (the places where a vreg may be) that stay are still there
 pub homes-same : (homes : List HomePlaces) → AreMoreHomes homes homes
-homes-same homes = record { long = refl; kept = λ j i e. e }
+homes-same homes = record { long = refl; kept = λ j i e. e; saved = λ j i e. e }
 
 -- homes that stay over two steps stay over both
 pub homes-then : (a b c : List HomePlaces) → AreMoreHomes a b → AreMoreHomes b c → AreMoreHomes a c
-homes-then a b c h g = record { long = g.long ∙ h.long; kept = λ j i e. g.kept j i (h.kept j i e) }
+homes-then a b c h g = record {
+  long = g.long ∙ h.long;
+  kept = λ j i e. g.kept j i (h.kept j i e);
+  saved = λ j i e. g.saved j i (h.saved j i e);
+}
 
 -- with a place in a vreg's homes, it is one where the vreg may be
 pub home-at : (vregs : List ℕ) (homes : List HomePlaces) (j place bits : ℕ) → IsStrictlyIncreasing vregs → j < length vregs → get_or vregs j 0 ≡ bits →
@@ -239,6 +218,11 @@ home-at vregs homes j place bits rises less is here k lk e =
 pub home-kept : (vregs : List ℕ) (old new : List HomePlaces) (place bits : ℕ) → AreMoreHomes old new → IsHome vregs old place bits →
     IsHome vregs new place bits
 home-kept vregs old new place bits m h j less e = m.kept j place (h j less e)
+
+-- a place where a saved table may hold a vreg is one still as homes are added
+pub saved-home-kept : (vregs : List ℕ) (old new : List HomePlaces) (place bits : ℕ) → AreMoreHomes old new → IsSavedHome vregs old place bits →
+    IsSavedHome vregs new place bits
+saved-home-kept vregs old new place bits m h j less e = m.saved j place (h j less e)
 
 -- one member more is noted
 pub noted-more : (vregs : List ℕ) (old new : List HomePlaces) (members : List ℕ) (k place x : ℕ) → k < length members → x ≡ get_or members k 0 →

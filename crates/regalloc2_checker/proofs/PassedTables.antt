@@ -12,7 +12,7 @@ use Rattle.regalloc2_checker_sets.specs.EntrySets.{is_member, taken_from, AreMor
 use Rattle.regalloc2_checker_sets.specs.Homes.{HomePlaces, AreMoreHomes}
 use Rattle.regalloc2_checker_sets.specs.PassedSets.{ArePassed}
 use Rattle.regalloc2_checker_sets.specs.SavedNumbers.{NumberCopies, saved_number, number_now, AreWrittenTo}
-use Rattle.regalloc2_checker.specs.Holding.{Holding, holds_now, IsHome, AreEntries, IsSoundHolding, AreKeptTables, HoldsNow}
+use Rattle.regalloc2_checker.specs.Holding.{Holding, holds_now, IsHome, IsSavedHome, AreEntries, IsSoundHolding, AreKeptTables, HoldsNow}
 use Rattle.regalloc2_checker.specs.Renamed.{facts_renamed}
 use Rattle.regalloc2_checker.specs.Showing.{Showing, showing, read_as, shows_now, ShowsNow}
 use Rattle.regalloc2_checker.specs.TableFacts.{is_packed, is_packed_vreg, place_in, facts_in, facts_now}
@@ -20,7 +20,7 @@ use Rattle.regalloc2_checker.specs.declared.passing.Passed.{Passed}
 use Rattle.regalloc2_checker.proofs.Holders.{home-kept}
 use Rattle.regalloc2_checker.proofs.RestOfList.{AreRenamedTo, renamed_none, renamed_more, renamed_all}
 use Rattle.regalloc2_checker.proofs.Shown.{IsBare, now-shown, read-none}
-use Rattle.regalloc2_checker.proofs.TableLaws.{IsChanged, entries-as, more-all}
+use Rattle.regalloc2_checker.proofs.TableLaws.{IsChanged, entries-as, entries-within, more-all}
 use Rattle.regalloc2_checker.proofs.TableSteps.{facts-at, unlisted-holds, vreg-bits, now-as}
 
 -- bits that are no parameter's stay
@@ -54,24 +54,26 @@ module _ (t : Holding) (s : List NumberSet) (h : List HomePlaces) (f : NumberCop
   within : (i : ℕ) → i < length f.cells → i < length t.entries.cells
   within i l = let e = w.long in omega (arith, l, e)
 
-  stays-home : (i y : ℕ) → i < length t.entries.cells → holds_now t i y ≡ true → IsHome t.vregs h i y
+  stays-home : (i y : ℕ) → i < length t.places → holds_now t i y ≡ true → IsHome t.vregs h i y
   stays-home i y l is = home-kept t.vregs t.homes h i y k (a.now.homed i y l is)
 
+  listed : (i : ℕ) → i < length t.places → i < length t.entries.cells
+  listed i l = omega (arith, l, a.long)
+
   -- what a place gets may be there
-  homed : (i y : ℕ) → i < length t.entries.cells → is_member s (get_or numbers i 0) y ≡ true → IsHome t.vregs h i y
+  homed : (i y : ℕ) → i < length t.places → is_member s (get_or numbers i 0) y ≡ true → IsHome t.vregs h i y
   homed i y l is = by (has_number changed i) refl (taken-or-param params arguments count y)
     where
       had : holds_now t i (taken_from params arguments count y) ≡ true
-      had = sym ((p.are i l).members y) ∙ is
+      had = sym ((p.are i (listed i l)).members y) ∙ is
 
       by : (b : Bool) → has_number changed i ≡ b → (taken_from params arguments count y ≡ y) ⊎ ((j : ℕ) × (j < count) × (get_or params j 0 ≡ y)) →
           IsHome t.vregs h i y
       by b e (inl stays) = stays-home i y l (ap (holds_now t i) (sym stays) ∙ had)
       by true e (inr (j, less, at)) = subst (λ (z : ℕ). IsHome t.vregs h i z) at (noted j i (omega (arith, less, few)) e)
       by false e (inr at) =
-          let long = p.long in
-          let now : get_or numbers i 0 ≡ number_now t.entries i = same i (omega (arith, l, long)) e in
-          stays-home i y l (sym (m.kept (number_now t.entries i) y (a.now.below i l)) ∙ ap (λ n. is_member s n y) (sym now) ∙ is)
+          let now : get_or numbers i 0 ≡ number_now t.entries i = same i (omega (arith, listed i l, p.long)) e in
+          stays-home i y l (sym (m.kept (number_now t.entries i) y (a.now.below i (listed i l))) ∙ ap (λ n. is_member s n y) (sym now) ∙ is)
 
   -- each place has what the arguments had
   pub passed-all : IsChanged t (record t { entries = f; sets = s; homes = h }) (λ i y. holds_now t i (taken_from params arguments count y))
@@ -85,10 +87,11 @@ module _ (t : Holding) (s : List NumberSet) (h : List HomePlaces) (f : NumberCop
       homes_long = one.tables.homes_long;
       now = record {
         below = λ i l. subst (λ (x : ℕ). x < length s) (sym (number i (within i l))) (p.are i (within i l)).below;
-        homed = λ i y l is. homed i y (within i l) (ap (λ n. is_member s n y) (sym (number i (within i l))) ∙ is);
+        homed = λ i y l is. homed i y l (ap (λ n. is_member s n y) (sym (number i (listed i l))) ∙ is);
       };
-      tables = λ n. subst (λ (c : ℕ). AreEntries s t.vregs h c (saved_number f n)) (sym w.long)
-          (entries-as s t.vregs h (length t.entries.cells) (saved_number t.entries n) (saved_number f n) (λ i l. w.saved n i) (one.tables.tables n));
+      tables = λ n. subst (λ (c : ℕ). AreEntries s (IsSavedHome t.vregs h) c (length t.places) (saved_number f n)) (sym w.long)
+          (entries-as s (IsSavedHome t.vregs h) (length t.entries.cells) (length t.places) (saved_number t.entries n) (saved_number f n)
+          (entries-within t a) (λ i l. w.saved n i) (one.tables.tables n));
     };
     kept = record {
       places = refl;

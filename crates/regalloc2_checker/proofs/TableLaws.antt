@@ -1,5 +1,5 @@
 -- What a change of the parts of tables does to what they hold.
-use Rattle.std.proofs.Common.{inl, inr, ℕ, zero, suc, ◌≡◌, ◌+◌, ◌*◌, ◌/◌, ◌<◌, arith, Bool, true, false}
+use Rattle.std.proofs.Common.{inl, inr, ℕ, zero, suc, ◌≡◌, ◌+◌, ◌*◌, ◌/◌, ◌<◌, ◌≤◌, arith, Bool, true, false}
 use Rattle.std.proofs.Common.{nat_eq, nat_lt, eq-eqb, List, [], ◌∷◌, ◌++◌, length, get_or, take, refl, sym, ap, ◌∙◌, subst}
 use Rattle.std.specs.Prelude.{◌&&◌, ◌||◌, if◌then◌else◌, slice_set, Result, Ok, Err, OnOk, OnErr}
 use Rattle.std.specs.declared.alloc.AllocError.{AllocError}
@@ -9,37 +9,36 @@ use Rattle.std.proofs.lemmas.List.{get_or-set_other, get_or-set_same, length-set
 use Rattle.regalloc2_function.specs.Numbers.{NumberSet, times_listed}
 use Rattle.regalloc2_checker_sets.specs.SavedNumbers.{NumberCopies, copy_count, saved_number, number_now}
 use Rattle.regalloc2_checker_sets.specs.EntrySets.{is_member, AreMore, IsSetOf, ListsBits}
-use Rattle.regalloc2_checker_sets.specs.Homes.{HomePlaces, no_homes, has_home}
-use Rattle.regalloc2_checker.specs.Holding.{Holding, holds_now, holds_in, IsHome, AreEntries}
+use Rattle.regalloc2_checker_sets.specs.Homes.{HomePlaces, no_homes, has_home, has_saved}
+use Rattle.regalloc2_checker.specs.Holding.{Holding, holds_now, holds_in, IsHome, IsSavedHome, AreEntries}
 use Rattle.regalloc2_checker_sets.specs.Held.{held}
 use Rattle.regalloc2_checker.specs.Holding.{IsSoundHolding, AreKeptTables, HoldsNow, is_in}
 use Rattle.regalloc2_checker_sets.specs.Held.{AreStill}
 use Rattle.regalloc2_checker_sets.specs.Homes.{AreMoreHomes}
-use Rattle.regalloc2_checker.proofs.Holders.{homes-same, home-kept, is_in-more}
+use Rattle.regalloc2_checker.proofs.Holders.{homes-same, home-kept, saved-home-kept, is_in-more}
+use Rattle.regalloc2_checker_sets.proofs.HomeLaws.{saved-is-home}
 
--- sets and homes (the places where a vreg may be) are added
-pub entries-more : (s t : List NumberSet) (v : List ℕ) (h g : List HomePlaces) (n : ℕ) (f : ℕ → ℕ) → AreMore s t → AreMoreHomes h g → AreEntries s v h n f →
-    AreEntries t v g n f
-entries-more s t v h g n f m k e =
-    let longer = m.longer in
-    record {
-      below = λ i l. (let b = e.below i l in omega arith);
-      homed = λ i y l is j lj d. k.kept j i (e.homed i y l (sym (m.kept (f i) y (e.below i l)) ∙ is) j lj d);
-    }
+-- sets are added, and the places where their members may be
+pub entries-more : (s t : List NumberSet) (P Q : ℕ → ℕ → Type 0) (n count : ℕ) (f : ℕ → ℕ) → count ≤ n → AreMore s t → ((i y : ℕ) → P i y → Q i y) →
+    AreEntries s P n count f → AreEntries t Q n count f
+entries-more s t P Q n count f within m k e = record {
+  below = λ i l. omega (arith, e.below i l, m.longer);
+  homed = λ i y l is. k i y (e.homed i y l (sym (m.kept (f i) y (e.below i (omega (arith, l, within)))) ∙ is));
+}
 
 -- equal numbers
-pub entries-as : (s : List NumberSet) (v : List ℕ) (h : List HomePlaces) (n : ℕ) (f g : ℕ → ℕ) → ((i : ℕ) → i < n → g i ≡ f i) → AreEntries s v h n f →
-    AreEntries s v h n g
-entries-as s v h n f g q e = record {
+pub entries-as : (s : List NumberSet) (P : ℕ → ℕ → Type 0) (n count : ℕ) (f g : ℕ → ℕ) → count ≤ n → ((i : ℕ) → i < n → g i ≡ f i) →
+    AreEntries s P n count f → AreEntries s P n count g
+entries-as s P n count f g within q e = record {
   below = λ i l. subst (λ (x : ℕ). x < length s) (sym (q i l)) (e.below i l);
-  homed = λ i y l is. e.homed i y l (ap (λ x. is_member s x y) (sym (q i l)) ∙ is);
+  homed = λ i y l is. e.homed i y l (ap (λ x. is_member s x y) (sym (q i (omega (arith, l, within)))) ∙ is);
 }
 
 -- one number is written
-pub entries-set : (s : List NumberSet) (v : List ℕ) (h : List HomePlaces) (n : ℕ) (f g : ℕ → ℕ) (place set : ℕ) → set < length s →
-    ((i : ℕ) → (i ≡ place → ⊥) → g i ≡ f i) → g place ≡ set → ((y : ℕ) → is_member s set y ≡ true → IsHome v h place y) → AreEntries s v h n f →
-    AreEntries s v h n g
-entries-set s v h n f g place set small q here home e = record { below = low; homed = at }
+pub entries-set : (s : List NumberSet) (P : ℕ → ℕ → Type 0) (n count : ℕ) (f g : ℕ → ℕ) (place set : ℕ) → set < length s →
+    ((i : ℕ) → (i ≡ place → ⊥) → g i ≡ f i) → g place ≡ set → ((y : ℕ) → is_member s set y ≡ true → P place y) → AreEntries s P n count f →
+    AreEntries s P n count g
+entries-set s P n count f g place set small q here home e = record { below = low; homed = at }
   where
     low : (i : ℕ) → i < n → g i < length s
     low i l = elim (cases_eq i place) [
@@ -47,11 +46,15 @@ entries-set s v h n f g place set small q here home e = record { below = low; ho
       | inr d ↦ subst (λ (x : ℕ). x < length s) (sym (q i d)) (e.below i l)
     ]
 
-    at : (i y : ℕ) → i < n → is_member s (g i) y ≡ true → IsHome v h i y
+    at : (i y : ℕ) → i < count → is_member s (g i) y ≡ true → P i y
     at i y l is = elim (cases_eq i place) [
-      | inl d ↦ subst (λ (x : ℕ). IsHome v h x y) (sym d) (home y (ap (λ x. is_member s x y) (sym (ap g d ∙ here)) ∙ is))
+      | inl d ↦ subst (λ (x : ℕ). P x y) (sym d) (home y (ap (λ x. is_member s x y) (sym (ap g d ∙ here)) ∙ is))
       | inr d ↦ e.homed i y l (ap (λ x. is_member s x y) (sym (q i d)) ∙ is)
     ]
+
+-- tables have an entry for each place
+pub entries-within : (t : Holding) → IsSoundHolding t → length t.places ≤ length t.entries.cells
+entries-within t a = omega (arith, a.long)
 
 -- what a change of tables keeps
 pub record IsChanged (t u : Holding) (has : ℕ → ℕ → Bool) : Type 0 where
@@ -75,8 +78,10 @@ more-all t s h a m k =
         few = a.few;
         empty = record { below = omega arith; members = λ y. m.kept 0 y first ∙ zero-set.members y };
         homes_long = k.long ∙ a.homes_long;
-        now = entries-more t.sets s t.vregs t.homes h _ (number_now t.entries) m k a.now;
-        tables = λ n. entries-more t.sets s t.vregs t.homes h _ (saved_number t.entries n) m k (a.tables n);
+        now = entries-more t.sets s (IsHome t.vregs t.homes) (IsHome t.vregs h) _ _ (number_now t.entries) (entries-within t a) m
+            (λ i y. home-kept t.vregs t.homes h i y k) a.now;
+        tables = λ n. entries-more t.sets s (IsSavedHome t.vregs t.homes) (IsSavedHome t.vregs h) _ _ (saved_number t.entries n) (entries-within t a) m
+            (λ i y. saved-home-kept t.vregs t.homes h i y k) (a.tables n);
       };
       kept = record {
         places = refl;
@@ -108,12 +113,14 @@ put-one t h place set a less small k home =
         few = a.few;
         empty = a.empty;
         homes_long = k.long ∙ a.homes_long;
-        now = subst (λ (n : ℕ). AreEntries t.sets t.vregs h n (λ i. get_or (slice_set t.entries.cells place set) i 0)) size
-            (entries-set t.sets t.vregs h (length t.entries.cells) (number_now t.entries) (λ i. get_or (slice_set t.entries.cells place set) i 0) place set
-            small
-            other here home (entries-more t.sets t.sets t.vregs t.homes h _ (number_now t.entries) more k a.now));
-        tables = λ n. subst (λ (m : ℕ). AreEntries t.sets t.vregs h m (saved_number t.entries n)) size
-            (entries-more t.sets t.sets t.vregs t.homes h _ (saved_number t.entries n) more k (a.tables n));
+        now = subst (λ (n : ℕ). AreEntries t.sets (IsHome t.vregs h) n (length t.places) (λ i. get_or (slice_set t.entries.cells place set) i 0)) size
+            (entries-set t.sets (IsHome t.vregs h) (length t.entries.cells) (length t.places) (number_now t.entries)
+            (λ i. get_or (slice_set t.entries.cells place set) i 0) place set small other here home
+            (entries-more t.sets t.sets (IsHome t.vregs t.homes) (IsHome t.vregs h) _ _ (number_now t.entries) (entries-within t a) more
+            (λ i y. home-kept t.vregs t.homes h i y k) a.now));
+        tables = λ n. subst (λ (m : ℕ). AreEntries t.sets (IsSavedHome t.vregs h) m (length t.places) (saved_number t.entries n)) size
+            (entries-more t.sets t.sets (IsSavedHome t.vregs t.homes) (IsSavedHome t.vregs h) _ _ (saved_number t.entries n) (entries-within t a) more
+            (λ i y. saved-home-kept t.vregs t.homes h i y k) (a.tables n));
       };
       kept = record { places = refl; vregs = refl; count = refl; tables = λ n i y l. refl };
       now = λ i y l. elim (cases_eq i place) [
@@ -168,11 +175,13 @@ drop-all t s f a k less =
       homes_long = a.homes_long;
       now = record {
         below = k.below;
-        homed = λ i y l is. a.now.homed i y (omega arith) (less i y (omega arith) is);
+        homed = λ i y l is. a.now.homed i y l (less i y (omega (arith, l, long)) is);
       };
-      tables = λ n. subst (λ (m : ℕ). AreEntries s t.vregs t.homes m (saved_number f n)) (sym same)
-          (entries-as s t.vregs t.homes (length t.entries.cells) (saved_number t.entries n) (saved_number f n) (λ i l. k.saved n i)
-          (entries-more t.sets s t.vregs t.homes t.homes _ (saved_number t.entries n) k.more (homes-same t.homes) (a.tables n)));
+      tables = λ n. subst (λ (m : ℕ). AreEntries s (IsSavedHome t.vregs t.homes) m (length t.places) (saved_number f n)) (sym same)
+          (entries-as s (IsSavedHome t.vregs t.homes) (length t.entries.cells) (length t.places) (saved_number t.entries n) (saved_number f n)
+          (entries-within t a) (λ i l. k.saved n i)
+          (entries-more t.sets s (IsSavedHome t.vregs t.homes) (IsSavedHome t.vregs t.homes) _ _ (saved_number t.entries n) (entries-within t a) k.more
+          (λ i y h. h) (a.tables n)));
     }
 
 -- where only the current array changed, the tables are kept
@@ -195,7 +204,7 @@ pub drop-now : (t : Holding) (s : List NumberSet) (f : NumberCopies) (j : ℕ) �
 drop-now t s f j a less h i y l =
     let long = a.long in
     h i y (omega arith) ∙ by (has_home (get_or t.homes j no_homes) i) (nat_eq y (get_or t.vregs j 0)) (holds_now t i y)
-    (λ e is. a.now.homed i y (omega arith) is j less (sym (eqb-true y (get_or t.vregs j 0) e)))
+    (λ e is. a.now.homed i y l is j less (sym (eqb-true y (get_or t.vregs j 0) e)))
   where
     by : (m b o : Bool) → (b ≡ true → o ≡ true → m ≡ true) → (if m && b then false else o) ≡ (if b then false else o)
     by true true o g = refl
@@ -216,13 +225,24 @@ kept_then a b c h g = record {
   tables = λ k i y l. g.tables k i y (subst (λ (ps : List ℕ). i < length ps) (sym h.places) l) ∙ h.tables k i y l;
 }
 
+-- homes that were saved stay
+pub record AreSavedHomesKept (old new : List HomePlaces) : Type 0 where
+  pub long : length new ≡ length old
+  pub saved : (j i : ℕ) → has_saved (get_or old j no_homes) i ≡ true → has_saved (get_or new j no_homes) i ≡ true
+
 -- a table is loaded
-pub load-all : (t : Holding) (f : NumberCopies) (k : ℕ) → IsSoundHolding t → copy_count f ≡ copy_count t.entries →
-    ((n i : ℕ) → saved_number f n i ≡ saved_number t.entries n i) → length f.cells ≡ length t.entries.cells → ((i : ℕ) → i < length f.cells → number_now f i ≡
-    saved_number t.entries k i) →
-    IsChanged t (record t { entries = f }) (holds_in t k)
-load-all t f k a ec same el h =
+pub load-all : (t : Holding) (h : List HomePlaces) (f : NumberCopies) (k : ℕ) → IsSoundHolding t → AreSavedHomesKept t.homes h →
+    copy_count f ≡ copy_count t.entries → ((n i : ℕ) → saved_number f n i ≡ saved_number t.entries n i) → length f.cells ≡ length t.entries.cells →
+    ((i : ℕ) → i < length f.cells → number_now f i ≡ saved_number t.entries k i) → IsChanged t (record t { entries = f; homes = h }) (holds_in t k)
+load-all t h f k a s ec same el now =
     let long = a.long in
+    let more : AreMore t.sets t.sets = record { longer = omega arith; kept = λ n y l. refl } in
+    let in_table : (P : ℕ → ℕ → Type 0) → ((i y : ℕ) → IsSavedHome t.vregs h i y → P i y) → (n : ℕ) (g : ℕ → ℕ) →
+        ((i : ℕ) → i < length t.entries.cells → g i ≡ saved_number t.entries n i) → AreEntries t.sets P (length f.cells) (length t.places) g =
+    λ P at n g q. subst (λ (m : ℕ). AreEntries t.sets P m (length t.places) g) (sym el)
+    (entries-as t.sets P (length t.entries.cells) (length t.places) (saved_number t.entries n) g (entries-within t a) q
+    (entries-more t.sets t.sets (IsSavedHome t.vregs t.homes) P _ _ (saved_number t.entries n) (entries-within t a) more
+    (λ i y home. at i y (λ j less e. s.saved j i (home j less e))) (a.tables n))) in
     record {
       tables = record {
         places_rise = a.places_rise;
@@ -230,25 +250,24 @@ load-all t f k a ec same el h =
         long = omega arith;
         few = a.few;
         empty = a.empty;
-        homes_long = a.homes_long;
-        now = subst (λ (m : ℕ). AreEntries t.sets t.vregs t.homes m (number_now f)) (sym el)
-            (entries-as t.sets t.vregs t.homes (length t.entries.cells) (saved_number t.entries k) (number_now f) (λ i l. h i (omega arith)) (a.tables k));
-        tables = λ n. subst (λ (m : ℕ). AreEntries t.sets t.vregs t.homes m (saved_number f n)) (sym el)
-            (entries-as t.sets t.vregs t.homes (length t.entries.cells) (saved_number t.entries n) (saved_number f n) (λ i l. same n i) (a.tables n));
+        homes_long = s.long ∙ a.homes_long;
+        now = in_table (IsHome t.vregs h) (λ i y home j less e. saved-is-home (get_or h j no_homes) i (home j less e)) k (number_now f)
+            (λ i l. now i (omega (arith, l, el)));
+        tables = λ n. in_table (IsSavedHome t.vregs h) (λ i y home. home) n (saved_number f n) (λ i l. same n i);
       };
       kept = record {
         places = refl;
         vregs = refl;
         count = ec;
-        tables =
-            λ n i y l. ap (λ x. is_member t.sets x y) (same n i);
+        tables = λ n i y l. ap (λ x. is_member t.sets x y) (same n i);
       };
-      now = λ i y l. ap (λ x. is_member t.sets x y) (h i (omega arith));
+      now = λ i y l. ap (λ x. is_member t.sets x y) (now i (omega (arith, l, long, el)));
     }
 
--- saved copies change, each to one of the same kind
+-- each saved copy is as an array that a saved table may have
 pub save-tables : (t : Holding) (f : NumberCopies) → IsSoundHolding t → f.cells ≡ t.entries.cells →
-    ((k : ℕ) → (h : ℕ → ℕ) × AreEntries t.sets t.vregs t.homes (length t.entries.cells) h × ((i : ℕ) → i < length t.entries.cells → saved_number f k i ≡ h i)) →
+    ((k : ℕ) → (h : ℕ → ℕ) × AreEntries t.sets (IsSavedHome t.vregs t.homes) (length t.entries.cells) (length t.places) h
+    × ((i : ℕ) → i < length t.entries.cells → saved_number f k i ≡ h i)) →
     IsSoundHolding (record t { entries = f })
 save-tables t f a ec h =
     let long = a.long in
@@ -260,10 +279,28 @@ save-tables t f a ec h =
       few = a.few;
       empty = a.empty;
       homes_long = a.homes_long;
-      now = subst (λ (c : List ℕ). AreEntries t.sets t.vregs t.homes (length c) (λ i. get_or c i 0)) (sym ec) a.now;
-      tables = λ k. subst (λ (m : ℕ). AreEntries t.sets t.vregs t.homes m (saved_number f k)) (sym el)
-          (entries-as t.sets t.vregs t.homes (length t.entries.cells) (h k).0 (saved_number f k) (h k).2 (h k).1);
+      now = subst (λ (c : List ℕ). AreEntries t.sets (IsHome t.vregs t.homes) (length c) (length t.places) (λ i. get_or c i 0)) (sym ec) a.now;
+      tables = λ k. subst (λ (m : ℕ). AreEntries t.sets (IsSavedHome t.vregs t.homes) m (length t.places) (saved_number f k)) (sym el)
+          (entries-as t.sets (IsSavedHome t.vregs t.homes) (length t.entries.cells) (length t.places) (h k).0 (saved_number f k) (entries-within t a)
+          (h k).2 (h k).1);
     }
+
+-- homes are saved
+pub homes-saved-all : (t : Holding) (h : List HomePlaces) → IsSoundHolding t → length h ≡ length t.homes →
+    ((j i : ℕ) → has_home (get_or t.homes j no_homes) i ≡ true → has_saved (get_or h j no_homes) i ≡ true) → IsSoundHolding (record t { homes = h })
+homes-saved-all t h a long s = (more-all t t.sets h a (record { longer = omega arith; kept = λ n y l. refl }) (record {
+  long = long;
+  kept = λ j i is. saved-is-home (get_or h j no_homes) i (s j i is);
+  saved = λ j i is. s j i (saved-is-home (get_or t.homes j no_homes) i is);
+})).tables
+
+-- where homes are saved, a saved table may have the current array
+pub now-saved : (t : Holding) (h : List HomePlaces) → IsSoundHolding t →
+    ((j i : ℕ) → has_home (get_or t.homes j no_homes) i ≡ true → has_saved (get_or h j no_homes) i ≡ true) →
+    AreEntries t.sets (IsSavedHome t.vregs h) (length t.entries.cells) (length t.places) (number_now t.entries)
+now-saved t h a s =
+    entries-more t.sets t.sets (IsHome t.vregs t.homes) (IsSavedHome t.vregs h) _ _ (number_now t.entries) (entries-within t a)
+    (record { longer = omega arith; kept = λ n y l. refl }) (λ i y home j less e. s j i (home j less e)) a.now
 
 -- the number that the array has for a place is that of a set
 pub get-below : (t : Holding) (from n : ℕ) → IsSoundHolding t → from < length t.places → n ≡ number_now t.entries from → n < length t.sets
@@ -286,7 +323,7 @@ put-home t h place vreg set a less m here members y is = elim (cases_eq y (get_o
   | inr n ↦
       let long = a.long in
       let there : holds_now t place y ≡ true = ap (λ b. b || holds_now t place y) (sym (ne_eqb y (get_or t.vregs vreg 0) n)) ∙ members y is in
-      home-kept t.vregs t.homes h place y m (a.now.homed place y (omega arith) there)
+      home-kept t.vregs t.homes h place y m (a.now.homed place y less there)
 ]
 
 -- a set has the members of an equal test
@@ -306,7 +343,7 @@ holders-are t vreg holders a less h i = elim (cases_lt i (length t.places)) [
   | inl l ↦
       let long = a.long in
       h i ∙ ap (λ b. nat_lt i (length t.places) && b) (by (has_home (get_or t.homes vreg no_homes) i) (holds_now t i (get_or t.vregs vreg 0))
-      (λ is. a.now.homed i (get_or t.vregs vreg 0) (omega arith) is vreg less refl))
+      (λ is. a.now.homed i (get_or t.vregs vreg 0) l is vreg less refl))
   | inr g ↦
       h i ∙ ap (λ b. b && (has_home (get_or t.homes vreg no_homes) i && holds_now t i (get_or t.vregs vreg 0))) (le-ltb i (length t.places) g)
       ∙ sym (ap (λ b. b && holds_now t i (get_or t.vregs vreg 0)) (le-ltb i (length t.places) g))
@@ -416,19 +453,33 @@ is_in-at (x ∷ xs) (suc k) l = ap (λ b. nat_eq x (get_or xs k 0) || b) (is_in-
     or-true true = refl
     or-true false = refl
 
--- a saved copy gets the current array, or stays
-pub save-all : (t : Holding) (f : NumberCopies) (k : ℕ) (r : Result (Unit {0}) AllocError) → IsSoundHolding t → f.cells ≡ t.entries.cells →
+-- a saved copy gets the current array, which a saved table may have, or stays
+pub save-all : (t : Holding) (f : NumberCopies) (k : ℕ) (r : Result (Unit {0}) AllocError) → IsSoundHolding t →
+    AreEntries t.sets (IsSavedHome t.vregs t.homes) (length t.entries.cells) (length t.places) (number_now t.entries) → f.cells ≡ t.entries.cells →
     ((n i : ℕ) → (n ≡ k → ⊥) → i < length t.entries.cells → saved_number f n i ≡ saved_number t.entries n i) →
     OnOk r ((i : ℕ) → i < length t.entries.cells → saved_number f k i ≡ number_now t.entries i) →
     OnErr r ((i : ℕ) → i < length t.entries.cells → saved_number f k i ≡ saved_number t.entries k i) → IsSoundHolding (record t { entries = f })
-save-all t f k (Ok x) a ec others ok err = save-tables t f a ec (λ n. elim (cases_eq n k) [
-  | inl e ↦ (number_now t.entries, a.now, λ i l. ap (λ m. saved_number f m i) e ∙ ok i l)
+save-all t f k (Ok x) a now ec others ok err = save-tables t f a ec (λ n. elim (cases_eq n k) [
+  | inl e ↦ (number_now t.entries, now, λ i l. ap (λ m. saved_number f m i) e ∙ ok i l)
   | inr d ↦ (saved_number t.entries n, a.tables n, λ i l. others n i d l)
 ])
-save-all t f k (Err x) a ec others ok err = save-tables t f a ec (λ n. elim (cases_eq n k) [
+save-all t f k (Err x) a now ec others ok err = save-tables t f a ec (λ n. elim (cases_eq n k) [
   | inl e ↦ (saved_number t.entries k, a.tables k, λ i l. ap (λ m. saved_number f m i) e ∙ err i l)
   | inr d ↦ (saved_number t.entries n, a.tables n, λ i l. others n i d l)
 ])
+
+-- what is left of a saved table is where a saved table may hold it
+pub met-saved : (t : Holding) (s : List NumberSet) (f : NumberCopies) (k : ℕ) → IsSoundHolding t → AreStill t.sets t.entries s f →
+    ((i y : ℕ) → i < length t.places → held s f i y ≡ (holds_in t k i y && holds_now t i y)) →
+    AreEntries s (IsSavedHome t.vregs t.homes) (length f.cells) (length t.places) (number_now f)
+met-saved t s f k a st met = record {
+  below = st.below;
+  homed = λ i y l is. (a.tables k).homed i y l (and_left (holds_in t k i y) (holds_now t i y) (sym (met i y l) ∙ is));
+}
+  where
+    and_left : (b c : Bool) → (b && c) ≡ true → b ≡ true
+    and_left true c e = refl
+    and_left false c e = e
 
 -- a saved table holds what the current table held, and the others what they held
 pub save-in : (t : Holding) (f : NumberCopies) (k : ℕ) → IsSoundHolding t →
@@ -489,16 +540,16 @@ new-all places vregs e s h pr vr long few empty hl cells saved = record {
   few = few;
   empty = empty;
   homes_long = hl;
-  now = zeros (number_now e) cells;
-  tables = λ k. zeros (saved_number e k) (saved k);
+  now = zeros (IsHome vregs h) (number_now e) cells;
+  tables = λ k. zeros (IsSavedHome vregs h) (saved_number e k) (saved k);
 }
   where
     true-false : (b : Bool) → b ≡ true → b ≡ false → ⊥
     true-false true h g = absurd cc
     true-false false h g = absurd cc
 
-    zeros : (f : ℕ → ℕ) → ((i : ℕ) → f i ≡ 0) → AreEntries s vregs h (length e.cells) f
-    zeros f z = record {
+    zeros : (P : ℕ → ℕ → Type 0) (f : ℕ → ℕ) → ((i : ℕ) → f i ≡ 0) → AreEntries s P (length e.cells) (length places) f
+    zeros P f z = record {
       below = λ i l. subst (λ (x : ℕ). x < length s) (sym (z i)) empty.below;
       homed = λ i y l is. absurd (true-false (is_member s (f i) y) is (ap (λ x. is_member s x y) (z i) ∙ empty.members y));
     }

@@ -21,11 +21,11 @@ members-sound t s f a h = record {
   homes_long = a.homes_long;
   now = record {
     below = h.below.now;
-    homed = λ i y l is. a.now.homed i y (omega (arith, l, h.long)) (sym (h.now i y (omega (arith, l, h.long))) ∙ is);
+    homed = λ i y l is. a.now.homed i y l (sym (h.now i y (omega (arith, l, a.long))) ∙ is);
   };
   tables = λ k. record {
     below = h.below.tables k;
-    homed = λ i y l is. (a.tables k).homed i y (omega (arith, l, h.long)) (sym (h.tables k i y (omega (arith, l, h.long))) ∙ is);
+    homed = λ i y l is. (a.tables k).homed i y l (sym (h.tables k i y (omega (arith, l, a.long))) ∙ is);
   };
 }
 

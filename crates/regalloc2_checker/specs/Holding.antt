@@ -3,7 +3,7 @@ use Rattle.std.specs.Prelude.{ℕ, ◌≡◌, ◌+◌, ◌*◌, ◌/◌, ◌<◌
 use Rattle.std.specs.List.{list_any}
 use Rattle.std.specs.List.Sorted.{IsStrictlyIncreasing}
 use Rattle.regalloc2_function.specs.Numbers.{NumberSet}
-use Rattle.regalloc2_checker_sets.specs.Homes.{HomePlaces, no_homes, has_home}
+use Rattle.regalloc2_checker_sets.specs.Homes.{HomePlaces, no_homes, has_home, has_saved}
 use Rattle.regalloc2_checker_sets.specs.SavedNumbers.{NumberCopies, copy_count, saved_number, number_now}
 use Rattle.regalloc2_checker_sets.specs.EntrySets.{is_member, IsSetOf}
 use Rattle.regalloc2_checker_sets.specs.Held.{held, AreStill}
@@ -32,10 +32,14 @@ holds_in t k i y = is_member t.sets (saved_number t.entries k i) y
 abbrev pub IsHome : List ℕ → List HomePlaces → ℕ → ℕ → Type 0
 IsHome vregs homes i y = (j : ℕ) → j < length vregs → get_or vregs j 0 ≡ y → has_home (get_or homes j no_homes) i ≡ true
 
--- the numbers of an array are of sets, whose members may be there
-pub record AreEntries (sets : List NumberSet) (vregs : List ℕ) (homes : List HomePlaces) (size : ℕ) (number : ℕ → ℕ) : Type 0 where
+-- a place is one where a saved table may hold the vreg with bits
+abbrev pub IsSavedHome : List ℕ → List HomePlaces → ℕ → ℕ → Type 0
+IsSavedHome vregs homes i y = (j : ℕ) → j < length vregs → get_or vregs j 0 ≡ y → has_saved (get_or homes j no_homes) i ≡ true
+
+-- the numbers of an array are of sets; at the first `count` places the members of these may be
+pub record AreEntries (sets : List NumberSet) (IsAt : ℕ → ℕ → Type 0) (size count : ℕ) (number : ℕ → ℕ) : Type 0 where
   pub below : (i : ℕ) → i < size → number i < length sets
-  pub homed : (i y : ℕ) → i < size → is_member sets (number i) y ≡ true → IsHome vregs homes i y
+  pub homed : (i y : ℕ) → i < count → is_member sets (number i) y ≡ true → IsAt i y
 
 -- what stays true of tables: each has an entry for each place, and fills its last chunk of 64 entries with at least one more
 pub record IsSoundHolding (t : Holding) : Type 0 where
@@ -45,8 +49,8 @@ pub record IsSoundHolding (t : Holding) : Type 0 where
   pub few : length t.places < 274877906944
   pub empty : IsSetOf t.sets 0 (λ y. false)
   pub homes_long : length t.homes ≡ length t.vregs
-  pub now : AreEntries t.sets t.vregs t.homes (length t.entries.cells) (number_now t.entries)
-  pub tables : (k : ℕ) → AreEntries t.sets t.vregs t.homes (length t.entries.cells) (saved_number t.entries k)
+  pub now : AreEntries t.sets (IsHome t.vregs t.homes) (length t.entries.cells) (length t.places) (number_now t.entries)
+  pub tables : (k : ℕ) → AreEntries t.sets (IsSavedHome t.vregs t.homes) (length t.entries.cells) (length t.places) (saved_number t.entries k)
 
 -- whether a number is in a list
 abbrev pub is_in : List ℕ → ℕ → Bool

@@ -31,9 +31,6 @@ use regalloc2_names::{Allocation, VReg};
 use std::alloc::{AllocError, Allocator};
 use std::marker::Model;
 
-/// How many homes of a vreg, the places where it may be, are many.
-const MANY_HOMES: usize = 64;
-
 /// Tables of which vregs places hold, by number, and the current table.
 ///
 /// Places and vregs are listed once, and named by their positions there. Each table has one set of the bits of vregs for
@@ -116,43 +113,6 @@ fn drop_members<A: Allocator + Copy>(
         drop_at(entries, sets, place, bits)?;
     }
     Ok(())
-}
-
-/// Takes the vreg of `bits` out of each of the listed `places`.
-fn drop_listed<A: Allocator + Copy>(
-    entries: &mut Entries<A>,
-    sets: &mut Sets<A>,
-    places: &[usize],
-    bits: u32,
-) -> Result<(), AllocError>
-    requires { AreBelow sets.old entries.old }
-    ensures still { AreStill sets.old entries.old sets.new entries.new }
-    ensures ok { OnOk result ((i y : ℕ) → i < length entries.old.cells → held sets.new entries.new i y
-        ≡ (if nat_lt 0 (times_listed places.now i) && nat_eq y bits then false else held sets.old entries.old i y)) }
-    ensures err { OnErr result ((i y : ℕ) → i < length entries.old.cells → held sets.new entries.new i y ≡ true → held sets.old entries.old i y ≡ true) }
-{
-    for place in places {
-        drop_at(entries, sets, *place, bits)?;
-    }
-    Ok(())
-}
-
-/// Takes the vreg of `bits` out of every place. Visits only the places that hold something.
-fn drop_filled<A: Allocator + Copy>(
-    alloc: A,
-    entries: &mut Entries<A>,
-    sets: &mut Sets<A>,
-    bits: u32,
-) -> Result<(), AllocError>
-    requires below { AreBelow sets.old entries.old }
-    requires empty { IsSetOf sets.old 0 (λ y. false) }
-    ensures still { AreStill sets.old entries.old sets.new entries.new }
-    ensures ok { OnOk result ((i y : ℕ) → i < length entries.old.cells → held sets.new entries.new i y
-        ≡ (if nat_eq y bits then false else held sets.old entries.old i y)) }
-    ensures err { OnErr result ((i y : ℕ) → i < length entries.old.cells → held sets.new entries.new i y ≡ true → held sets.old entries.old i y ≡ true) }
-{
-    let places = entries.filled_positions(alloc)?;
-    drop_listed(entries, sets, &places, bits)
 }
 
 /// Takes the vreg of `bits` out of the places of `home`, where it may be.
@@ -556,34 +516,6 @@ impl<A: Allocator + Copy> Tables<A> {
         Ok(())
     }
 
-    /// Returns whether `vreg` may be in many places, and in more than there are in the chunks that aren't stored as
-    /// zeros.
-    #[inline(always)]
-    fn has_many_homes(&self, vreg: usize) -> bool
-        requires { vreg < length self.now.vregs }
-    {
-        let count = self.homes.at(vreg).other_count();
-        if count < MANY_HOMES {
-            return false;
-        }
-        // Counting the chunks would take longer.
-        if count < self.entries.len() / 1024 {
-            return false;
-        }
-        self.entries.filled_count() <= count / 64
-    }
-
-    /// Takes `vreg` out of every place. Visits only the places that hold something.
-    #[inline(never)]
-    fn forget_filled(&mut self, vreg: usize) -> Result<(), AllocError>
-        requires { vreg < length self.old.vregs }
-        ensures kept { AreKeptTables self.old self.new }
-        ensures now { OnOk result (HoldsNow self.new (λ i y. if nat_eq y (get_or self.old.vregs vreg 0) then false else holds_now self.old i y)) }
-    {
-        let bits = self.vregs.number(vreg);
-        drop_filled(self.alloc, &mut self.entries, &mut self.sets, bits)
-    }
-
     /// Takes `vreg` out of every place.
     #[inline(always)]
     pub fn forget(&mut self, vreg: usize) -> Result<(), AllocError>
@@ -591,9 +523,6 @@ impl<A: Allocator + Copy> Tables<A> {
         ensures kept { AreKeptTables self.old self.new }
         ensures now { OnOk result (HoldsNow self.new (λ i y. if nat_eq y (get_or self.old.vregs vreg 0) then false else holds_now self.old i y)) }
     {
-        if self.has_many_homes(vreg) {
-            return self.forget_filled(vreg);
-        }
         let bits = self.vregs.number(vreg);
         drop_everywhere(
             &mut self.entries,
@@ -753,6 +682,7 @@ impl<A: Allocator + Copy> Tables<A> {
         ensures kept { AreKeptTables self.old self.new }
         ensures now { HoldsNow self.new (holds_in self.old table) }
     {
+        self.homes.drop_added();
         self.entries.load(table);
     }
 
@@ -766,6 +696,7 @@ impl<A: Allocator + Copy> Tables<A> {
         ensures tables { OnOk result ((k i y : ℕ) → i < length self.old.places → holds_in self.new k i y
             ≡ (if nat_eq k table then holds_now self.old i y else holds_in self.old k i y)) }
     {
+        self.homes.save_added();
         self.entries.save(table)
     }
 

@@ -5,10 +5,11 @@ ghost use Rattle.std.specs.Prelude.{OnOk, OnErr, IfOk, IfSome, IfNone, IsTrue};
 ghost use Rattle.std.specs.Iterator.{YieldsFirst, item_count};
 ghost use Rattle.std.specs.Option.{option_map};
 ghost use Rattle.regalloc2_function.specs.Numbers.{has_number, times_listed};
-ghost use Rattle.regalloc2_checker_sets.specs.Homes.{no_more, no_homes, more_in, home_of, place_list, is_first, has_more, has_few, has_home, set_in};
+ghost use Rattle.regalloc2_checker_sets.specs.Homes.{no_more, no_homes, more_in, home_of, place_list, is_first, has_few, has_home, has_saved};
 ghost use Rattle.regalloc2_checker_sets.specs.Homes.{IsMoreHome, AreMorePlaces};
 ghost use Rattle.regalloc2_checker_sets.specs.Homes.{AreMoreHomes};
 
+use crate::more_places::{More, MoreList};
 use regalloc2_function::indexset::{IndexSet, SetBitsIter};
 use std::alloc::{AllocError, Allocator};
 use std::marker::Model;
@@ -28,44 +29,13 @@ fn take_place(number: &mut u32) -> Option<usize>
     }
 }
 
-/// The remaining places that numbers stand for; a contract sees them as a list.
-#[derive(Drop)]
-struct NumbersIter<'a>(&'a [u32]);
-
-impl<'a> Model for NumbersIter<'a> {
-    ghost use Rattle.std.specs.Prelude.{List, ℕ};
-    ghost use Rattle.regalloc2_checker_sets.specs.Homes.{places_list};
-
-    ghost Value = { List ℕ };
-
-    ghost view = { λ it. places_list it.0.now };
-}
-
-impl<'a> Iterator for NumbersIter<'a> {
-    type Item = usize;
-
-    ghost next_gives = { YieldsFirst (λ left. left) };
-
-    ghost remaining = { item_count (λ left. left) };
-
-    fn next(&mut self) -> Option<usize> {
-        while let Some((number, rest)) = self.0.split_first() {
-            self.0 = rest;
-            if *number != 0 {
-                return Some(*number as usize);
-            }
-        }
-        None
-    }
-}
-
 /// The remaining places of a home's mask and of its numbers; a contract sees them as a list.
 #[derive(Drop)]
 pub struct FewPlacesIter<'a> {
     low: SetBitsIter,
     first: u32,
     second: u32,
-    more: NumbersIter<'a>,
+    more: &'a [u32],
 }
 
 impl<'a> Model for FewPlacesIter<'a> {
@@ -74,7 +44,7 @@ impl<'a> Model for FewPlacesIter<'a> {
 
     ghost Value = { List ℕ };
 
-    ghost view = { λ it. it.low ++ (place_list it.first ++ (place_list it.second ++ it.more)) };
+    ghost view = { λ it. it.low ++ (place_list it.first ++ (place_list it.second ++ it.more.now)) };
 }
 
 impl<'a> Iterator for FewPlacesIter<'a> {
@@ -94,68 +64,10 @@ impl<'a> Iterator for FewPlacesIter<'a> {
         if let Some(place) = take_place(&mut self.second) {
             return Some(place);
         }
-        self.more.next()
+        let (number, rest) = self.more.split_first()?;
+        self.more = rest;
+        Some(*number as usize)
     }
-}
-
-/// Returns the set, if there is one.
-fn set_of<A: Allocator + Copy>(others: &Option<Box<IndexSet<A>, A>>) -> Option<&IndexSet<A>>
-    ensures some { IfSome result (λ set. set.now ≡ set_in (option_map (λ b. b.value) others.now)) }
-    ensures none { IfNone result ((i : ℕ) → has_number (set_in (option_map (λ b. b.value) others.now)) i ≡ false) }
-{
-    match others {
-        Some(set) => Some(set.as_ref()),
-        None => None,
-    }
-}
-
-/// Adds `place` to the set, which is made if there is none yet.
-fn add_other<A: Allocator + Copy>(
-    alloc: A,
-    others: &mut Option<Box<IndexSet<A>, A>>,
-    place: usize,
-) -> Result<(), AllocError>
-    requires { place < 2 ^ 38 }
-    ensures ok { OnOk result ((i : ℕ) → has_number (set_in (option_map (λ b. b.value) others.new)) i
-        ≡ cond (nat_eq i place) true (has_number (set_in (option_map (λ b. b.value) others.old)) i)) }
-    ensures err { OnErr result ((i : ℕ) → has_number (set_in (option_map (λ b. b.value) others.new)) i ≡ has_number (set_in (option_map (λ b. b.value) others.old)) i) }
-{
-    if let Some(set) = others {
-        return set.set(place, true);
-    }
-    let mut set = IndexSet::new(alloc);
-    set.set(place, true)?;
-    *others = Some(Box::new(alloc, set)?);
-    Ok(())
-}
-
-/// Adds `places` to the set, which is made if there is none yet.
-fn add_others<A: Allocator + Copy>(
-    alloc: A,
-    others: &mut Option<Box<IndexSet<A>, A>>,
-    places: &IndexSet<A>,
-) -> Result<(), AllocError>
-    ensures kept { (i : ℕ) → has_number (set_in (option_map (λ b. b.value) others.old)) i ≡ true
-        → has_number (set_in (option_map (λ b. b.value) others.new)) i ≡ true }
-    ensures added { OnOk result ((i : ℕ) → has_number places.now i ≡ true → has_number (set_in (option_map (λ b. b.value) others.new)) i ≡ true) }
-{
-    if let Some(set) = others {
-        let _is_more = set.union_with(places)?;
-        return Ok(());
-    }
-    let mut set = IndexSet::new(alloc);
-    set.assign(places)?;
-    *others = Some(Box::new(alloc, set)?);
-    Ok(())
-}
-
-/// Returns how many places a set has.
-fn count_of<A: Allocator + Copy>(places: &IndexSet<A>) -> usize {
-    let mut count: usize = 0;
-    for _place in places.iter() {
-        count = count.saturating_add(1);
-    }
-    count
 }
 
 /// Returns whether `number` may replace `had`: an equal number, or 0.
@@ -164,93 +76,6 @@ fn is_room_for(had: u32, number: u32) -> bool
     ensures no { result ≡ false → (had ≢ 0) × (had ≢ number) }
 {
     had == 0 || had == number
-}
-
-/// Returns the index of the first of `numbers` that is `number` or 0.
-fn index_for(numbers: &[u32], number: u32) -> Option<usize>
-    ensures some { IfSome result (λ n. (n < length numbers.now) × ((get_or numbers.now n 0 ≡ 0) ⊎ (get_or numbers.now n 0 ≡ number))) }
-    ensures none { IfNone result ((k : ℕ) → k < length numbers.now → (get_or numbers.now k 0 ≢ 0) × (get_or numbers.now k 0 ≢ number)) }
-{
-    for n in 0..numbers.len() {
-        if is_room_for(numbers[n], number) {
-            return Some(n);
-        }
-    }
-    None
-}
-
-/// More places where a vreg may be: six numbers that stand for a place each, or for none if they are 0, and a set of other
-/// places, which is made for the first of them, with how many it has.
-#[derive(Drop)]
-struct More<A: Allocator> {
-    numbers: [u32; 6],
-    others: Option<Box<IndexSet<A>, A>>,
-    count: usize,
-}
-
-impl<A: Allocator> Model for More<A> {
-    ghost use Rattle.std.specs.Option.{option_map};
-    ghost use Rattle.regalloc2_checker_sets.specs.Homes.{MorePlaces, set_in};
-
-    ghost Value = { MorePlaces };
-
-    ghost view = { λ m. record { numbers = m.numbers; others = set_in (option_map (λ b. b.value) m.others) } };
-}
-
-impl<A: Allocator + Copy> More<A> {
-    /// Returns no places. Allocates nothing.
-    fn new() -> Self
-        ensures { (i : ℕ) → has_more result i ≡ false }
-    {
-        More {
-            numbers: [0; 6],
-            others: None,
-            count: 0,
-        }
-    }
-
-    /// Returns how many places the set of other places has once `place` is added.
-    fn count_with(&self, place: usize) -> usize
-        requires { place < 2 ^ 38 }
-    {
-        let Some(set) = set_of(&self.others) else {
-            return 1;
-        };
-        if set.get(place) {
-            return self.count;
-        }
-        self.count.saturating_add(1)
-    }
-
-    /// Adds `place`.
-    fn add(&mut self, alloc: A, place: usize) -> Result<(), AllocError>
-        requires place { place < 2 ^ 38 }
-        requires some { 0 < place }
-        ensures ok { OnOk result ((i : ℕ) → has_more self.new i ≡ cond (nat_eq i place) true (has_more self.old i)) }
-        ensures err { OnErr result ((i : ℕ) → has_more self.new i ≡ has_more self.old i) }
-    {
-        let Ok(number) = u32::try_from(place) else {
-            return add_other(alloc, &mut self.others, place);
-        };
-        let Some(n) = index_for(&self.numbers, number) else {
-            self.count = self.count_with(place);
-            return add_other(alloc, &mut self.others, place);
-        };
-        self.numbers[n] = number;
-        Ok(())
-    }
-
-    /// Adds `places`.
-    fn add_all(&mut self, alloc: A, places: &IndexSet<A>) -> Result<(), AllocError>
-        ensures kept { (i : ℕ) → has_more self.old i ≡ true → has_more self.new i ≡ true }
-        ensures added { OnOk result ((i : ℕ) → has_number places.now i ≡ true → has_more self.new i ≡ true) }
-    {
-        add_others(alloc, &mut self.others, places)?;
-        if let Some(set) = set_of(&self.others) {
-            self.count = count_of(set);
-        }
-        Ok(())
-    }
 }
 
 /// A home as it is kept: a mask of the places below 32, two numbers that stand for a place each, or for none if they are
@@ -304,21 +129,21 @@ impl Entry {
 
 /// Returns the index of the more places of `entry`, which are made if there are none yet.
 fn index_of<A: Allocator + Copy>(
-    more: &mut Vec<More<A>, A>,
+    more: &mut MoreList<A>,
     entry: &mut Entry,
 ) -> Result<usize, AllocError>
-    ensures others { AreMorePlaces more.old.items more.new.items }
-    ensures kept { IsMoreHome (home_of more.old.items entry.old) (home_of more.new.items entry.new) }
-    ensures at { IfOk result (λ n. (n < length more.new.items) × (entry.new.index ≡ n)) }
+    ensures others { AreMorePlaces more.old more.new }
+    ensures kept { IsMoreHome (home_of more.old entry.old) (home_of more.new entry.new) }
+    ensures at { IfOk result (λ n. (n < length more.new) × (entry.new.index ≡ n)) }
 {
-    if (entry.index as usize) < more.len() {
+    let end = more.len();
+    if (entry.index as usize) < end {
         return Ok(entry.index as usize);
     }
-    let end = more.len();
     let Ok(index) = u32::try_from(end) else {
         return Err(AllocError);
     };
-    more.push(More::new())?;
+    more.push()?;
     entry.index = index;
     Ok(end)
 }
@@ -326,55 +151,39 @@ fn index_of<A: Allocator + Copy>(
 /// Adds `place` to the more places of `entry`.
 #[inline(never)]
 fn add_more<A: Allocator + Copy>(
-    alloc: A,
-    more: &mut Vec<More<A>, A>,
+    more: &mut MoreList<A>,
     entry: &mut Entry,
     place: usize,
 ) -> Result<(), AllocError>
-    requires place { place < 2 ^ 38 }
-    requires some { 0 < place }
-    ensures others { AreMorePlaces more.old.items more.new.items }
-    ensures kept { IsMoreHome (home_of more.old.items entry.old) (home_of more.new.items entry.new) }
-    ensures added { OnOk result (has_home (home_of more.new.items entry.new) place ≡ true) }
+    requires { place < 2 ^ 38 }
+    ensures others { AreMorePlaces more.old more.new }
+    ensures kept { IsMoreHome (home_of more.old entry.old) (home_of more.new entry.new) }
+    ensures added { OnOk result (has_home (home_of more.new entry.new) place ≡ true) }
 {
     let index = index_of(more, entry)?;
-    let places = &mut more[index];
-    places.add(alloc, place)
+    more.add(index, place)
 }
 
 /// Adds `places` to the more places of `entry`.
 fn add_all_more<A: Allocator + Copy>(
-    alloc: A,
-    more: &mut Vec<More<A>, A>,
+    more: &mut MoreList<A>,
     entry: &mut Entry,
     places: &IndexSet<A>,
 ) -> Result<(), AllocError>
-    ensures others { AreMorePlaces more.old.items more.new.items }
-    ensures kept { IsMoreHome (home_of more.old.items entry.old) (home_of more.new.items entry.new) }
-    ensures added { OnOk result ((i : ℕ) → has_number places.now i ≡ true → has_home (home_of more.new.items entry.new) i ≡ true) }
+    ensures others { AreMorePlaces more.old more.new }
+    ensures kept { IsMoreHome (home_of more.old entry.old) (home_of more.new entry.new) }
+    ensures added { OnOk result ((i : ℕ) → has_number places.now i ≡ true → has_home (home_of more.new entry.new) i ≡ true) }
 {
     let index = index_of(more, entry)?;
-    let more_places = &mut more[index];
-    more_places.add_all(alloc, places)
-}
-
-/// Returns the more places at `index`, unless it is past the last.
-#[inline(always)]
-fn more_at<A: Allocator + Copy>(more: &Vec<More<A>, A>, index: usize) -> Option<&More<A>>
-    ensures { more_in (option_map (λ m. m.now) result) ≡ get_or more.now.items index no_more }
-{
-    if index < more.len() {
-        return Some(&more[index]);
-    }
-    None
+    more.add_all(index, places)
 }
 
 /// Returns the numbers of `more`, or none.
-fn numbers_of<A: Allocator>(more: Option<&More<A>>) -> &[u32]
+fn numbers_of<A: Allocator + Copy>(more: Option<&More<A>>) -> &[u32]
     ensures { result.now ≡ (more_in (option_map (λ m. m.now) more.entry)).numbers }
 {
     match more {
-        Some(more) => &more.numbers,
+        Some(more) => more.numbers(),
         None => &[],
     }
 }
@@ -418,14 +227,14 @@ impl<'a, A: Allocator + Copy> Home<'a, A> {
             low: SetBitsIter::new(self.low as u64),
             first: self.first,
             second: self.second,
-            more: NumbersIter(numbers_of(self.more)),
+            more: numbers_of(self.more),
         }
     }
 
     /// Returns how many places are in the set of other places.
     pub fn other_count(&self) -> usize {
         match self.more {
-            Some(more) => more.count,
+            Some(more) => more.other_count(),
             None => 0,
         }
     }
@@ -437,7 +246,7 @@ impl<'a, A: Allocator + Copy> Home<'a, A> {
         ensures none { IfNone result ((i : ℕ) → has_number self.now.more.others i ≡ false) }
     {
         match self.more {
-            Some(more) => set_of(&more.others),
+            Some(more) => more.others(),
             None => None,
         }
     }
@@ -447,8 +256,7 @@ impl<'a, A: Allocator + Copy> Home<'a, A> {
 #[derive(Drop)]
 pub struct Homes<A: Allocator> {
     entries: Vec<Entry, A>,
-    more: Vec<More<A>, A>,
-    alloc: A,
+    more: MoreList<A>,
 }
 
 impl<A: Allocator> Model for Homes<A> {
@@ -457,7 +265,7 @@ impl<A: Allocator> Model for Homes<A> {
 
     ghost Value = { List HomePlaces };
 
-    ghost view = { λ h. map (home_of h.more.items) h.entries.items };
+    ghost view = { λ h. map (home_of h.more) h.entries.items };
 }
 
 impl<A: Allocator + Copy> Homes<A> {
@@ -473,8 +281,7 @@ impl<A: Allocator + Copy> Homes<A> {
         };
         Ok(Homes {
             entries: vec![in alloc; none; count]?,
-            more: Vec::new(alloc),
-            alloc,
+            more: MoreList::new(alloc),
         })
     }
 
@@ -489,7 +296,7 @@ impl<A: Allocator + Copy> Homes<A> {
             low: entry.low,
             first: entry.first,
             second: entry.second,
-            more: more_at(&self.more, entry.index as usize),
+            more: self.more.get(entry.index as usize),
         }
     }
 
@@ -505,8 +312,26 @@ impl<A: Allocator + Copy> Homes<A> {
         if entry.add(place) {
             return Ok(());
         }
-        add_more(self.alloc, &mut self.more, entry, place)
+        add_more(&mut self.more, entry, place)
     }
+
+    /// Saves the places that were added since the last call of `save_added` or `drop_added`.
+    pub fn save_added(&mut self)
+        ensures long { length self.new ≡ length self.old }
+        ensures saved { (j i : ℕ) → has_home (get_or self.old j no_homes) i ≡ true → has_saved (get_or self.new j no_homes) i ≡ true }
+    {
+        self.more.save_added();
+    }
+
+    /// Drops the places that were added since the last call of `save_added` or `drop_added`. A place that is below 32 or one
+    /// of the two numbers stays.
+    pub fn drop_added(&mut self)
+        ensures long { length self.new ≡ length self.old }
+        ensures saved { (j i : ℕ) → has_saved (get_or self.old j no_homes) i ≡ true → has_saved (get_or self.new j no_homes) i ≡ true }
+    {
+        self.more.drop_added();
+    }
+
     /// Adds `places` to the places where `vreg` may be.
     pub fn add_all(&mut self, vreg: usize, places: &IndexSet<A>) -> Result<(), AllocError>
         requires { vreg < length self.old }
@@ -514,6 +339,6 @@ impl<A: Allocator + Copy> Homes<A> {
         ensures noted { OnOk result ((i : ℕ) → has_number places.now i ≡ true → has_home (get_or self.new vreg no_homes) i ≡ true) }
     {
         let entry = &mut self.entries[vreg];
-        add_all_more(self.alloc, &mut self.more, entry, places)
+        add_all_more(&mut self.more, entry, places)
     }
 }

@@ -1,1 +1,0 @@
-use Rattle.regalloc2_checker.proofs.transfer.go_to_late.Goals as goal

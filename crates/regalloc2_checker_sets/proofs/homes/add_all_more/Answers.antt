@@ -1,32 +1,15 @@
-use Rattle.std.proofs.Common.{refl, ap, ◌∙◌}
-use Rattle.std.specs.Prelude.{slice_set}
-use Rattle.regalloc2_checker_sets.specs.Homes.{MorePlaces, no_more, has_more}
-use Rattle.regalloc2_checker_sets.proofs.Bits.{read-is}
-use Rattle.regalloc2_checker_sets.proofs.HomeLists.{places-then, places-put, entry-put}
+use Rattle.regalloc2_checker_sets.specs.Homes.{home_of}
+use Rattle.regalloc2_checker_sets.proofs.HomeLists.{entry-kept, entry-has, home-then}
 use Rattle.regalloc2_checker_sets.proofs.Results.{on_ok_as}
 use Rattle.regalloc2_checker_sets.proofs.homes.add_all_more.Goals as goal
 
-pub returns-clause-others : goal.returns-clause-others
-returns-clause-others g c =
-    let mid = c.index_of.new.more.items in
-    let new = slice_set mid c.in_ok-index.index c.add_all.new.self in
-    let less = c.in_ok-index.ensures.at.0 in
-    let had = read-is mid mid c.in_ok-index.index c.index_mut-more_places.result.now no_more refl less c.index_mut-more_places.ensures.value in
-    places-then c.args.more.now.items mid new c.in_ok-index.ensures.others
-    (places-put mid c.in_ok-index.index c.add_all.new.self less
-    (λ i is. c.add_all.ensures.kept i (ap (λ (m : MorePlaces). has_more m i) had ∙ is)))
-
 pub returns-clause-kept : goal.returns-clause-kept
-returns-clause-kept g c i is =
-    let mid = c.index_of.new.more.items in
-    let less = c.in_ok-index.ensures.at.0 in
-    let had = read-is mid mid c.in_ok-index.index c.index_mut-more_places.result.now no_more refl less c.index_mut-more_places.ensures.value in
-    places-put mid c.in_ok-index.index c.add_all.new.self less
-    (λ j there. c.add_all.ensures.kept j (ap (λ (m : MorePlaces). has_more m j) had ∙ there)) c.index_of.new.entry i (c.in_ok-index.ensures.kept i is)
+returns-clause-kept g c =
+    let entry = c.index_of.new.entry in
+    home-then (home_of c.args.more.now c.args.entry.now) (home_of c.index_of.new.more entry) (home_of c.add_all.new.self entry)
+    c.in_ok-index.ensures.kept (entry-kept c.index_of.new.more c.add_all.new.self entry c.add_all.ensures.more)
 
 pub returns-clause-added : goal.returns-clause-added
 returns-clause-added g c =
-    let mid = c.index_of.new.more.items in
     on_ok_as _ _ c.add_all.result
-    (λ ok i is. entry-put mid c.in_ok-index.index i c.add_all.new.self c.index_of.new.entry c.in_ok-index.ensures.at.0 c.in_ok-index.ensures.at.1 (ok i is))
-    c.add_all.ensures.added
+    (λ ok i is. entry-has c.add_all.new.self c.index_of.new.entry c.in_ok-index.index i c.in_ok-index.ensures.at.1 (ok i is)) c.add_all.ensures.added

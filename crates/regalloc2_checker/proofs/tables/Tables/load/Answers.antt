@@ -12,7 +12,10 @@ invariant_of-self g c =
       sets = c.self.inside.sets;
       homes = c.self.inside.homes;
     } in
-    (load-all old c.load.new.self c.args.table c.self.invariant c.load.ensures.count c.load.ensures.saved c.load.ensures.long c.load.ensures.loaded).tables
+    let all = load-all old c.drop_added.new.self c.load.new.self c.args.table c.self.invariant
+    (record { long = c.drop_added.ensures.long; saved = c.drop_added.ensures.saved }) c.load.ensures.count c.load.ensures.saved c.load.ensures.long
+    c.load.ensures.loaded in
+    all.tables
 
 pub returns-clause-kept : goal.returns-clause-kept
 returns-clause-kept g c =
@@ -23,8 +26,10 @@ returns-clause-kept g c =
       sets = c.self.inside.sets;
       homes = c.self.inside.homes;
     } in
-    subst (λ (o : Holding). AreKeptTables o (record old { entries = c.load.new.self })) c.self.view_is
-    (load-all old c.load.new.self c.args.table c.self.invariant c.load.ensures.count c.load.ensures.saved c.load.ensures.long c.load.ensures.loaded).kept
+    let all = load-all old c.drop_added.new.self c.load.new.self c.args.table c.self.invariant
+    (record { long = c.drop_added.ensures.long; saved = c.drop_added.ensures.saved }) c.load.ensures.count c.load.ensures.saved c.load.ensures.long
+    c.load.ensures.loaded in
+    subst (λ (o : Holding). AreKeptTables o (record old { entries = c.load.new.self; homes = c.drop_added.new.self })) c.self.view_is all.kept
 
 pub returns-clause-now : goal.returns-clause-now
 returns-clause-now g c =
@@ -35,5 +40,8 @@ returns-clause-now g c =
       sets = c.self.inside.sets;
       homes = c.self.inside.homes;
     } in
-    subst (λ (o : Holding). HoldsNow (record old { entries = c.load.new.self }) (holds_in o c.args.table)) c.self.view_is
-    (load-all old c.load.new.self c.args.table c.self.invariant c.load.ensures.count c.load.ensures.saved c.load.ensures.long c.load.ensures.loaded).now
+    let all = load-all old c.drop_added.new.self c.load.new.self c.args.table c.self.invariant
+    (record { long = c.drop_added.ensures.long; saved = c.drop_added.ensures.saved }) c.load.ensures.count c.load.ensures.saved c.load.ensures.long
+    c.load.ensures.loaded in
+    subst (λ (o : Holding). HoldsNow (record old { entries = c.load.new.self; homes = c.drop_added.new.self }) (holds_in o c.args.table)) c.self.view_is
+    all.now

@@ -3,7 +3,7 @@ use Rattle.std.specs.Prelude.{◌&&◌, if◌then◌else◌}
 use Rattle.regalloc2_checker_sets.specs.SavedNumbers.{copy_count}
 use Rattle.regalloc2_checker.specs.Holding.{Holding, holds_now, holds_in, count_of, LosesSome}
 use Rattle.regalloc2_checker.proofs.TableLaws.{drop-all}
-use Rattle.regalloc2_checker.proofs.TableLaws.{save-all, meet-false, meet-true}
+use Rattle.regalloc2_checker.proofs.TableLaws.{met-saved, save-all, meet-false, meet-true}
 use Rattle.regalloc2_checker.proofs.tables.Tables.meet.Goals as goal
 
 pub meet_entries-requires-clause-below : goal.meet_entries-requires-clause-below
@@ -53,8 +53,9 @@ invariant_of-self-in_err-save g c =
     } in
     save-all (record old { entries = c.meet_entries.new.entries; sets = c.meet_entries.new.sets }) c.save.new.self c.args.table c.save.result
     (drop-all old c.meet_entries.new.sets c.meet_entries.new.entries c.self.invariant c.in_ok-is_less.ensures.still c.in_ok-is_less.ensures.fewer)
-    c.save.ensures.cells c.save.ensures.others
-    c.save.ensures.saved c.save.ensures.err
+    (met-saved old c.meet_entries.new.sets c.meet_entries.new.entries c.args.table c.self.invariant c.in_ok-is_less.ensures.still
+    (λ i y l. c.in_ok-is_less.ensures.met i y (subst (λ n. i < n) (sym c.len.ensures) l)))
+    c.save.ensures.cells c.save.ensures.others c.save.ensures.saved c.save.ensures.err
 
 pub invariant_of-self-2 : goal.invariant_of-self-2
 invariant_of-self-2 g c =
@@ -67,8 +68,9 @@ invariant_of-self-2 g c =
     } in
     save-all (record old { entries = c.meet_entries.new.entries; sets = c.meet_entries.new.sets }) c.save.new.self c.args.table c.save.result
     (drop-all old c.meet_entries.new.sets c.meet_entries.new.entries c.self.invariant c.in_ok-is_less.ensures.still c.in_ok-is_less.ensures.fewer)
-    c.save.ensures.cells c.save.ensures.others
-    c.save.ensures.saved c.save.ensures.err
+    (met-saved old c.meet_entries.new.sets c.meet_entries.new.entries c.args.table c.self.invariant c.in_ok-is_less.ensures.still
+    (λ i y l. c.in_ok-is_less.ensures.met i y (subst (λ n. i < n) (sym c.len.ensures) l)))
+    c.save.ensures.cells c.save.ensures.others c.save.ensures.saved c.save.ensures.err
 
 pub returns-in_err-is_less-clause-places : goal.returns-in_err-is_less-clause-places
 returns-in_err-is_less-clause-places g c = ap (λ (o : Holding). o.places) c.self.view_is

@@ -3,7 +3,7 @@ use Rattle.std.specs.Prelude.{if◌then◌else◌}
 use Rattle.regalloc2_checker_sets.specs.EntrySets.{is_member}
 use Rattle.regalloc2_checker.specs.Holding.{Holding, holds_now, holds_in, count_of}
 use Rattle.regalloc2_checker_sets.proofs.Results.{on_ok_as}
-use Rattle.regalloc2_checker.proofs.TableLaws.{save-all, save-in}
+use Rattle.regalloc2_checker.proofs.TableLaws.{homes-saved-all, now-saved, save-all, save-in}
 use Rattle.regalloc2_checker.proofs.tables.Tables.save.Goals as goal
 
 pub invariant_of-self : goal.invariant_of-self
@@ -15,7 +15,9 @@ invariant_of-self g c =
       sets = c.self.inside.sets;
       homes = c.self.inside.homes;
     } in
-    save-all old c.save.new.self c.args.table c.save.result c.self.invariant c.save.ensures.cells c.save.ensures.others c.save.ensures.saved
+    save-all (record old { homes = c.save_added.new.self }) c.save.new.self c.args.table c.save.result
+    (homes-saved-all old c.save_added.new.self c.self.invariant c.save_added.ensures.long c.save_added.ensures.saved)
+    (now-saved old c.save_added.new.self c.self.invariant c.save_added.ensures.saved) c.save.ensures.cells c.save.ensures.others c.save.ensures.saved
     c.save.ensures.err
 
 pub returns-clause-places : goal.returns-clause-places

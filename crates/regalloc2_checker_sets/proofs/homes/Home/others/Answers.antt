@@ -1,7 +1,7 @@
 use Rattle.std.proofs.Common.{ℕ, ◌≡◌, false, subst}
 use Rattle.regalloc2_function.specs.Numbers.{has_number}
 use Rattle.regalloc2_checker_sets.specs.Homes.{HomePlaces}
-use Rattle.regalloc2_checker_sets.proofs.HomeLaws.{empty-has}
+use Rattle.regalloc2_checker_sets.proofs.MoreLaws.{empty-has}
 use Rattle.regalloc2_checker_sets.proofs.homes.Home.others.Goals as goal
 
 pub returns-in-None-clause-none : goal.returns-in-None-clause-none

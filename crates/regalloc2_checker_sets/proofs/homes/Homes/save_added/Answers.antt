@@ -1,0 +1,11 @@
+use Rattle.std.proofs.Common.{ℕ, ◌≡◌, true, List, get_or, map, subst}
+use Rattle.regalloc2_checker_sets.specs.Homes.{HomePlaces, no_homes, home_of, has_home, has_saved}
+use Rattle.regalloc2_checker_sets.proofs.HomeLists.{homes-saved}
+use Rattle.regalloc2_checker_sets.proofs.homes.Homes.save_added.Goals as goal
+
+pub returns-clause-saved : goal.returns-clause-saved
+returns-clause-saved g c =
+    let all = c.self.inside.entries.items in
+    subst (λ (h : List HomePlaces). (j i : ℕ) → has_home (get_or h j no_homes) i ≡ true
+    → has_saved (get_or (map (home_of c.save_added.new.self) all) j no_homes) i ≡ true) c.self.view_is
+    (homes-saved c.self.inside.more c.save_added.new.self all c.save_added.ensures.kept c.save_added.ensures.saved)
