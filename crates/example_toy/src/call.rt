@@ -11,7 +11,7 @@ use super::convention::{Assembly, Convention, int, slot, xmm};
 use regalloc2::callmoves::{CallFrame, schedule};
 use regalloc2::{Allocation, PReg, PRegSet, RegClass};
 use std::alloc::{AllocError, Global};
-use std::io::{self, Write};
+use std::io::Write;
 
 /// Where the arguments of the call are before it, with their classes. In each class two registers change places; of
 /// the last three integers two go from slot to slot.
@@ -74,40 +74,37 @@ fn write_moves<W: Write>(
     moves: &[(Allocation, Allocation)],
     frame: &CallFrame,
     instruction: &str,
-) -> io::Result<()>
+) -> anyhow::Result<()>
     requires range { frame.now.slots.start ≤ frame.now.slots.«end» }
     requires small { frame.now.slots.«end» ≤ 16777216 }
 {
-    match schedule(alloc, moves, frame) {
-        Ok(made) => {
-            for (from, to, _) in made.as_slice() {
-                let (from, to) = (Assembly(*from), Assembly(*to));
-                writeln!(out, "    {instruction} {to}, {from}")?;
-            }
-            Ok(())
-        }
-        Err(fault) => writeln!(out, "    {fault:?}"),
+    let made = schedule(alloc, moves, frame)?;
+    for (from, to, _) in made.as_slice() {
+        let (from, to) = (Assembly(*from), Assembly(*to));
+        writeln!(out, "    {instruction} {to}, {from}")?;
     }
+    Ok(())
 }
 
 /// Writes the call, if the registers `free` are free.
 ///
 /// A move of one class neither reads nor writes what a move of the other class writes: arguments go to the first
 /// slots, and come from others. Therefore the classes follow one another.
-fn write_call<W: Write>(alloc: Global, out: &mut W, free: &[PReg]) -> io::Result<()> {
+fn write_call<W: Write>(alloc: Global, out: &mut W, free: &[PReg]) -> anyhow::Result<()> {
     for (class, instruction) in [(RegClass::Int, "mov"), (RegClass::Float, "movsd")] {
         let moves = moves_of(alloc, class)?;
         let frame = frame_of(alloc, class, free)?;
         write_moves(alloc, out, moves.as_slice(), &frame, instruction)?;
     }
-    writeln!(out, "    call blend")
+    writeln!(out, "    call blend")?;
+    Ok(())
 }
 
 /// Writes the call twice: if some registers are free, and if none is.
 ///
 /// Nothing runs these lines, which are assembled behind the function. `blend` is weak, so that they can be linked
 /// without it.
-pub fn write_calls<W: Write>(alloc: Global, out: &mut W) -> io::Result<()> {
+pub fn write_calls<W: Write>(alloc: Global, out: &mut W) -> anyhow::Result<()> {
     writeln!(
         out,
         ".text\n.weak blend\n# r11, r10, xmm15 and xmm14 are free"

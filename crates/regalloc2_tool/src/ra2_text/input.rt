@@ -32,7 +32,14 @@ pub enum InputError {
     Memory,
 }
 
-/// As `12:20: expected ..`, `3:1: the byte 255 is part of no character` or `the JSON value is no function ..`.
+impl InputError {
+    /// Returns `true` if the error's text begins with a line and a column.
+    pub fn has_place(&self) -> bool {
+        matches!(self, InputError::NotText(..) | InputError::BadText(_))
+    }
+}
+
+/// As `12:20: expected ..`, `3:1: the byte 255 is part of no UTF-8 character` or `the JSON value is no function ..`.
 impl fmt::Display for InputError {
     fn fmt<W: fmt::Write>(&self, f: &mut fmt::Formatter<W>) -> fmt::Result {
         match self {
@@ -41,11 +48,11 @@ impl fmt::Display for InputError {
                 "{line}:{column}: the byte {byte} is part of no UTF-8 character"
             ),
             InputError::BadText(fault) => write!(f, "{fault}"),
-            InputError::BadJson(error) => write!(f, " {error}"),
+            InputError::BadJson(error) => write!(f, "{error}"),
             InputError::OtherJson => f.write_str(
-                " the JSON value is no function, nor an array of a function and an output",
+                "the JSON value is no function, nor an array of a function and an output",
             ),
-            InputError::Memory => f.write_str(" out of memory"),
+            InputError::Memory => f.write_str("out of memory"),
         }
     }
 }

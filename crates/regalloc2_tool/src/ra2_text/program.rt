@@ -248,7 +248,9 @@ fn read_input(alloc: Global, path: &str, bytes: &[u8], err: &mut Vec<u8>) -> Opt
     match text_of(bytes).and_then(|text| Input::read(alloc, text)) {
         Ok(input) => Some(input),
         Err(error) => {
-            let _ = writeln!(err, "{path}:{error}");
+            // The text of an error with a place begins with the line and the column.
+            let blank = if error.has_place() { "" } else { " " };
+            let _ = writeln!(err, "{path}:{blank}{error}");
             None
         }
     }
