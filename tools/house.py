@@ -23,7 +23,8 @@ FLOORS = [
         ("regalloc2_serialize", "numbers, JSON, words"),
         ("regalloc2_text", "texts, causes of errors")]),
      ("Analysis", [
-         ("regalloc2_semantics", "from blocks to paths"),
+         ("regalloc2_semantics", "what the theorem speaks of"),
+         ("regalloc2_carry", "from blocks to paths"),
          ("regalloc2_analysis", "liveness, ranges, branches")])],
     [("Checker", [
         ("regalloc2_checker_sets", "sets, saved copies"),

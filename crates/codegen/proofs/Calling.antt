@@ -1,24 +1,22 @@
 -- A call within a procedure. Up to it, the machine runs the call's moves: then the first arguments are in their registers, and the others in places that keep
 -- their numbers whatever the call writes to register 0. Once the callee has returned, the numbers of registers and slots are as in the caller's places again,
 -- by the choice that leaves what the callee left in caller-saved registers.
-use Rattle.std.proofs.Common.{ℕ, zero, suc, ◌≡◌, ◌+◌, ◌<◌, ◌≤◌, ◌⊎◌, inl, inr, Bool, true, false, cond, not, List, [], ◌∷◌, ◌++◌, map, length, Option, Some, None}
-use Rattle.std.proofs.Common.{refl, sym, ap, ◌∙◌, subst, arith, nat_eq, lt-ltb, ltb-true}
+use Rattle.std.proofs.Common.{ℕ, zero, suc, ◌≡◌, ◌+◌, ◌<◌, ◌≤◌, ◌⊎◌, inl, inr, Bool, true, false, cond, not, List, [], ◌∷◌, ◌++◌, map, length, Option, Some}
+use Rattle.std.proofs.Common.{None, refl, sym, ap, ◌∙◌, subst, arith, nat_eq, lt-ltb, ltb-true}
 use Rattle.std.proofs.lemmas.Bool.{and_parts}
 use Rattle.std.specs.Global.{Vec}
 use Rattle.std.specs.Prelude.{◌-◌, ◌&&◌, ◌||◌, nat_lt, slice_index, slice_index_or, option_map}
 use Rattle.regalloc2_names.specs.declared.RegClass.TheVariants.{Int}
 use Rattle.regalloc2_names.specs.declared.sets.PRegSet.{PRegSet}
-use Rattle.regalloc2_names.specs.Register.{Register, VirtualRegister}
-use Rattle.regalloc2_names.specs.RegisterSet.{has_register}
+use Rattle.regalloc2_names.specs.Register.{Register, VirtualRegister, has_register}
 use Rattle.regalloc2_names.specs.Operand.{OperandValue, is_reading}
 use Rattle.regalloc2_names.specs.Place.{Place, NoPlace, InRegister, InSlot}
 use Rattle.regalloc2_function.specs.FunctionValue.{FunctionValue, block_at, inst_at}
 use Rattle.regalloc2_function.specs.OutputValue.{OutputValue, allocs_of, place_at}
-use Rattle.regalloc2_function.specs.Path.{Location, Way, Onward, next_of}
+use Rattle.regalloc2_semantics.specs.Runs.{Location, Way, Onward, next_of, moves_at}
 use Rattle.regalloc2_function.specs.Listing.{ListedInst, listing_from}
-use Rattle.regalloc2_function.specs.AllocatedRun.{moves_at}
-use Rattle.regalloc2_semantics.specs.Values.Interpreters.{State, edge_to, read_by, is_late_use, number_set, numbers_defined, passed_over, way_on}
-use Rattle.regalloc2_semantics.specs.Values.Interpreters.{place_set, numbers_moved, written_to, numbers_clobbered}
+use Rattle.regalloc2_semantics.specs.Interpreters.{State, edge_to, read_by, is_late_use, number_set, numbers_defined, passed_over, way_on, place_set}
+use Rattle.regalloc2_semantics.specs.Interpreters.{numbers_moved, written_to, numbers_clobbered}
 use Rattle.codegen_operation.specs.Numbers.{put}
 use Rattle.codegen_operation.specs.Operands.{argument_registers, arguments_in, call_operands, is_lost_in, is_lost_in_call, operands_of, passed_in, passed_on_stack}
 use Rattle.codegen_machine.specs.Meaning.{ProcedureState}

@@ -5,11 +5,10 @@ use Rattle.regalloc2_names.specs.Operand.{is_reading}
 use Rattle.regalloc2_names.specs.Place.{Place}
 use Rattle.regalloc2_function.specs.FunctionValue.{FunctionValue, inst_at}
 use Rattle.regalloc2_function.specs.OutputValue.{OutputValue, allocs_of, place_at}
-use Rattle.regalloc2_function.specs.Path.{first_of, next_of}
-use Rattle.regalloc2_function.specs.AllocatedRun.{moves_at}
-use Rattle.regalloc2_semantics.specs.Values.Interpreters.{History, InstMeaning, State, read_by, is_late_use, way_on, numbers_defined, passed_over}
-use Rattle.regalloc2_semantics.specs.Values.Interpreters.{numbers_moved, disturbed, written_to, numbers_clobbered, source_run, place_run}
-use Rattle.regalloc2_semantics.specs.Values.Alike.{RunAlike}
+use Rattle.regalloc2_semantics.specs.Runs.{first_of, next_of, moves_at}
+use Rattle.regalloc2_semantics.specs.Interpreters.{History, InstMeaning, State, read_by, is_late_use, way_on, numbers_defined, passed_over, numbers_moved}
+use Rattle.regalloc2_semantics.specs.Interpreters.{disturbed, written_to, numbers_clobbered, source_run, place_run}
+use Rattle.regalloc2_semantics.specs.Alike.{RunAlike}
 
 -- a step's choice: the number that it writes to the operand of an index, the position of the successor that it follows, and the numbers that it leaves in
 -- clobbered registers

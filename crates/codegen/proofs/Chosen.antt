@@ -6,10 +6,10 @@ use Rattle.regalloc2_names.specs.Register.{VirtualRegister}
 use Rattle.regalloc2_names.specs.Place.{Place}
 use Rattle.regalloc2_function.specs.FunctionValue.{FunctionValue, inst_at}
 use Rattle.regalloc2_function.specs.OutputValue.{OutputValue, allocs_of, place_at}
-use Rattle.regalloc2_function.specs.Path.{Way, next_of}
-use Rattle.regalloc2_semantics.specs.Values.Interpreters.{History, InstMeaning, State, read_by, is_late_use, way_on, passed_over, source_told, vreg_written, source_run, source_step}
-use Rattle.regalloc2_semantics.specs.Values.Interpreters.{place_told, place_written, place_run, place_step}
-use Rattle.regalloc2_semantics.specs.Values.Alike.{AreAlike, HaveRunAlike, RunAlike}
+use Rattle.regalloc2_semantics.specs.Runs.{Way, next_of}
+use Rattle.regalloc2_semantics.specs.Interpreters.{History, InstMeaning, State, read_by, is_late_use, way_on, passed_over, source_told, vreg_written}
+use Rattle.regalloc2_semantics.specs.Interpreters.{source_run, source_step, place_told, place_written, place_run, place_step}
+use Rattle.regalloc2_semantics.specs.Alike.{AreAlike, HaveRunAlike, RunAlike}
 use Rattle.codegen.proofs.Choices.{Choice, nothing, choice_at, meaning_by, noise_by, leavings, source_next, place_next, place_after, source_reads}
 use Rattle.codegen.proofs.Choices.{found_reads, Together, StepsOn, ReadAlike, AlikeByChoices, ChoicesRunAlike}
 

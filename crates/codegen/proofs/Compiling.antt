@@ -10,7 +10,7 @@ use Rattle.codegen_machine.specs.declared.procedure.Procedure.{Procedure}
 use Rattle.codegen_machine.specs.declared.NamedCode.{NamedCode}
 use Rattle.codegen_machine.specs.Calls.{FunctionCode, functions_of}
 use Rattle.codegen_machine.specs.Machine.{CodeValue, code_of}
-use Rattle.regalloc2.specs.ErrorReason.{units_at_most}
+use Rattle.regalloc2.specs.Places.{units_at_most}
 use Rattle.codegen.specs.Compiled.{IsCodeOf, IsNamedCodeOf}
 use Rattle.codegen.specs.FrameSizes.{HasFrameOf}
 use Rattle.codegen_emit.specs.Emitted.{block_label}

@@ -1,16 +1,15 @@
 -- A division: its two instructions do to the machine what it does to places, and the divisor stays in its current location.
-use Rattle.std.proofs.Common.{ℕ, ◌≡◌, Bool, true, false, cond, not, List, [], ◌∷◌, ◌++◌, length, Option, Some, None, refl, sym, ap, ◌∙◌, subst}
-use Rattle.std.proofs.Common.{arith, nat_eq, eqb-true, eq-eqb}
+use Rattle.std.proofs.Common.{ℕ, ◌≡◌, Bool, true, false, cond, not, List, [], ◌∷◌, ◌++◌, length, Option, Some, None, refl, sym, ap, ◌∙◌, subst, arith, nat_eq}
+use Rattle.std.proofs.Common.{eqb-true, eq-eqb}
 use Rattle.std.specs.Prelude.{◌&&◌, slice_index}
 use Rattle.regalloc2_names.specs.declared.RegClass.TheVariants.{Int}
 use Rattle.regalloc2_names.specs.declared.sets.PRegSet.{PRegSet}
 use Rattle.regalloc2_names.specs.Operand.{is_reading}
-use Rattle.regalloc2_names.specs.Register.{Register, VirtualRegister, is_register}
-use Rattle.regalloc2_names.specs.RegisterSet.{has_register}
+use Rattle.regalloc2_names.specs.Register.{Register, VirtualRegister, is_register, has_register}
 use Rattle.regalloc2_names.specs.Same.{is_register-true}
 use Rattle.regalloc2_names.specs.Place.{Place, NoPlace, InRegister, InSlot}
 use Rattle.regalloc2_function.specs.OutputValue.{place_at}
-use Rattle.regalloc2_semantics.specs.Values.Interpreters.{read_by, is_late_use, place_set, written_to, numbers_clobbered}
+use Rattle.regalloc2_semantics.specs.Interpreters.{read_by, is_late_use, place_set, written_to, numbers_clobbered}
 use Rattle.codegen_operation.specs.Numbers.{Running, Trapped, Stuck, divided_at, division_traps, extended, is_within, put}
 use Rattle.codegen_operation.specs.Operands.{is_lost_in, operands_of, other_register, part_register}
 use Rattle.codegen_operation.specs.declared.operation.Width.{Width}

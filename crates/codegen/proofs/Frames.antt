@@ -1,6 +1,6 @@
 -- The frames of a module and the activations of its code, related one by one; and a step of each.
-use Rattle.std.proofs.Common.{ℕ, zero, suc, ◌≡◌, ◌+◌, ◌<◌, ◌⊎◌, inl, inr, Bool, true, false, cond, List, [], ◌∷◌, map, length, Option, Some, None, refl, sym, ap, ◌∙◌}
-use Rattle.std.proofs.Common.{subst, arith, eqb-true, ltb-true}
+use Rattle.std.proofs.Common.{ℕ, zero, suc, ◌≡◌, ◌+◌, ◌<◌, ◌⊎◌, inl, inr, Bool, true, false, cond, List, [], ◌∷◌, map, length, Option, Some, None, refl, sym}
+use Rattle.std.proofs.Common.{ap, ◌∙◌, subst, arith, eqb-true, ltb-true}
 use Rattle.std.specs.Global.{Vec}
 use Rattle.std.specs.Prelude.{slice_get, slice_index, option_map}
 use Rattle.std.specs.List.{list_all}
@@ -9,14 +9,14 @@ use Rattle.std.proofs.lemmas.Option.{slice_get-get_or, slice_get-map}
 use Rattle.regalloc2_names.specs.Register.{VirtualRegister}
 use Rattle.regalloc2_names.specs.Place.{Place}
 use Rattle.regalloc2_function.specs.FunctionValue.{FunctionValue}
-use Rattle.regalloc2_function.specs.Path.{Location, first_of}
+use Rattle.regalloc2_semantics.specs.Runs.{Location, first_of}
 use Rattle.codegen_operation.specs.Numbers.{RunOutcome, Running, Returned, Trapped, Overflowed, Stuck, put}
 use Rattle.codegen_machine.specs.Meaning.{ProcedureState, done, onward, procedure_step}
 use Rattle.codegen_machine.specs.Successors.{operations_of}
 use Rattle.codegen_machine.specs.Seen.{Operations, function_of_procedure, operations}
 use Rattle.codegen_machine.specs.Modules.{arities_of, calls_function, procedures_of, reads_argument, takes}
-use Rattle.codegen_machine.specs.Frames.{CallValue, ModuleState, SuspendedFrame, call_on, frame_called, frame_entered, frame_stepped, line_done}
-use Rattle.codegen_machine.specs.Frames.{returned_to, step_in, suspended}
+use Rattle.codegen_machine.specs.Frames.{CallValue, ModuleState, SuspendedFrame, call_on, frame_called, frame_entered, frame_stepped, line_done, returned_to}
+use Rattle.codegen_machine.specs.Frames.{step_in, suspended}
 use Rattle.codegen_machine.specs.declared.module.Module.{Module}
 use Rattle.codegen_machine.specs.declared.module.NamedProcedure.{NamedProcedure}
 use Rattle.codegen_operation.specs.declared.operation.Operation.{Operation}

@@ -5,8 +5,8 @@ use Rattle.regalloc2_names.specs.Register.{VirtualRegister}
 use Rattle.regalloc2_names.specs.Place.{Place}
 use Rattle.regalloc2_function.specs.FunctionValue.{FunctionValue, block_at}
 use Rattle.regalloc2_function.specs.OutputValue.{OutputValue}
-use Rattle.regalloc2_function.specs.Path.{Location, first_of}
-use Rattle.regalloc2_semantics.specs.Values.Interpreters.{State}
+use Rattle.regalloc2_semantics.specs.Runs.{Location, first_of}
+use Rattle.regalloc2_semantics.specs.Interpreters.{State}
 use Rattle.codegen_operation.specs.Numbers.{RunOutcome, Running, Returned, Trapped, Overflowed, Stuck}
 use Rattle.codegen_machine.specs.Meaning.{ProcedureState, procedure_step}
 use Rattle.codegen_machine.specs.Seen.{Operations}

@@ -1,7 +1,7 @@
 -- The assumptions on a module's code: each function's is emitted for an allocation of its procedure.
 use Rattle.std.specs.Prelude.{ℕ, ◌≡◌, List, length, slice_get, Some}
 use Rattle.regalloc2_function.specs.OutputValue.{OutputValue}
-use Rattle.regalloc2_semantics.specs.Values.Alike.{RunAlike}
+use Rattle.regalloc2_semantics.specs.Alike.{RunAlike}
 use Rattle.codegen_machine.specs.Seen.{function_of_procedure, operations}
 use Rattle.codegen_machine.specs.declared.module.NamedProcedure.{NamedProcedure}
 use Rattle.codegen_machine.specs.declared.procedure.Procedure.{Procedure}

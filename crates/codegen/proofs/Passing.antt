@@ -6,7 +6,7 @@ use Rattle.std.proofs.lemmas.Bool.{cases_lt}
 use Rattle.std.specs.Prelude.{slice_get}
 use Rattle.regalloc2_names.specs.Place.{Place, NoPlace, InRegister, InSlot}
 use Rattle.regalloc2_function.specs.OutputValue.{place_at}
-use Rattle.regalloc2_semantics.specs.Values.Interpreters.{place_set}
+use Rattle.regalloc2_semantics.specs.Interpreters.{place_set}
 use Rattle.codegen_operation.specs.Numbers.{put}
 use Rattle.codegen_machine.specs.declared.Instruction.{Instruction}
 use Rattle.codegen_machine.specs.declared.Instruction.TheVariants.{Call, Load}

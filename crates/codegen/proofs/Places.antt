@@ -1,7 +1,7 @@
 -- The machine's numbers agree with the places': reads, writes and moves have the same effect on both. No two places of the allocator have the same place of the
 -- machine, so a write to one leaves the others' numbers.
-use Rattle.std.proofs.Common.{ℕ, zero, suc, ◌≡◌, ◌+◌, Bool, true, false, cond, List, [], ◌∷◌, ◌++◌, map, Option, Some, refl, sym, ap, ◌∙◌, subst}
-use Rattle.std.proofs.Common.{arith, nat_eq, lt-ltb, eqb-true, eq-eqb}
+use Rattle.std.proofs.Common.{ℕ, zero, suc, ◌≡◌, ◌+◌, Bool, true, false, cond, List, [], ◌∷◌, ◌++◌, map, Option, Some, refl, sym, ap, ◌∙◌, subst, arith}
+use Rattle.std.proofs.Common.{nat_eq, lt-ltb, eqb-true, eq-eqb}
 use Rattle.std.proofs.lemmas.Bool.{and_parts}
 use Rattle.std.specs.Prelude.{◌&&◌}
 use Rattle.std.specs.List.{AllByRecursion}
@@ -11,7 +11,7 @@ use Rattle.regalloc2_names.specs.Register.{Register, class_code}
 use Rattle.regalloc2_names.specs.Place.{Place, NoPlace, InRegister, InSlot}
 use Rattle.regalloc2_function.specs.OutputValue.{OutputValue, MoveValue}
 use Rattle.regalloc2_function.specs.Listing.{Listed, ListedMove}
-use Rattle.regalloc2_semantics.specs.Values.Interpreters.{place_set, numbers_moved}
+use Rattle.regalloc2_semantics.specs.Interpreters.{place_set, numbers_moved}
 use Rattle.codegen_operation.specs.Numbers.{RunOutcome, Running, Stuck, put}
 use Rattle.codegen_machine.specs.Seen.{Operations}
 use Rattle.codegen_machine.specs.declared.Instruction.{Instruction}

@@ -1,8 +1,7 @@
 -- The proofs' assumptions hold of the code emitted for an allocated procedure.
-use Rattle.std.proofs.Common.{ℕ, zero, suc, ◌≡◌, ◌+◌, ◌-◌, ◌<◌, ◌≤◌, Bool, true, false, ◌&&◌, cond, List, [], ◌∷◌, length, Option, None, Some, refl, sym, ap, ◌∙◌, subst}
-use Rattle.std.proofs.Common.{arith, lt-ltb, ltb-true, eqb-true, nat_eq, ◌^◌, ◌++◌, length-append}
+use Rattle.std.proofs.Common.{ℕ, zero, suc, ◌≡◌, ◌+◌, ◌-◌, ◌<◌, ◌≤◌, Bool, true, false, ◌&&◌, cond, List, [], ◌∷◌, length, Option, None, Some, refl, sym, ap}
+use Rattle.std.proofs.Common.{◌∙◌, subst, arith, lt-ltb, ltb-true, eqb-true, nat_eq, ◌^◌, ◌++◌, length-append, ◌⊎◌, inl, inr}
 use Rattle.std.proofs.Math.Seq.{get_or-append_seam}
-use Rattle.std.proofs.Common.{◌⊎◌, inl, inr}
 use Rattle.std.specs.Prelude.{slice_index_or, nat_lt, Contains, All}
 use Rattle.std.specs.List.{list_all}
 use Rattle.std.proofs.lemmas.List.{length-map}
@@ -16,21 +15,20 @@ use Rattle.regalloc2_names.specs.Place.{Place, NoPlace, InRegister, InSlot}
 use Rattle.regalloc2_function.specs.FunctionValue.{FunctionValue, block_at, inst_at}
 use Rattle.regalloc2_function.specs.Machine.{MachineValue, IsPlainRegister, scratch_of}
 use Rattle.regalloc2_function.specs.OutputValue.{OutputValue, allocs_of, place_at}
-use Rattle.regalloc2_function.specs.Faithful.{Meets, IsStackToStack}
-use Rattle.regalloc2_function.specs.Fitting.{IsProperPlace, IsMoveEnd}
-use Rattle.regalloc2_function.specs.Following.{end_within}
+use Rattle.regalloc2_semantics.specs.Faithful.{Meets, IsStackToStack}
+use Rattle.regalloc2_semantics.specs.Places.{IsProperPlace, IsMoveEnd}
+use Rattle.regalloc2_function.proofs.Following.{end_within}
 use Rattle.regalloc2_function.specs.WellFormed.{IsWellFormed, EndsBlock}
 use Rattle.regalloc2.specs.Promise.{IsAllocation}
-use Rattle.codegen_operation.specs.Operands.{argument_registers, arguments_in, call_operands, count_in, def_in, operands_of, part_register, passed_in, passed_on_stack}
-use Rattle.codegen_operation.specs.Operands.{right_in, use_in}
-use Rattle.codegen_operation.specs.Operands.{is_jump, is_return}
+use Rattle.codegen_operation.specs.Operands.{argument_registers, arguments_in, call_operands, count_in, def_in, operands_of, part_register, passed_in}
+use Rattle.codegen_operation.specs.Operands.{passed_on_stack, right_in, use_in, is_jump, is_return}
 use Rattle.codegen_machine.specs.Successors.{wanted_by}
 use Rattle.codegen_machine.specs.Seen.{function_of_procedure, inst_of_line, operations}
 use Rattle.codegen_operation.specs.declared.operation.Operation.{Operation}
 use Rattle.codegen_operation.specs.declared.operation.Operation.TheVariants.{Argument as TakeArgument, Constant as TakeConstant, Copy, Compute as Computation}
-use Rattle.codegen_operation.specs.declared.operation.Operation.TheVariants.{Shift as Shifting, Divide as Dividing, Compare as Comparison, Select, Jump as GoTo, BranchIf}
-use Rattle.codegen_operation.specs.declared.operation.Operation.TheVariants.{BranchIfHolds, Load as Loading, Store as Storing, Call as Calling}
-use Rattle.codegen_operation.specs.declared.operation.Operation.TheVariants.{Return as GiveBack}
+use Rattle.codegen_operation.specs.declared.operation.Operation.TheVariants.{Shift as Shifting, Divide as Dividing, Compare as Comparison, Select}
+use Rattle.codegen_operation.specs.declared.operation.Operation.TheVariants.{Jump as GoTo, BranchIf, BranchIfHolds, Load as Loading, Store as Storing}
+use Rattle.codegen_operation.specs.declared.operation.Operation.TheVariants.{Call as Calling, Return as GiveBack}
 use Rattle.codegen_operation.specs.declared.operation.Count.{Count}
 use Rattle.codegen_operation.specs.declared.operation.Count.TheVariants.{VReg as CountIn, Number as CountOf}
 use Rattle.codegen_operation.specs.declared.operation.Right.{Right}
@@ -39,8 +37,8 @@ use Rattle.codegen_machine.specs.declared.procedure.Procedure.{Procedure}
 use Rattle.codegen_emit.specs.Pinned.{slot_place, frame_slots}
 use Rattle.codegen_emit.specs.Emitted.{register_of, operation_at, stack_arguments, outgoing_words, emitted, block_label, block_start}
 use Rattle.codegen.specs.Target.{IsTarget}
-use Rattle.codegen.proofs.Premise.{IsGeneral, IsWithin, IsHere, IsRightHere, IsCountHere, IsCountRead, AreRead, IsRead, ArePassed, CanMove, IsPlaced, IsPlain, IsCall}
-use Rattle.codegen.proofs.Premise.{IsEnd, IsEmitted}
+use Rattle.codegen.proofs.Premise.{IsGeneral, IsWithin, IsHere, IsRightHere, IsCountHere, IsCountRead, AreRead, IsRead, ArePassed, CanMove, IsPlaced, IsPlain}
+use Rattle.codegen.proofs.Premise.{IsCall, IsEnd, IsEmitted}
 use Rattle.codegen.proofs.Procedures.{insts_are, registers_known, blocks_have}
 
 no_member : (rs : List Register) (r : Register) → rs ≡ [] → Contains rs r → ⊥

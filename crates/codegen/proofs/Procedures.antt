@@ -4,8 +4,7 @@ use Rattle.std.specs.Prelude.{slice_index_or, slice_get, nat_lt}
 use Rattle.std.specs.List.{list_all}
 use Rattle.std.proofs.lemmas.List.{length-map}
 use Rattle.std.proofs.lemmas.Bool.{and_parts}
-use Rattle.regalloc2_names.specs.Register.{Register}
-use Rattle.regalloc2_names.specs.RegisterSet.{has_register}
+use Rattle.regalloc2_names.specs.Register.{Register, has_register}
 use Rattle.regalloc2_function.specs.FunctionValue.{InstValue, no_inst, no_block, block_at, inst_at}
 use Rattle.codegen_operation.specs.Operands.{operands_of, is_lost_in, is_jump, is_return}
 use Rattle.codegen_machine.specs.Successors.{wanted_by, operations_of, are_enough, has_successors, knows_registers}

@@ -1,6 +1,6 @@
 -- The machine follows the interpreter over places, instruction by instruction.
-use Rattle.std.proofs.Common.{ℕ, zero, suc, ◌≡◌, ◌+◌, ◌-◌, ◌<◌, ◌≤◌, Bool, true, false, cond, List, ◌∷◌, ◌++◌, map, length, Option, Some, None, refl, sym, ap, ◌∙◌}
-use Rattle.std.proofs.Common.{subst, arith, nat_eq, lt-ltb, le-ltb, eq-eqb, ◌⊎◌, inl, inr}
+use Rattle.std.proofs.Common.{ℕ, zero, suc, ◌≡◌, ◌+◌, ◌-◌, ◌<◌, ◌≤◌, Bool, true, false, cond, List, ◌∷◌, ◌++◌, map, length, Option, Some, None, refl, sym, ap}
+use Rattle.std.proofs.Common.{◌∙◌, subst, arith, nat_eq, lt-ltb, le-ltb, eq-eqb, ◌⊎◌, inl, inr}
 use Rattle.std.specs.Prelude.{slice_index, option_map, filter, All}
 use Rattle.std.specs.List.{AllByRecursion}
 use Rattle.std.proofs.lemmas.List.Elements.{All-map, All-filter, recursion_from_All}
@@ -9,10 +9,9 @@ use Rattle.regalloc2_names.specs.Operand.{OperandValue, is_reading}
 use Rattle.regalloc2_names.specs.Place.{Place}
 use Rattle.regalloc2_function.specs.FunctionValue.{FunctionValue, block_at, inst_at}
 use Rattle.regalloc2_function.specs.OutputValue.{OutputValue, MoveValue, allocs_of, place_at, is_listed_at}
-use Rattle.regalloc2_function.specs.Path.{Location, Way, Onward, ToSuccessor, first_of, next_of}
+use Rattle.regalloc2_semantics.specs.Runs.{Location, Way, Onward, ToSuccessor, first_of, next_of, moves_at}
 use Rattle.regalloc2_function.specs.Listing.{ListedInst, listing_from}
-use Rattle.regalloc2_function.specs.AllocatedRun.{moves_at}
-use Rattle.regalloc2_semantics.specs.Values.Interpreters.{History, State, read_by, is_late_use, edge_to, numbers_moved, disturbed, written_to, numbers_clobbered}
+use Rattle.regalloc2_semantics.specs.Interpreters.{History, State, read_by, is_late_use, edge_to, numbers_moved, disturbed, written_to, numbers_clobbered}
 use Rattle.codegen_operation.specs.Numbers.{Returned, Trapped}
 use Rattle.codegen_operation.specs.Operands.{is_lost_in}
 use Rattle.codegen_machine.specs.Seen.{Operations}

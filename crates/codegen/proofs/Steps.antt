@@ -8,8 +8,8 @@ use Rattle.regalloc2_names.specs.Operand.{is_reading}
 use Rattle.regalloc2_names.specs.Register.{VirtualRegister}
 use Rattle.regalloc2_names.specs.Place.{Place, NoPlace, InRegister, InSlot}
 use Rattle.regalloc2_function.specs.OutputValue.{place_at}
-use Rattle.regalloc2_function.specs.Path.{Way, Onward, ToSuccessor}
-use Rattle.regalloc2_semantics.specs.Values.Interpreters.{read_by, place_set, written_to, disturbed, edge_to}
+use Rattle.regalloc2_semantics.specs.Runs.{Way, Onward, ToSuccessor}
+use Rattle.regalloc2_semantics.specs.Interpreters.{read_by, place_set, written_to, disturbed, edge_to}
 use Rattle.codegen_operation.specs.Numbers.{RunOutcome, Running, Returned, Trapped, Stuck, computed_at, shifted_at, divided_at, division_traps}
 use Rattle.codegen_operation.specs.Numbers.{condition_holds, signed_rank, widened, truth, count_of, is_within, number_at, with_number}
 use Rattle.codegen_operation.specs.declared.operation.Bytes.{Bytes}
@@ -19,13 +19,13 @@ use Rattle.codegen_operation.specs.declared.operation.Width.{Width}
 use Rattle.codegen_operation.specs.declared.operation.Operator.{Operator}
 use Rattle.codegen_operation.specs.declared.operation.ShiftOperator.{ShiftOperator}
 use Rattle.codegen_operation.specs.declared.operation.Condition.{Condition}
-use Rattle.codegen_operation.specs.declared.operation.Condition.TheVariants.{Equal, NotEqual, Less, LessOrEqual, Greater, GreaterOrEqual}
-use Rattle.codegen_operation.specs.declared.operation.Condition.TheVariants.{SignedLess, SignedLessOrEqual, SignedGreater, SignedGreaterOrEqual}
+use Rattle.codegen_operation.specs.declared.operation.Condition.TheVariants.{Equal, NotEqual, Less, LessOrEqual, Greater, GreaterOrEqual, SignedLess}
+use Rattle.codegen_operation.specs.declared.operation.Condition.TheVariants.{SignedLessOrEqual, SignedGreater, SignedGreaterOrEqual}
 use Rattle.codegen_operation.specs.declared.operation.Operation.{Operation}
 use Rattle.codegen_operation.specs.declared.operation.Operation.TheVariants.{Argument as TakeArgument, Constant as TakeConstant, Copy, Compute as Computation}
-use Rattle.codegen_operation.specs.declared.operation.Operation.TheVariants.{Shift as Shifting, Divide as Dividing, Compare as Comparison, Select, Jump as GoTo, BranchIf}
-use Rattle.codegen_operation.specs.declared.operation.Operation.TheVariants.{BranchIfHolds, Load as Loading, Store as Storing, Call as Calling}
-use Rattle.codegen_operation.specs.declared.operation.Operation.TheVariants.{Return as GiveBack}
+use Rattle.codegen_operation.specs.declared.operation.Operation.TheVariants.{Shift as Shifting, Divide as Dividing, Compare as Comparison, Select}
+use Rattle.codegen_operation.specs.declared.operation.Operation.TheVariants.{Jump as GoTo, BranchIf, BranchIfHolds, Load as Loading, Store as Storing}
+use Rattle.codegen_operation.specs.declared.operation.Operation.TheVariants.{Call as Calling, Return as GiveBack}
 use Rattle.codegen_operation.specs.declared.operation.DivisionPart.{DivisionPart}
 use Rattle.codegen_operation.specs.declared.operation.DivisionPart.TheVariants.{Quotient, Remainder}
 use Rattle.codegen_operation.specs.declared.operation.Count.{Count}
@@ -33,10 +33,10 @@ use Rattle.codegen_operation.specs.declared.operation.Count.TheVariants.{VReg as
 use Rattle.codegen_operation.specs.declared.operation.Right.{Right}
 use Rattle.codegen_operation.specs.declared.operation.Right.TheVariants.{VReg, Number as Given}
 use Rattle.codegen_machine.specs.declared.Instruction.{Instruction}
-use Rattle.codegen_machine.specs.declared.Instruction.TheVariants.{Constant, Clear, Argument, Compute, Shift, ShiftBy, Compare, Set, MoveIf, Test, Jump, JumpIf}
-use Rattle.codegen_machine.specs.declared.Instruction.TheVariants.{Return, Guard, Read, Write}
-use Rattle.codegen_machine.specs.Machine.{CodeValue, MachineState, is_general, with_register, with_source, written, compared_to, jumped, executed, machine_run}
-use Rattle.codegen_machine.specs.Machine.{guarded, memory_read, memory_written}
+use Rattle.codegen_machine.specs.declared.Instruction.TheVariants.{Constant, Clear, Argument, Compute, Shift, ShiftBy, Compare, Set, MoveIf, Test, Jump}
+use Rattle.codegen_machine.specs.declared.Instruction.TheVariants.{JumpIf, Return, Guard, Read, Write}
+use Rattle.codegen_machine.specs.Machine.{CodeValue, MachineState, is_general, with_register, with_source, written, compared_to, jumped, executed}
+use Rattle.codegen_machine.specs.Machine.{machine_run, guarded, memory_read, memory_written}
 use Rattle.codegen_emit.specs.Emitted.{register_of, source_of, right_source, fetched, constant_code, branch_code, branch_if_code, compare_code, select_code}
 use Rattle.codegen_emit.specs.Emitted.{address_count, load_code, store_code, opposite, shift_code, resolved, operation_code}
 use Rattle.codegen.proofs.Premise.{IsGeneral, IsHere, IsRightHere, IsCountHere, IsPlaced, IsPlain, IsEnd}

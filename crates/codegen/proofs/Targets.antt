@@ -2,8 +2,7 @@
 use Rattle.std.proofs.Common.{ℕ, zero, suc, ◌≡◌, ◌<◌, Bool, true, false, List, [], ◌∷◌, None, refl, sym, ap, ◌∙◌, arith, ltb-true}
 use Rattle.std.specs.Prelude.{◌||◌, ◌&&◌, nat_lt, All}
 use Rattle.std.proofs.lemmas.Bool.{and_parts}
-use Rattle.regalloc2_names.specs.Register.{Register}
-use Rattle.regalloc2_names.specs.RegisterSet.{has_register}
+use Rattle.regalloc2_names.specs.Register.{Register, has_register}
 use Rattle.regalloc2_names.specs.declared.RegClass.{RegClass}
 use Rattle.regalloc2_names.specs.declared.RegClass.TheVariants.{Int, Float, Vector}
 use Rattle.regalloc2_names.specs.declared.sets.PRegSet.{PRegSet}

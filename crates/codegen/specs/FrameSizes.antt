@@ -1,6 +1,6 @@
 -- How large the frames of a module's code are, said of the module alone: what each function needs at most, and when a stack has room for a whole run.
 use Rattle.std.specs.Prelude.{ℕ, ◌≡◌, ◌≢◌, ◌≤◌, false, List, [], map, slice_get, Some}
-use Rattle.regalloc2.specs.ErrorReason.{units_at_most}
+use Rattle.regalloc2.specs.Places.{units_at_most}
 use Rattle.codegen_operation.specs.Numbers.{Running, Overflowed}
 use Rattle.codegen_machine.specs.Successors.{operations_of}
 use Rattle.codegen_machine.specs.Seen.{function_of_procedure}

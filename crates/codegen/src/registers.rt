@@ -2,8 +2,7 @@
 
 ghost use Rattle.std.specs.Prelude.{◌≡◌, true, IsTrue, All};
 ghost use Rattle.std.specs.List.{list_all};
-ghost use Rattle.regalloc2_names.specs.Register.{Register};
-ghost use Rattle.regalloc2_names.specs.RegisterSet.{has_register};
+ghost use Rattle.regalloc2_names.specs.Register.{Register, has_register};
 ghost use Rattle.regalloc2_function.specs.Views.{machine_of};
 ghost use Rattle.codegen_emit.specs.Pinned.{is_allocated};
 ghost use Rattle.codegen.specs.Target.{IsTarget};

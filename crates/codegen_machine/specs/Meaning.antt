@@ -2,15 +2,14 @@
 use Rattle.std.specs.Prelude.{ℕ, zero, suc, ◌+◌, nat_eq, if◌then◌else◌, List, slice_get, Option, None, Some}
 use Rattle.regalloc2_names.specs.Register.{VirtualRegister}
 use Rattle.regalloc2_function.specs.FunctionValue.{FunctionValue, block_at}
-use Rattle.regalloc2_function.specs.Path.{Location, first_of}
-use Rattle.regalloc2_function.specs.SourceRun.{arguments_at}
-use Rattle.regalloc2_semantics.specs.Values.Interpreters.{number_set, passed_on}
+use Rattle.regalloc2_semantics.specs.Runs.{Location, first_of, arguments_at}
+use Rattle.regalloc2_semantics.specs.Interpreters.{number_set, passed_on}
 use Rattle.codegen_machine.specs.Seen.{Operations}
 use Rattle.codegen_operation.specs.Numbers.{RunOutcome, Running, Returned, Trapped, Stuck, further, computed_at, shifted_at, divided_at, division_traps}
 use Rattle.codegen_operation.specs.Numbers.{condition_holds, widened, truth, is_within, number_at, with_number}
 use Rattle.codegen_operation.specs.declared.operation.Operation.{Operation}
-use Rattle.codegen_operation.specs.declared.operation.Operation.TheVariants.{Argument, Constant, Copy, Compute, Shift, Divide, Compare, Select, Jump, BranchIf, BranchIfHolds}
-use Rattle.codegen_operation.specs.declared.operation.Operation.TheVariants.{Load, Store, Call, Return}
+use Rattle.codegen_operation.specs.declared.operation.Operation.TheVariants.{Argument, Constant, Copy, Compute, Shift, Divide, Compare, Select, Jump}
+use Rattle.codegen_operation.specs.declared.operation.Operation.TheVariants.{BranchIf, BranchIfHolds, Load, Store, Call, Return}
 use Rattle.codegen_operation.specs.declared.operation.Count.{Count}
 use Rattle.codegen_operation.specs.declared.operation.Count.TheVariants.{VReg as CountIn, Number as CountOf}
 use Rattle.codegen_operation.specs.declared.operation.Right.{Right}

@@ -2,8 +2,7 @@
 
 ghost use Rattle.std.specs.Prelude.{◌≡◌, ◌≤◌, ◌∷◌, ◌++◌, IfOk, OnOk, slice_get};
 ghost use Rattle.std.proofs.Props.{props};
-ghost use Rattle.regalloc2_names.specs.Register.{Register};
-ghost use Rattle.regalloc2_names.specs.RegisterSet.{has_register};
+ghost use Rattle.regalloc2_names.specs.Register.{Register, has_register};
 ghost use Rattle.codegen_operation.specs.Operands.{argument_in, argument_registers, call_operands, count_in, def_in, divide_operands, is_lost_in, is_lost_in_call, operands_of, other_register, part_register, passed_on_stack, right_in, use_in};
 ghost use Rattle.codegen_operation.specs.Once.{operands-once};
 

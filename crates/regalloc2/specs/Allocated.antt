@@ -5,7 +5,7 @@ use Rattle.regalloc2_function.specs.FunctionValue.{FunctionValue}
 use Rattle.regalloc2_function.specs.Machine.{MachineValue}
 use Rattle.regalloc2_function.specs.Fitting.{MachineFits}
 use Rattle.regalloc2_function.specs.Misfit.{IsMisfit}
-use Rattle.regalloc2_function.specs.SourceRun.{IsWrittenFirst}
+use Rattle.regalloc2_semantics.specs.Runs.{IsWrittenFirst}
 use Rattle.regalloc2_fastalloc.specs.ErrorReason.{IsReason, PassesAllChecks}
 use Rattle.regalloc2.specs.Judged.{IsCheckedReason}
 use Rattle.regalloc2.specs.declared.checked.CheckedRunError.{CheckedRunError}

@@ -19,9 +19,8 @@ pub use laws::accepts_what_is_promised;
 pub use regalloc2_fastalloc::{Algorithm, Ctx, RegallocOptions, run, run_into_ctx, run_with_ctx};
 pub use regalloc2_function::{
     Edit, Function, InstOrEdit, MachineEnv, MachineMisfit, Output, OutputIter, StoredFault,
-    StoredOutput, agrees_where_numbers_do, cfg, count_operands, finds_earlier_writes, indexset,
-    is_framed, machine_fits, postorder, reads_the_same_numbers, test_blocks, test_ends,
-    test_machine,
+    StoredOutput, cfg, count_operands, indexset, is_framed, machine_fits, postorder, test_blocks,
+    test_ends, test_machine,
 };
 pub use regalloc2_index::{
     Block, ContainerComparator, ContainerIndex, Inst, InstRange, InstRangeIter,
@@ -32,8 +31,11 @@ pub use regalloc2_names::{
     VReg,
 };
 pub use regalloc2_parts::moves;
-pub use regalloc2_semantics::reads_earlier_where_well_formed;
 pub use regalloc2_semantics::values::runs_alike;
+pub use regalloc2_semantics::{
+    agrees_where_numbers_do, finds_earlier_writes, reads_earlier_where_well_formed,
+    reads_the_same_numbers,
+};
 pub use tested::{AllocateError, TestedRunError, allocate, allocate_without_checker, run_tested};
 
 /// The moves of one call.

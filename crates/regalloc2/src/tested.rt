@@ -3,8 +3,8 @@
 ghost use Rattle.std.specs.Prelude.{◌≡◌, ◌≤◌, ◌^◌, ◌↔◌, true, IfErr, IfOk, OnOk};
 ghost use Rattle.regalloc2_function.specs.FunctionValue.{operand_count};
 ghost use Rattle.regalloc2_function.specs.Views.{machine_of, output_of};
-ghost use Rattle.regalloc2_function.specs.SourceRun.{IsWrittenFirst};
-ghost use Rattle.regalloc2_function.specs.Faithful.{IsFaithful};
+ghost use Rattle.regalloc2_semantics.specs.Runs.{IsWrittenFirst};
+ghost use Rattle.regalloc2_semantics.specs.Faithful.{IsFaithful};
 ghost use Rattle.regalloc2_function.specs.Fitting.{MachineFits};
 ghost use Rattle.regalloc2_function.specs.WellFormed.{IsWellFormed};
 ghost use Rattle.regalloc2_fastalloc.specs.Promise.{IsAllocation, LiveInSlots, RunsAsTheFunction};

@@ -1,6 +1,6 @@
 -- First and last points of vregs, and the debug labels that are kept, are as their definitions have them.
 -- Read first: `FirstAndLastPoints` (`range_of_definition`, `used_ends`), then `UsesNoted` (`uses_last`, `uses_inside`).
--- Depends on `DebugPoints` of regalloc2_function, and on `SingleDef` and `Order` of regalloc2_semantics.
+-- Depends on `Debug` of regalloc2_semantics, and on `SingleDef` and `Order` of regalloc2_carry.
 -- Main theorems: `walked_all` in `LiveRangeTable`, the table after the walk has each vreg's live range; `kept_from` in
 -- `KeptLabels`.
 -- `UsesNoted` is what the walk notes at one instruction. `UsesInSSA` says which instructions may use a vreg; `ItemsPastEnd` serves all. `Spread`: tables with

@@ -1,6 +1,6 @@
 -- Live ranges of vregs as a debugger sees them, and the debug labels that are kept.
 -- Read first: `LiveRanges` (`IsLiveRange`, `AreKeptLabels`), then their walk: `LastUses`, `WalkInvariant`.
--- Depends on `DebugPoints` of regalloc2_function: the first and last point of a vreg.
+-- Depends on `Debug` of regalloc2_semantics: the first and last point of a vreg.
 pub mod LiveRanges
 pub mod LastUses
 pub mod WalkInvariant

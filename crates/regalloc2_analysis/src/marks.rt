@@ -1,7 +1,7 @@
 //! Tables of flags by number: of vregs, of blocks, of steps.
 
 ghost use Rattle.std.specs.Prelude.{◌≡◌, ℕ, true, false, length, slice_index_or, IfOk};
-ghost use Rattle.regalloc2_function.specs.MarkedNumbers.{Marks};
+ghost use Rattle.regalloc2_function.specs.Inside.MarkedNumbers.{Marks};
 
 use std::alloc::{AllocError, Allocator};
 

@@ -9,7 +9,7 @@ use Rattle.regalloc2.specs.Fitting.{MachineFits}
 use Rattle.regalloc2.specs.ErrorReason.{PassesAllChecks}
 use Rattle.regalloc2.specs.OutputValue.{OutputValue, IsInOrder}
 use Rattle.regalloc2.specs.Stored.{NamesValues, output_of_stored}
-use Rattle.regalloc2.specs.SourceRun.{IsWrittenFirst}
+use Rattle.regalloc2.specs.Runs.{IsWrittenFirst}
 use Rattle.regalloc2.specs.Faithful.{IsFaithful}
 use Rattle.regalloc2.specs.WellFormed.{IsWellFormed}
 use Rattle.regalloc2.specs.Promise.{IsAllocation, RunsAsTheFunction, LiveInSlots}

@@ -12,7 +12,7 @@ use Rattle.regalloc2_names.specs.RegisterBits.{bits_of_vreg}
 use Rattle.regalloc2_function.specs.FunctionValue.{FunctionValue, inst_at}
 use Rattle.regalloc2_function.specs.Machine.{MachineValue}
 use Rattle.regalloc2_function.specs.OutputValue.{OutputValue, IsInOrder, place_at, allocs_of}
-use Rattle.regalloc2_function.specs.Faithful.{IsFaithful}
+use Rattle.regalloc2_semantics.specs.Faithful.{IsFaithful}
 use Rattle.regalloc2_checker.specs.Cells.{AreCells}
 use Rattle.regalloc2_checker.specs.CellFaults.{IsCellFault}
 use Rattle.regalloc2_checker.specs.Report.{IsReport, invalid_operand}

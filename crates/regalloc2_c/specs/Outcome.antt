@@ -16,7 +16,7 @@ use Rattle.regalloc2.specs.Faithful.{IsFaithful}
 use Rattle.regalloc2_checker.specs.Cells.{AreCells}
 use Rattle.regalloc2.specs.WellFormed.{IsWellFormed, IsFramed}
 use Rattle.regalloc2.specs.Promise.{IsAllocation, RunsAsTheFunction, LiveInSlots}
-use Rattle.regalloc2.specs.SourceRun.{IsWrittenFirst}
+use Rattle.regalloc2.specs.Runs.{IsWrittenFirst}
 use Rattle.regalloc2.specs.ErrorReason.{IsReason, PassesAllChecks}
 use Rattle.regalloc2_function.specs.declared.serialize.StoredOutput.{StoredOutput}
 use Rattle.regalloc2_serialize.specs.Decoded.{NamesFunction, NamesMachine}
@@ -36,8 +36,8 @@ use Rattle.regalloc2_text.specs.declared.cursor.error.TextError.{TextError}
 use Rattle.regalloc2_text.specs.declared.cursor.error.TextError.TheVariants.{Fault as TextFault, Memory as TextMemory}
 use Rattle.regalloc2_c.specs.Payload.{as_word}
 use Rattle.regalloc2_c.specs.declared.failure.Failure.{Failure}
-use Rattle.regalloc2_c.specs.declared.failure.Failure.TheVariants.{Unreadable, BadMachine, NoRoom, Faults, NoMemory, NotFramed, BadOutput}
-use Rattle.regalloc2_c.specs.declared.failure.Failure.TheVariants.{ReadBeforeWritten, BadText, BadFunction, Refused}
+use Rattle.regalloc2_c.specs.declared.failure.Failure.TheVariants.{Unreadable, BadMachine, NoRoom, Faults, NoMemory, NotFramed, BadOutput, ReadBeforeWritten}
+use Rattle.regalloc2_c.specs.declared.failure.Failure.TheVariants.{BadText, BadFunction, Refused}
 
 -- words lay out a function and a machine in columns
 pub record AreWordsOf (words : List ℕ) (f : FunctionValue) (env : MachineValue) : Type 0 where

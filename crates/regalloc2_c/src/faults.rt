@@ -130,22 +130,33 @@ fn head_of<F: Function>(judged: &Judged<'_, F>, error: &CheckerError) -> [u32; 8
         }
         CheckerError::UnknownValueInAllocation { inst, op, alloc }
         | CheckerError::ConflictedValueInAllocation { inst, op, alloc }
-        | CheckerError::IncorrectValuesInAllocation { inst, op, alloc, .. }
+        | CheckerError::IncorrectValuesInAllocation {
+            inst,
+            op,
+            alloc,
+            ..
+        }
         | CheckerError::ConstraintViolated { inst, op, alloc }
         | CheckerError::AllocationIsNotReg { inst, op, alloc }
         | CheckerError::AllocationIsNotFixedReg { inst, op, alloc }
         | CheckerError::AllocationIsNotStack { inst, op, alloc } => {
             operand_head(judged, number, *inst, *op, *alloc, none, 0)
         }
-        CheckerError::AllocationIsNotReuse { inst, op, alloc, expected_alloc } => {
-            operand_head(judged, number, *inst, *op, *alloc, *expected_alloc, 0)
-        }
+        CheckerError::AllocationIsNotReuse {
+            inst,
+            op,
+            alloc,
+            expected_alloc,
+        } => { operand_head(judged, number, *inst, *op, *alloc, *expected_alloc, 0) }
         CheckerError::StackToStackMove { into, from } => {
             [number, NONE, NONE, 0, 0, into.bits(), from.bits(), 0]
         }
-        CheckerError::AllocationOutsideLimit { inst, op, alloc, range } => {
-            operand_head(judged, number, *inst, *op, *alloc, none, word_of(range.end))
-        }
+        CheckerError::AllocationOutsideLimit {
+            inst,
+            op,
+            alloc,
+            range,
+        } => { operand_head(judged, number, *inst, *op, *alloc, none, word_of(range.end)) }
         CheckerError::MalformedOutput | CheckerError::Memory => {
             [number, NONE, NONE, 0, 0, 0, 0, 0]
         }

@@ -10,9 +10,8 @@ use Rattle.regalloc2_names.specs.Place.{Place}
 use Rattle.regalloc2_function.specs.FunctionValue.{FunctionValue, inst_at}
 use Rattle.regalloc2_function.specs.Machine.{MachineValue}
 use Rattle.regalloc2_function.specs.OutputValue.{OutputValue, MoveValue, allocs_of, place_at}
-use Rattle.regalloc2_function.specs.Path.{Location}
-use Rattle.regalloc2_function.specs.AllocatedRun.{moves_at}
-use Rattle.regalloc2_function.specs.Held.{Holds}
+use Rattle.regalloc2_semantics.specs.Runs.{Location, moves_at}
+use Rattle.regalloc2_semantics.specs.Faithful.{Holds}
 use Rattle.regalloc2_checker.specs.declared.errors.CheckerError.{CheckerError}
 use Rattle.regalloc2_checker.specs.Facts.{Facts, facts_early, facts_after, facts_after_moves, facts_after_early_defs, facts_for}
 use Rattle.regalloc2_checker.specs.CheckInputs.{AreFactsKnown}

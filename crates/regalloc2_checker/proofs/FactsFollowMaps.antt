@@ -5,21 +5,18 @@ use Rattle.std.proofs.lemmas.Bool.{and_parts}
 use Rattle.regalloc2_names.specs.declared.OperandPos.{OperandPos}
 use Rattle.regalloc2_names.specs.declared.OperandPos.TheVariants.{Early, Late}
 use Rattle.regalloc2_names.specs.declared.sets.PRegSet.{PRegSet}
-use Rattle.regalloc2_names.specs.Register.{VirtualRegister, is_vreg}
-use Rattle.regalloc2_names.specs.RegisterSet.{has_register}
+use Rattle.regalloc2_names.specs.Register.{VirtualRegister, is_vreg, has_register}
 use Rattle.regalloc2_names.specs.Operand.{OperandValue, is_def, is_late}
 use Rattle.regalloc2_names.specs.Place.{Place, NoPlace, InRegister, InSlot, is_place}
 use Rattle.regalloc2_function.specs.FunctionValue.{FunctionValue, inst_at}
 use Rattle.regalloc2_function.specs.OutputValue.{OutputValue, MoveValue, place_at}
-use Rattle.regalloc2_function.specs.Path.{Way, Onward, ToSuccessor, Location, end_of}
-use Rattle.regalloc2_function.specs.SourceRun.{Stamp, Source, assigned, after_defs, passed, over_edge, source_before, source_after, read_of}
-use Rattle.regalloc2_function.specs.AllocatedRun.{Cells, stored, after_moves, after_early_defs, after_writes, after_clobbers, cells_early, cells_late}
-use Rattle.regalloc2_function.specs.AllocatedRun.{cells_before}
-use Rattle.regalloc2_function.specs.Held.{cell_at}
-use Rattle.regalloc2_function.specs.Laws.{SourceIsEarlier, CellsAreEarlier}
-use Rattle.regalloc2_checker.specs.Facts.{Facts, is_stamp, same_write, facts_of, placed, defined, facts_after_moves, facts_after_early_defs}
-use Rattle.regalloc2_checker.specs.Facts.{facts_after_defs, facts_after_clobbers, renaming, facts_over_edge, facts_early, facts_late, facts_after}
-use Rattle.regalloc2_checker.specs.Facts.{facts_for, true_facts}
+use Rattle.regalloc2_semantics.specs.Runs.{Way, Onward, ToSuccessor, Location, end_of, Stamp, Source, assigned, after_defs, passed, over_edge, source_before}
+use Rattle.regalloc2_semantics.specs.Runs.{source_after, read_of, Cells, stored, after_moves, after_early_defs, after_writes, after_clobbers, cells_early}
+use Rattle.regalloc2_semantics.specs.Runs.{cells_late, cells_before}
+use Rattle.regalloc2_semantics.specs.Faithful.{cell_at}
+use Rattle.regalloc2_semantics.specs.Laws.{SourceIsEarlier, CellsAreEarlier}
+use Rattle.regalloc2_checker.specs.Facts.{Facts, is_stamp, same_write, facts_of, placed, defined, facts_after_moves, facts_after_early_defs, facts_after_defs}
+use Rattle.regalloc2_checker.specs.Facts.{facts_after_clobbers, renaming, facts_over_edge, facts_early, facts_late, facts_after, facts_for, true_facts}
 
 -- one write
 

@@ -5,8 +5,7 @@ use Rattle.regalloc2_names.specs.Register.{VirtualRegister}
 use Rattle.regalloc2_names.specs.Place.{Place}
 use Rattle.regalloc2_function.specs.FunctionValue.{FunctionValue, block_at}
 use Rattle.regalloc2_function.specs.OutputValue.{OutputValue}
-use Rattle.regalloc2_function.specs.Path.{Way, Onward, ToSuccessor, Location, first_of, next_of, end_of, HasWay, IsPath}
-use Rattle.regalloc2_function.specs.Held.{IsReached}
+use Rattle.regalloc2_semantics.specs.Runs.{Way, Onward, ToSuccessor, Location, first_of, next_of, end_of, HasWay, IsPath, IsReached}
 use Rattle.regalloc2_checker.specs.Facts.{Facts, facts_over_edge, facts_after, true_facts, Origin, Told, Held, judged, IsTraced}
 use Rattle.regalloc2_checker.specs.Fixpoint.{nth_of, IsReachedBlock, facts_within, IsRefuted, IsFixpoint}
 use Rattle.regalloc2_checker.proofs.FactsTraced.{traced-after, traced-edge, change-fewer}

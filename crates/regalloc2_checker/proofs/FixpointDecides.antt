@@ -10,15 +10,12 @@ use Rattle.regalloc2_names.specs.Place.{Place}
 use Rattle.regalloc2_function.specs.FunctionValue.{FunctionValue, block_at, inst_at}
 use Rattle.regalloc2_function.specs.Machine.{MachineValue}
 use Rattle.regalloc2_function.specs.OutputValue.{OutputValue, allocs_of, place_at}
-use Rattle.regalloc2_function.specs.Path.{Way, Onward, ToSuccessor, Location, end_of, IsPath, last_inst}
-use Rattle.regalloc2_function.specs.SourceRun.{source_before, source_after, read_of}
-use Rattle.regalloc2_function.specs.AllocatedRun.{moves_at}
-use Rattle.regalloc2_function.specs.Faithful.{ReadsAgree, ConstraintsMet, IsStackToStack, IsFaithful}
-use Rattle.regalloc2_function.specs.Held.{cell_at}
+use Rattle.regalloc2_semantics.specs.Runs.{Way, Onward, ToSuccessor, Location, end_of, IsPath, last_inst, source_before, source_after, read_of, moves_at}
+use Rattle.regalloc2_semantics.specs.Faithful.{ReadsAgree, ConstraintsMet, IsStackToStack, IsFaithful, cell_at}
 use Rattle.regalloc2_function.specs.WellFormed.{IsFramed}
 use Rattle.regalloc2_checker.specs.Facts.{Facts, facts_for, true_facts, same_write}
-use Rattle.regalloc2_checker.specs.Fixpoint.{nth_of, IsReachedBlock, facts_within, IsFixpoint, IsRefutedElsewhere, IsAcceptedInst, AllAccepted}
-use Rattle.regalloc2_checker.specs.Fixpoint.{FactsAreHeld, FactsHoldBefore, AcceptedIsFaithful}
+use Rattle.regalloc2_checker.specs.Fixpoint.{nth_of, IsReachedBlock, facts_within, IsFixpoint, IsRefutedElsewhere, IsAcceptedInst, AllAccepted, FactsAreHeld}
+use Rattle.regalloc2_checker.specs.Fixpoint.{FactsHoldBefore, AcceptedIsFaithful}
 use Rattle.regalloc2_checker.proofs.FactsTraced.{traced-for, change-fewer}
 use Rattle.regalloc2_checker.proofs.FactsFollowMaps.{AreEarlier, true_facts-read, same_write-true, same_write-same}
 use Rattle.regalloc2_checker.proofs.Fixpoint.{reached_block, from_first, covered, refuted_change, located, reached_within, refuted_within}

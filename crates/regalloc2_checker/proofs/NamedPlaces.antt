@@ -1,11 +1,11 @@
 -- The places that an output and the clobbers name, and their bits.
-use Rattle.std.proofs.Common.{ℕ, zero, suc, ◌≡◌, ◌≢◌, ◌+◌, ◌-◌, ◌<◌, ◌≤◌, inl, inr, arith, Bool, true, false, ◌||◌}
-use Rattle.std.proofs.Common.{List, [], ◌∷◌, ◌++◌, length, get_or, take, drop, map, refl, sym, ap, ◌∙◌, subst}
+use Rattle.std.proofs.Common.{ℕ, zero, suc, ◌≡◌, ◌≢◌, ◌+◌, ◌-◌, ◌<◌, ◌≤◌, inl, inr, arith, Bool, true, false, ◌||◌, List, [], ◌∷◌, ◌++◌, length, get_or, take}
+use Rattle.std.proofs.Common.{drop, map, refl, sym, ap, ◌∙◌, subst}
 use Rattle.std.specs.Prelude.{◌⊎◌, ◌↔◌, All, Contains}
 use Rattle.std.specs.List.{flat_map}
 use Rattle.std.specs.List.Sorted.{IsStrictlyIncreasing}
-use Rattle.std.proofs.lemmas.List.Elements.{Contains-append_left, Contains-append_right, Contains-append_cases, Contains-get_or}
-use Rattle.std.proofs.lemmas.List.Elements.{All-map, All-filter, All-take, All-drop, All-contains_itself, All-weaker}
+use Rattle.std.proofs.lemmas.List.Elements.{Contains-append_left, Contains-append_right, Contains-append_cases, Contains-get_or, All-map, All-filter}
+use Rattle.std.proofs.lemmas.List.Elements.{All-take, All-drop, All-contains_itself, All-weaker}
 use Rattle.std.proofs.lemmas.Bool.{cases_lt, cases_Bool, or_right}
 use Rattle.std.proofs.lemmas.List.{get_or_default, take_more, take_all}
 use Rattle.std.proofs.lemmas.Grind.{flat_map-append}
@@ -13,13 +13,11 @@ use Rattle.std.proofs.lemmas.List.Folds.{flat_map-map}
 use Rattle.regalloc2_names.specs.declared.sets.PRegSet.{PRegSet}
 use Rattle.regalloc2_names.specs.Place.{Place, NoPlace, InRegister, InSlot, is_no_place}
 use Rattle.regalloc2_names.specs.PlaceBits.{bits_of_place}
-use Rattle.regalloc2_names.specs.Register.{Register}
-use Rattle.regalloc2_names.specs.RegisterSet.{has_register, registers_of}
+use Rattle.regalloc2_names.specs.Register.{Register, has_register, registers_of}
 use Rattle.regalloc2_names.specs.Listed.{is_listed, listed_is}
 use Rattle.regalloc2_function.specs.FunctionValue.{FunctionValue, InstValue, inst_at, no_inst}
 use Rattle.regalloc2_function.specs.OutputValue.{OutputValue, MoveValue, allocs_of, alloc_start, alloc_end}
-use Rattle.regalloc2_function.specs.Path.{Location}
-use Rattle.regalloc2_function.specs.AllocatedRun.{moves_at}
+use Rattle.regalloc2_semantics.specs.Runs.{Location, moves_at}
 use Rattle.regalloc2_function.specs.declared.listing.Edit.{Edit}
 use Rattle.regalloc2_function.specs.Views.{edit_of, move_of}
 use Rattle.regalloc2_checker.proofs.Members.{only_item}

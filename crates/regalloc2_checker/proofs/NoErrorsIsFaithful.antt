@@ -1,6 +1,5 @@
 -- An output without errors is a faithful one.
-use Rattle.std.proofs.Common.{ℕ, zero, suc, ◌≡◌, ◌+◌, ◌-◌, ◌<◌, ◌≤◌, inl, inr, true, List, [], ◌∷◌, ◌++◌, length, refl, sym, ap, ◌∙◌, subst}
-use Rattle.std.proofs.Common.{arith}
+use Rattle.std.proofs.Common.{ℕ, zero, suc, ◌≡◌, ◌+◌, ◌-◌, ◌<◌, ◌≤◌, inl, inr, true, List, [], ◌∷◌, ◌++◌, length, refl, sym, ap, ◌∙◌, subst, arith}
 use Rattle.std.specs.Prelude.{◌↔◌, All, Option, None, Some, IsSome}
 use Rattle.std.specs.Option.{option_to_list}
 use Rattle.std.proofs.lemmas.Bool.{cases_lt}
@@ -16,11 +15,8 @@ use Rattle.regalloc2_names.specs.Place.{Place, NoPlace, InRegister, InSlot}
 use Rattle.regalloc2_function.specs.FunctionValue.{FunctionValue, block_at, inst_at}
 use Rattle.regalloc2_function.specs.Machine.{MachineValue}
 use Rattle.regalloc2_function.specs.OutputValue.{OutputValue, MoveValue, allocs_of, place_at}
-use Rattle.regalloc2_function.specs.Path.{Way, Location, end_of, IsPath}
-use Rattle.regalloc2_function.specs.SourceRun.{source_read}
-use Rattle.regalloc2_function.specs.AllocatedRun.{moves_at, allocated_read}
-use Rattle.regalloc2_function.specs.Faithful.{Meets, IsStackToStack, StepIsFaithful, IsFaithful}
-use Rattle.regalloc2_function.specs.Held.{Holds, IsReached, cell_at}
+use Rattle.regalloc2_semantics.specs.Runs.{Way, Location, end_of, IsPath, source_read, moves_at, allocated_read, IsReached}
+use Rattle.regalloc2_semantics.specs.Faithful.{Meets, IsStackToStack, StepIsFaithful, IsFaithful, Holds, cell_at}
 use Rattle.regalloc2_function.specs.WellFormed.{IsFramed}
 use Rattle.regalloc2_checker.specs.declared.errors.CheckerError.{CheckerError}
 use Rattle.regalloc2_checker.specs.Fixpoint.{IsReachedBlock, nth_of}

@@ -1,6 +1,6 @@
 -- What the check of operands finds.
-use Rattle.std.proofs.Common.{ℕ, ◌≡◌, ◌≢◌, ◌+◌, ◌<◌, ◌≤◌, Bool, true, false, refl, arith, sym, ap, ◌∙◌, subst, List, [], ◌∷◌, ◌++◌, append_assoc, map}
-use Rattle.std.proofs.Common.{take, length, get_or, inl, inr}
+use Rattle.std.proofs.Common.{ℕ, ◌≡◌, ◌≢◌, ◌+◌, ◌<◌, ◌≤◌, Bool, true, false, refl, arith, sym, ap, ◌∙◌, subst, List, [], ◌∷◌, ◌++◌, append_assoc, map, take}
+use Rattle.std.proofs.Common.{length, get_or, inl, inr}
 use Rattle.std.specs.Prelude.{◌↔◌, IsTrue, Contains, Option, None, Some, MatchOption}
 use Rattle.std.specs.Option.{is_some}
 use Rattle.std.specs.declared.vec.Vec.{Vec}
@@ -14,12 +14,12 @@ use Rattle.regalloc2_function.specs.declared.listing.Edit.{Edit}
 use Rattle.regalloc2_checker.specs.Listing.{listed_move}
 use Rattle.regalloc2_function.specs.Machine.{MachineValue}
 use Rattle.regalloc2_function.specs.OutputValue.{MoveValue, place_at}
-use Rattle.regalloc2_function.specs.Faithful.{Meets, IsStackToStack}
+use Rattle.regalloc2_semantics.specs.Faithful.{Meets, IsStackToStack}
 use Rattle.regalloc2_checker.specs.declared.errors.CheckerError.{CheckerError}
 use Rattle.regalloc2_checker.specs.declared.errors.CheckerError.TheVariants.{MissingAllocation, UnknownValueInAllocation, IncorrectValuesInAllocation}
 use Rattle.regalloc2_checker.specs.declared.errors.CheckerError.TheVariants.{StackToStackMove}
-use Rattle.regalloc2_checker.specs.Report.{invalid_operand, operand_at, AreVRegsInValue, IsValueFault, IsConstraintFault, IsFineAt, IsFaultAt}
-use Rattle.regalloc2_checker.specs.Report.{AreFineBelow, AreOperandsJudged, AreMoveFaults}
+use Rattle.regalloc2_checker.specs.Report.{invalid_operand, operand_at, AreVRegsInValue, IsValueFault, IsConstraintFault, IsFineAt, IsFaultAt, AreFineBelow}
+use Rattle.regalloc2_checker.specs.Report.{AreOperandsJudged, AreMoveFaults}
 use Rattle.regalloc2_checker.specs.Report.IsValueFault.{unknown, incorrect}
 use Rattle.regalloc2_checker.specs.Report.IsOperandFault.{missing, of_value, of_constraint}
 use Rattle.regalloc2_checker.specs.Report.AreMoveFaults.{none, fault, fine}

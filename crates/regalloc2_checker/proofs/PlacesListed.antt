@@ -9,9 +9,8 @@ use Rattle.std.proofs.lemmas.Grind.{flat_map-append}
 use Rattle.regalloc2_names.specs.declared.sets.PRegSet.{PRegSet}
 use Rattle.regalloc2_names.specs.Place.{Place, NoPlace, InRegister, InSlot, is_no_place, is_in_slot, register_of_place}
 use Rattle.regalloc2_names.specs.PlaceBits.{bits_of_place}
-use Rattle.regalloc2_names.specs.Register.{Register, is_register}
+use Rattle.regalloc2_names.specs.Register.{Register, is_register, has_register, registers_of}
 use Rattle.regalloc2_names.specs.Same.{is_register-true, is_register-same}
-use Rattle.regalloc2_names.specs.RegisterSet.{has_register, registers_of}
 use Rattle.regalloc2_names.specs.Listed.{is_listed, listed_is}
 use Rattle.regalloc2_checker.specs.NamedBits.{ArePlacesAdded}
 use Rattle.regalloc2_checker.specs.NamedPlaces.{bits_unless_missing}

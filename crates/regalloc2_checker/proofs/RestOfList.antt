@@ -1,14 +1,13 @@
 -- What is left of a list of moves, operands or parameters after one more.
-use Rattle.std.proofs.Common.{◌≡◌, ℕ, suc, ◌+◌, ◌-◌, ◌<◌, ◌≤◌, List, [], ◌∷◌, ◌++◌, Bool, length, get_or, take, drop, map, refl, sym, ap}
-use Rattle.std.proofs.Common.{◌∙◌, subst, arith, cond, true, false, inl, inr, zero}
+use Rattle.std.proofs.Common.{◌≡◌, ℕ, suc, ◌+◌, ◌-◌, ◌<◌, ◌≤◌, List, [], ◌∷◌, ◌++◌, Bool, length, get_or, take, drop, map, refl, sym, ap, ◌∙◌, subst, arith}
+use Rattle.std.proofs.Common.{cond, true, false, inl, inr, zero}
 use Rattle.std.specs.Prelude.{◌&&◌, ◌⊎◌, not, min, Contains, All}
 use Rattle.std.specs.declared.vec.Vec.{Vec}
 use Rattle.std.proofs.Math.Seq.{drop-cons}
 use Rattle.std.proofs.Math.ListN.{length-append}
 use Rattle.std.proofs.lemmas.List.{drop_all, get_or_default, get_or_append_left, get_or-append_right, take_more}
 use Rattle.std.proofs.lemmas.Bool.{cases_lt}
-use Rattle.regalloc2_names.specs.Register.{VirtualRegister, Register, is_vreg}
-use Rattle.regalloc2_names.specs.RegisterSet.{has_register}
+use Rattle.regalloc2_names.specs.Register.{VirtualRegister, Register, is_vreg, has_register}
 use Rattle.regalloc2_names.specs.Listed.{IsWalkOf}
 use Rattle.regalloc2_names.specs.declared.sets.PRegSet.{PRegSet}
 use Rattle.regalloc2_names.specs.Place.{Place, NoPlace, InRegister, InSlot, is_place}

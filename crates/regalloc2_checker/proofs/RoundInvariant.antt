@@ -1,13 +1,12 @@
 -- What passing on over edges keeps, and what it leaves at the end.
-use Rattle.std.proofs.Common.{ℕ, ◌≡◌, ◌+◌, ◌-◌, ◌<◌, inl, inr, arith, true, false, List, [], ◌∷◌, length, refl, sym, ap}
-use Rattle.std.proofs.Common.{◌∙◌, subst}
+use Rattle.std.proofs.Common.{ℕ, ◌≡◌, ◌+◌, ◌-◌, ◌<◌, inl, inr, arith, true, false, List, [], ◌∷◌, length, refl, sym, ap, ◌∙◌, subst}
 use Rattle.std.specs.Prelude.{◌&&◌, slice_index}
 use Rattle.std.proofs.lemmas.Bool.{cases_Bool, cases_eq, and_cases, and_left}
 use Rattle.regalloc2_names.specs.Register.{VirtualRegister}
 use Rattle.regalloc2_names.specs.Place.{Place}
 use Rattle.regalloc2_function.specs.FunctionValue.{FunctionValue, block_at}
 use Rattle.regalloc2_function.specs.OutputValue.{OutputValue}
-use Rattle.regalloc2_function.specs.Path.{Way, Onward, ToSuccessor, Location, first_of, next_of, end_of, HasWay, IsPath}
+use Rattle.regalloc2_semantics.specs.Runs.{Way, Onward, ToSuccessor, Location, first_of, next_of, end_of, HasWay, IsPath}
 use Rattle.regalloc2_function.specs.WellFormed.{IsFramed}
 use Rattle.regalloc2_checker.specs.Facts.{Facts, IsTraced, facts_over_edge, facts_after, true_facts}
 use Rattle.regalloc2_checker.specs.Fixpoint.{nth_of, IsReachedBlock, facts_within, facts_passed, IsRefuted}

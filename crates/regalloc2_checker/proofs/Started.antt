@@ -1,6 +1,6 @@
 -- What is known at first: the entry alone is reached, and nothing holds there.
-use Rattle.std.proofs.Common.{ℕ, zero, suc, ◌≡◌, ◌<◌, ◌≤◌, inl, inr, arith, Bool, true, false, nat_eq}
-use Rattle.std.proofs.Common.{eq-eqb, eqb-true, ne_eqb, List, [], ◌∷◌, length, get_or, set, refl, sym, ap, ◌∙◌, subst}
+use Rattle.std.proofs.Common.{ℕ, zero, suc, ◌≡◌, ◌<◌, ◌≤◌, inl, inr, arith, Bool, true, false, nat_eq, eq-eqb, eqb-true, ne_eqb, List, [], ◌∷◌, length}
+use Rattle.std.proofs.Common.{get_or, set, refl, sym, ap, ◌∙◌, subst}
 use Rattle.std.specs.declared.cmp.Reverse.{Reverse}
 use Rattle.std.proofs.lemmas.Bool.{cases_lt, cases_eq}
 use Rattle.std.proofs.lemmas.List.{get_or-set_same, get_or-set_other}
@@ -9,8 +9,7 @@ use Rattle.regalloc2_names.specs.Register.{VirtualRegister}
 use Rattle.regalloc2_names.specs.Place.{Place}
 use Rattle.regalloc2_function.specs.FunctionValue.{FunctionValue}
 use Rattle.regalloc2_function.specs.OutputValue.{OutputValue}
-use Rattle.regalloc2_function.specs.Path.{first_of}
-use Rattle.regalloc2_function.specs.AllocatedRun.{cells_before}
+use Rattle.regalloc2_semantics.specs.Runs.{first_of, cells_before}
 use Rattle.regalloc2_checker.specs.Showing.{Showing, shows_in}
 use Rattle.regalloc2_checker.specs.Fixpoint.{IsReachedBlock, IsRefuted}
 use Rattle.regalloc2_checker.specs.Facts.{Facts}

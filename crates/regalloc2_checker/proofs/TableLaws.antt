@@ -238,7 +238,7 @@ load-all t h f k a s ec same el now =
     let long = a.long in
     let more : AreMore t.sets t.sets = record { longer = omega arith; kept = λ n y l. refl } in
     let in_table : (P : ℕ → ℕ → Type 0) → ((i y : ℕ) → IsSavedHome t.vregs h i y → P i y) → (n : ℕ) (g : ℕ → ℕ) →
-        ((i : ℕ) → i < length t.entries.cells → g i ≡ saved_number t.entries n i) → AreEntries t.sets P (length f.cells) (length t.places) g =
+    ((i : ℕ) → i < length t.entries.cells → g i ≡ saved_number t.entries n i) → AreEntries t.sets P (length f.cells) (length t.places) g =
     λ P at n g q. subst (λ (m : ℕ). AreEntries t.sets P m (length t.places) g) (sym el)
     (entries-as t.sets P (length t.entries.cells) (length t.places) (saved_number t.entries n) g (entries-within t a) q
     (entries-more t.sets t.sets (IsSavedHome t.vregs t.homes) P _ _ (saved_number t.entries n) (entries-within t a) more

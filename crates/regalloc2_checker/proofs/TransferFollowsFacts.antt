@@ -1,6 +1,5 @@
 -- A walk over instructions makes the facts of them.
-use Rattle.std.proofs.Common.{ℕ, ◌≡◌, ◌+◌, ◌-◌, ◌<◌, ◌≤◌, List, length, get_or, map, refl, arith, sym, ap}
-use Rattle.std.proofs.Common.{◌∙◌}
+use Rattle.std.proofs.Common.{ℕ, ◌≡◌, ◌+◌, ◌-◌, ◌<◌, ◌≤◌, List, length, get_or, map, refl, arith, sym, ap, ◌∙◌}
 use Rattle.std.specs.Prelude.{slice_index}
 use Rattle.regalloc2_names.specs.declared.sets.PRegSet.{PRegSet}
 use Rattle.regalloc2_names.specs.Register.{VirtualRegister}
@@ -8,18 +7,15 @@ use Rattle.regalloc2_names.specs.Operand.{OperandValue}
 use Rattle.regalloc2_names.specs.Place.{Place}
 use Rattle.regalloc2_function.specs.FunctionValue.{FunctionValue, block_at, inst_at}
 use Rattle.regalloc2_function.specs.OutputValue.{OutputValue, MoveValue, allocs_of}
-use Rattle.regalloc2_function.specs.Path.{Location}
-use Rattle.regalloc2_function.specs.SourceRun.{arguments_at}
-use Rattle.regalloc2_function.specs.AllocatedRun.{moves_at}
+use Rattle.regalloc2_semantics.specs.Runs.{Location, arguments_at, moves_at}
 use Rattle.regalloc2_function.specs.declared.listing.Edit.{Edit}
-use Rattle.regalloc2_checker.specs.Listing.{listed_move, edits_in, listed_output}
+use Rattle.regalloc2_checker.specs.Listing.{listed_move, edits_in, listed_output, IsListing}
 use Rattle.regalloc2_checker.specs.Showing.{Showing}
 use Rattle.regalloc2_checker.specs.declared.listing.Listed.{Listed}
 use Rattle.regalloc2_checker.specs.declared.listing.Listing.{Listing}
-use Rattle.regalloc2_checker.specs.Facts.{Facts, facts_after, facts_after_moves}
-use Rattle.regalloc2_checker.specs.Facts.{facts_after_early_defs, facts_after_defs, facts_after_clobbers, facts_over_edge}
+use Rattle.regalloc2_checker.specs.Facts.{Facts, facts_after, facts_after_moves, facts_after_early_defs, facts_after_defs, facts_after_clobbers}
+use Rattle.regalloc2_checker.specs.Facts.{facts_over_edge}
 use Rattle.regalloc2_checker.specs.Fixpoint.{facts_within}
-use Rattle.regalloc2_checker.specs.Listing.{IsListing}
 use Rattle.regalloc2_checker.specs.Propagation.{over}
 use Rattle.regalloc2_checker.specs.Renamed.{facts_renamed}
 use Rattle.regalloc2_checker.specs.TableFacts.{AreNamed}

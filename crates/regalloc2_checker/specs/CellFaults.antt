@@ -4,7 +4,7 @@ use Rattle.regalloc2_names.specs.declared.RegClass.{RegClass}
 use Rattle.regalloc2_function.specs.FunctionValue.{FunctionValue, inst_at}
 use Rattle.regalloc2_function.specs.Machine.{MachineValue}
 use Rattle.regalloc2_function.specs.OutputValue.{OutputValue, allocs_of, place_at}
-use Rattle.regalloc2_function.specs.Fitting.{IsProperPlace, IsMoveEnd}
+use Rattle.regalloc2_semantics.specs.Places.{IsProperPlace, IsMoveEnd}
 use Rattle.regalloc2_checker.specs.Cells.{operand_of, move_of_index, location_of_index, IsOperandCell, IsWithinClass, IsSlotTaken, IsInFrame, AreUnitsApart}
 use Rattle.regalloc2_checker.specs.declared.cells.CellFault.{CellFault}
 use Rattle.regalloc2_checker.specs.declared.cells.CellFault.TheVariants.{Operand, MoveEnd, OtherClass, Location, Slot, Shared, Memory}

@@ -8,7 +8,7 @@ use Rattle.regalloc2_names.specs.Place.{Place, NoPlace, InRegister, InSlot}
 use Rattle.regalloc2_function.specs.FunctionValue.{FunctionValue, inst_at, slot_size}
 use Rattle.regalloc2_function.specs.Machine.{MachineValue}
 use Rattle.regalloc2_function.specs.OutputValue.{OutputValue, MoveValue, allocs_of, place_at}
-use Rattle.regalloc2_function.specs.Fitting.{IsProperPlace, IsMoveEnd}
+use Rattle.regalloc2_semantics.specs.Places.{IsProperPlace, IsMoveEnd}
 use Rattle.regalloc2_checker.specs.Report.{invalid_operand}
 
 -- the operand of an instruction by its index, its place, the move of an index, and the place of a debug location

@@ -2,7 +2,7 @@
 use Rattle.std.specs.Prelude.{ℕ, ◌≡◌, ◌+◌, ◌<◌, ◌≤◌, List, [], ◌∷◌, ◌++◌, length, get_or, map}
 use Rattle.regalloc2_function.specs.FunctionValue.{FunctionValue, block_at}
 use Rattle.regalloc2_function.specs.OutputValue.{OutputValue}
-use Rattle.regalloc2_function.specs.AllocatedRun.{moves_at}
+use Rattle.regalloc2_semantics.specs.Runs.{moves_at}
 use Rattle.regalloc2_function.specs.declared.listing.Edit.{Edit}
 use Rattle.regalloc2_checker.specs.declared.listing.Listed.{Listed}
 use Rattle.regalloc2_checker.specs.Listing.{listed_move, edits_in, IsPart}

@@ -3,7 +3,7 @@ use Rattle.std.specs.Prelude.{ℕ, List, [], ◌∷◌, ◌++◌, map, if◌then
 use Rattle.std.specs.List.{flat_map}
 use Rattle.regalloc2_names.specs.Place.{Place, InRegister, is_no_place}
 use Rattle.regalloc2_names.specs.PlaceBits.{bits_of_place}
-use Rattle.regalloc2_names.specs.RegisterSet.{registers_of}
+use Rattle.regalloc2_names.specs.Register.{registers_of}
 use Rattle.regalloc2_function.specs.FunctionValue.{FunctionValue, InstValue}
 use Rattle.regalloc2_function.specs.OutputValue.{OutputValue, MoveValue}
 

@@ -5,7 +5,7 @@ use Rattle.regalloc2_names.specs.Register.{VirtualRegister}
 use Rattle.regalloc2_names.specs.Place.{Place}
 use Rattle.regalloc2_function.specs.FunctionValue.{FunctionValue, block_at}
 use Rattle.regalloc2_function.specs.OutputValue.{OutputValue}
-use Rattle.regalloc2_function.specs.Path.{ToSuccessor, first_of}
+use Rattle.regalloc2_semantics.specs.Runs.{ToSuccessor, first_of}
 use Rattle.regalloc2_checker.specs.Showing.{Showing, table_count}
 use Rattle.regalloc2_checker.specs.Facts.{Facts, facts_over_edge}
 use Rattle.regalloc2_checker.specs.Fixpoint.{facts_within}

@@ -17,10 +17,8 @@ use Rattle.regalloc2_names.specs.Place.{Place, NoPlace, InRegister, is_in_regist
 use Rattle.regalloc2_function.specs.FunctionValue.{FunctionValue, block_at, inst_at}
 use Rattle.regalloc2_function.specs.Machine.{MachineValue, IsStackPlace, IsPlainRegister}
 use Rattle.regalloc2_function.specs.OutputValue.{OutputValue, MoveValue, allocs_of, place_at}
-use Rattle.regalloc2_function.specs.Path.{Location}
-use Rattle.regalloc2_function.specs.AllocatedRun.{moves_at}
-use Rattle.regalloc2_function.specs.Faithful.{Meets, IsNumberedBelow, IsStackToStack, IsFaithful}
-use Rattle.regalloc2_function.specs.Held.{Holds}
+use Rattle.regalloc2_semantics.specs.Runs.{Location, moves_at}
+use Rattle.regalloc2_semantics.specs.Faithful.{Meets, IsNumberedBelow, IsStackToStack, IsFaithful, Holds}
 use Rattle.regalloc2_function.specs.WellFormed.{IsFramed}
 use Rattle.regalloc2_checker.specs.Fixpoint.{IsReachedBlock, nth_of}
 use Rattle.regalloc2_checker.specs.declared.errors.CheckerError.{CheckerError}

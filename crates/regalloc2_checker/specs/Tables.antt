@@ -4,7 +4,7 @@ use Rattle.regalloc2_names.specs.Register.{VirtualRegister}
 use Rattle.regalloc2_names.specs.Place.{Place}
 use Rattle.regalloc2_function.specs.FunctionValue.{FunctionValue, block_at}
 use Rattle.regalloc2_function.specs.OutputValue.{OutputValue}
-use Rattle.regalloc2_function.specs.Path.{first_of}
+use Rattle.regalloc2_semantics.specs.Runs.{first_of}
 use Rattle.regalloc2_checker.specs.Showing.{Showing, shows_in, table_count}
 use Rattle.regalloc2_checker.specs.Facts.{Facts}
 use Rattle.regalloc2_checker.specs.Fixpoint.{IsReachedBlock, facts_passed, IsRefuted, IsFixpoint, IsRefutedElsewhere}

@@ -20,8 +20,9 @@ use crate::names::{named_places, named_vregs};
 use crate::order::ranks;
 use crate::queue::Queue;
 use crate::transfer_block::transfer_block;
-use regalloc2_function::{Function, Output, finds_earlier_writes};
+use regalloc2_function::{Function, Output};
 use regalloc2_index::Block;
+use regalloc2_semantics::finds_earlier_writes;
 use std::alloc::{AllocError, Allocator};
 use std::collections::BinaryHeap;
 

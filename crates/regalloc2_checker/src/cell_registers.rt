@@ -1,8 +1,7 @@
 //! The registers of a machine in which values may be, as sets.
 
 ghost use Rattle.std.specs.Prelude.{◌≡◌, ◌↔◌, IsTrue};
-ghost use Rattle.regalloc2_names.specs.Register.{Register};
-ghost use Rattle.regalloc2_names.specs.RegisterSet.{has_register};
+ghost use Rattle.regalloc2_names.specs.Register.{Register, has_register};
 ghost use Rattle.regalloc2_names.specs.declared.RegClass.{RegClass};
 ghost use Rattle.regalloc2_function.specs.Machine.{MachineValue, is_allocatable};
 ghost use Rattle.regalloc2_function.specs.Views.{machine_of};

@@ -9,7 +9,7 @@ ghost use Rattle.regalloc2_names.specs.Register.{Register};
 ghost use Rattle.regalloc2_names.specs.declared.RegClass.{RegClass};
 ghost use Rattle.regalloc2_function.specs.FunctionValue.{FunctionValue, inst_at};
 ghost use Rattle.regalloc2_function.specs.Machine.{scratch_of, is_allocatable, IsFixedStackSlot};
-ghost use Rattle.regalloc2_function.specs.Fitting.{IsProperPlace, IsMoveEnd};
+ghost use Rattle.regalloc2_semantics.specs.Places.{IsProperPlace, IsMoveEnd};
 ghost use Rattle.regalloc2_function.specs.OutputValue.{IsInOrder, place_at, allocs_of};
 ghost use Rattle.regalloc2_function.specs.Views.{machine_of, output_of};
 ghost use Rattle.regalloc2_checker.specs.CellRegisters.{AreCellRegisters};

@@ -5,7 +5,7 @@ ghost use Rattle.std.specs.Option.{option_to_list};
 ghost use Rattle.regalloc2_function.specs.FunctionValue.{block_at};
 ghost use Rattle.regalloc2_function.specs.Machine.{MachineValue};
 ghost use Rattle.regalloc2_function.specs.OutputValue.{OutputValue};
-ghost use Rattle.regalloc2_function.specs.Faithful.{IsStackToStack};
+ghost use Rattle.regalloc2_semantics.specs.Faithful.{IsStackToStack};
 ghost use Rattle.regalloc2_names.specs.Operand.{is_reading};
 ghost use Rattle.regalloc2_function.specs.Views.{move_of};
 ghost use Rattle.regalloc2_checker.specs.Facts.{facts_after};

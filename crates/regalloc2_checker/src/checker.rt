@@ -6,7 +6,7 @@ ghost use Rattle.std.proofs.Props.{props};
 ghost use Rattle.regalloc2_function.specs.OutputValue.{OutputValue, IsInOrder};
 ghost use Rattle.regalloc2_function.specs.Views.{output_of, machine_of};
 ghost use Rattle.regalloc2_function.specs.WellFormed.{IsFramed};
-ghost use Rattle.regalloc2_function.specs.Faithful.{IsFaithful};
+ghost use Rattle.regalloc2_semantics.specs.Faithful.{IsFaithful};
 ghost use Rattle.regalloc2_checker.specs.Report.{IsReport};
 ghost use Rattle.regalloc2_checker.specs.FramedIsProp.{framed-once};
 

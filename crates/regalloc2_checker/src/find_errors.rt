@@ -21,9 +21,10 @@ use crate::errors::CheckerError;
 use crate::handle::handle_listing;
 use crate::listing::Listing;
 use crate::sweep::is_clean;
-use regalloc2_function::{Function, MachineEnv, Output, finds_earlier_writes};
+use regalloc2_function::{Function, MachineEnv, Output};
 use regalloc2_index::{Block, Inst};
 use regalloc2_names::PRegSet;
+use regalloc2_semantics::finds_earlier_writes;
 use std::alloc::{AllocError, Allocator};
 
 /// Checks the instructions of `block`, from the facts at its beginning, and adds their errors.

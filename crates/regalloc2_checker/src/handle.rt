@@ -2,7 +2,7 @@
 
 ghost use Rattle.std.specs.Prelude.{◌≡◌, ◌<◌, ◌≤◌, ◌+◌, OnOk, IfOk, length};
 ghost use Rattle.std.specs.List.Sorted.{IsNonDecreasingBy};
-ghost use Rattle.regalloc2_names.specs.Point.{before};
+ghost use Rattle.regalloc2_names.specs.Place.{before};
 ghost use Rattle.regalloc2_function.specs.OutputValue.{IsInOrder};
 ghost use Rattle.regalloc2_function.specs.Views.{output_of};
 ghost use Rattle.regalloc2_function.specs.WellFormed.{IsFramed};

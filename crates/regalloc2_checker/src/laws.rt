@@ -4,7 +4,7 @@ ghost use Rattle.regalloc2_checker.specs.Facts.{FactsAreTraced, FactsAreExact};
 ghost use Rattle.regalloc2_checker.specs.Fixpoint.{FactsAreHeld, FactsHoldBefore, AcceptedIsFaithful};
 ghost use Rattle.regalloc2_checker.specs.Report.{NoneWhereFaithful};
 
-use regalloc2_function::finds_earlier_writes;
+use regalloc2_semantics::finds_earlier_writes;
 use std::alloc::Allocator;
 
 /// A lemma: facts at the blocks' beginnings of which no edge requires more, and of which each missing fact fails on a

@@ -2,7 +2,7 @@
 
 ghost use Rattle.std.specs.Prelude.{◌≡◌, ◌∷◌, [], OnOk, IfOk, map};
 ghost use Rattle.regalloc2_names.specs.Place.{InRegister};
-ghost use Rattle.regalloc2_names.specs.RegisterSet.{registers_of};
+ghost use Rattle.regalloc2_names.specs.Register.{registers_of};
 ghost use Rattle.regalloc2_checker.specs.NamedBits.{ArePlacesAdded};
 
 use crate::number_list::NumberList;
@@ -21,7 +21,7 @@ impl<A: Allocator> Model for PlaceList<A> {
     ghost use Rattle.std.specs.Prelude.{List, ℕ, ◌++◌, map};
     ghost use Rattle.std.specs.List.{flat_map};
     ghost use Rattle.regalloc2_names.specs.Place.{InRegister};
-    ghost use Rattle.regalloc2_names.specs.RegisterSet.{registers_of};
+    ghost use Rattle.regalloc2_names.specs.Register.{registers_of};
     ghost use Rattle.regalloc2_checker.specs.NamedPlaces.{bits_unless_missing};
 
     ghost Value = { List ℕ };

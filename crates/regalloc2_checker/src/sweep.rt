@@ -19,9 +19,10 @@ use crate::check::Judging;
 use crate::edges::Analysis;
 use crate::find_errors::check_block;
 use crate::listing::Listing;
-use regalloc2_function::{Function, Output, finds_earlier_writes};
+use regalloc2_function::{Function, Output};
 use regalloc2_index::Block;
 use regalloc2_names::PRegSet;
+use regalloc2_semantics::finds_earlier_writes;
 use std::alloc::{AllocError, Allocator};
 
 /// How many words tables may take before some are dropped, also in a small function.

@@ -64,8 +64,11 @@ pub grown-listed : (more : List MorePlaces) (grown new : List ℕ) (index : ℕ)
 grown-listed more grown new index e less h = subst (AreGrown more) (sym e) (record {
   within = λ k l. elim (cases_eq k (length grown)) [
     | inl q ↦ omega (arith, less, get_or_push grown index 0 k (sym q))
-    | inr d ↦ omega (arith, get_or_append_left grown (index ∷ []) 0 k (omega (arith, l, d, length-append grown (index ∷ []))),
-        h.within k (omega (arith, l, d, length-append grown (index ∷ []))))
+    | inr d ↦ omega (
+      arith,
+      get_or_append_left grown (index ∷ []) 0 k (omega (arith, l, d, length-append grown (index ∷ []))),
+      h.within k (omega (arith, l, d, length-append grown (index ∷ []))),
+    )
   ];
   others = λ n. elim (h.others n) [
     | inl c ↦ inl (Contains-append_left grown (index ∷ []) n c)

@@ -1,6 +1,6 @@
 -- The places of debug locations: each is one where its label's vreg may be, and so they are as `run` guarantees them.
-use Rattle.std.proofs.Common.{if◌then◌else◌, ℕ, ◌≡◌, ◌≢◌, ◌+◌, ◌<◌, false, inl, inr, List, length, map, nat_eq, refl, sym, ap, ◌∙◌}
-use Rattle.std.proofs.Common.{subst, arith, slice_index, slice_index_or}
+use Rattle.std.proofs.Common.{if◌then◌else◌, ℕ, ◌≡◌, ◌≢◌, ◌+◌, ◌<◌, false, inl, inr, List, length, map, nat_eq, refl, sym, ap, ◌∙◌, subst, arith, slice_index}
+use Rattle.std.proofs.Common.{slice_index_or}
 use Rattle.std.specs.Prelude.{All, None, Option, Some}
 use Rattle.std.proofs.lemmas.Bool.{ne_eqb, and_right}
 use Rattle.std.proofs.lemmas.List.{get_or_default}
@@ -12,12 +12,11 @@ use Rattle.regalloc2_names.specs.Register.{VirtualRegister}
 use Rattle.regalloc2_function.specs.FunctionValue.{FunctionValue, IsLimited, Label, inst_at, no_operand, op_at, op_at as operand_at}
 use Rattle.regalloc2_function.specs.Machine.{MachineValue}
 use Rattle.regalloc2_function.specs.OutputValue.{DebugLocation, OutputValue}
-use Rattle.regalloc2_function.specs.SourceRun.{IsWrittenFirst}
-use Rattle.regalloc2_function.specs.DebugPaths.{HoldsValue as ShowsValue}
-use Rattle.regalloc2_function.specs.DebugPoints.{PassesAt}
-use Rattle.regalloc2_function.specs.Fitting.{IsProperPlace}
+use Rattle.regalloc2_semantics.specs.Runs.{IsWrittenFirst}
+use Rattle.regalloc2_semantics.specs.Debug.{HoldsValue as ShowsValue, PassesAt}
+use Rattle.regalloc2_semantics.specs.Places.{IsProperPlace}
 use Rattle.regalloc2_function.specs.WellFormed.{IsWellFormed}
-use Rattle.regalloc2_semantics.proofs.SingleDef.{Made, made_small}
+use Rattle.regalloc2_carry.proofs.SingleDef.{Made, made_small}
 use Rattle.regalloc2_fastalloc_state.specs.StateParts.{IsSlotOrNone, slot_name}
 use Rattle.regalloc2_analysis.specs.declared.live_ranges.InstOperand.{InstOperand}
 use Rattle.regalloc2_analysis.specs.declared.live_ranges.KeptLabel.{KeptLabel}

@@ -6,19 +6,19 @@ use Rattle.regalloc2_names.specs.declared.RegAllocError.{RegAllocError}
 use Rattle.regalloc2_names.specs.declared.RegAllocError.TheVariants.{SSA, TooManyLiveRegs, TooManyOperands, TooManySpillSlots, Memory}
 use Rattle.regalloc2_function.specs.FunctionValue.{FunctionValue, inst_at, no_inst, no_operand, operand_count}
 use Rattle.regalloc2_function.specs.Machine.{MachineValue}
-use Rattle.regalloc2_function.specs.WellFormed.{FixedAvoidClobbers, IsWellFormed, ReusesAreSound}
-use Rattle.regalloc2_function.specs.Reasons.{HasShape, IsShapeFault, HasSoundness, IsSoundnessFault}
+use Rattle.regalloc2_function.specs.WellFormed.{FixedAvoidClobbers, IsWellFormed, ReusesAreSound, AreUnlimited}
+use Rattle.regalloc2_function.specs.Reasons.{HasShape, IsShapeFault, HasSoundness, IsSoundnessFault, IsFixedFault, IsFunctionFault}
 use Rattle.regalloc2_function.specs.Reasons.IsShapeFault.{apart, critical, operands, outside, unlisted}
 use Rattle.regalloc2_function.specs.Reasons.IsSoundnessFault.{arguments, definitions, elsewhere, livein, open_end}
 use Rattle.regalloc2_function.proofs.ErrorOnlyOutOfMemory.{shape_refused}
 use Rattle.regalloc2_function.proofs.TableDecidesSSA.{only_memory}
-use Rattle.regalloc2_fastalloc_state.specs.Validate.Constraints.{AreUnlimited, IsFixedFault}
 use Rattle.regalloc2_fastalloc_state.specs.Validate.NoLimits.{IsTakenOperand}
 use Rattle.regalloc2_fastalloc_walk.specs.Findings.{AllPassTests}
 use Rattle.regalloc2_fastalloc_state.specs.OutOfResources.{Lacks, IsResourceError}
-use Rattle.regalloc2_fastalloc.specs.ErrorReason.{HasFewOperands, IsValidIfChecked, LacksIfPassed, PassesAllChecks, IsReason, IsRefusal, SomeDoesNotFit, units_at_most}
-use Rattle.regalloc2_fastalloc_state.specs.Validate.Validated.{IsFunctionFault}
-use Rattle.regalloc2_fastalloc_state.specs.Validate.Validated.IsFunctionFault.{memory, misshapen, unsound, clashing}
+use Rattle.regalloc2_fastalloc.specs.ErrorReason.{HasFewOperands, IsValidIfChecked, PassesAllChecks, IsReason, SomeDoesNotFit}
+use Rattle.regalloc2_fastalloc.specs.Survey.{LacksIfPassed, IsRefusal}
+use Rattle.regalloc2_semantics.specs.Places.{units_at_most}
+use Rattle.regalloc2_function.specs.Reasons.IsFunctionFault.{memory, misshapen, unsound, clashing}
 
 -- a well-formed function passes the tests of blocks and edges
 shape_of : (f : FunctionValue) (env : MachineValue) → IsWellFormed env f → HasShape f

@@ -4,25 +4,24 @@ use Rattle.std.proofs.Common.{ℕ, ◌≡◌, ◌≢◌, ◌-◌, ◌<◌, suc, 
 use Rattle.std.specs.Prelude.{All, filter, Option, Some}
 use Rattle.std.proofs.lemmas.Bool.{ne_eqb}
 use Rattle.regalloc2_names.specs.Register.{VirtualRegister}
-use Rattle.regalloc2_names.specs.Place.{Place, NoPlace, InRegister, InSlot}
-use Rattle.regalloc2_names.specs.Point.{after}
-use Rattle.regalloc2_function.specs.DebugPaths.{HoldsValue as ShowsValue}
+use Rattle.regalloc2_names.specs.Place.{Place, NoPlace, InRegister, InSlot, after}
+use Rattle.regalloc2_semantics.specs.Debug.{HoldsValue as ShowsValue}
 use Rattle.regalloc2_function.specs.FunctionValue.{Label, block_at, inst_at}
 use Rattle.regalloc2_function.specs.Fitting.{MachineFits}
 use Rattle.regalloc2_function.specs.OutputValue.{MoveValue, allocs_of}
-use Rattle.regalloc2_function.specs.Path.{Way, end_of, IsPath}
-use Rattle.regalloc2_function.specs.SourceRun.{IsWrittenFirst}
-use Rattle.regalloc2_semantics.specs.BlockByPoints.{block_walked, Rising, EndsQuiet}
-use Rattle.regalloc2_semantics.specs.Blocks.{BlockCarriesOn}
-use Rattle.regalloc2_semantics.specs.Live.{IsLive, HasEntered, HoldsValueAt, LiveStandInPlaces}
+use Rattle.regalloc2_semantics.specs.Runs.{Way, end_of, IsPath, IsWrittenFirst}
+use Rattle.regalloc2_carry.specs.BlockByPoints.{block_walked, Rising, EndsQuiet}
+use Rattle.regalloc2_carry.specs.Blocks.{BlockCarriesOn}
+use Rattle.regalloc2_semantics.specs.Live.{IsLive, HasEntered, HoldsValueAt}
+use Rattle.regalloc2_carry.specs.Live.{LiveStandInPlaces}
 use Rattle.regalloc2_semantics.specs.Laws.{ReadsAgreeOnPaths}
-use Rattle.regalloc2_semantics.proofs.Points.{rising_by}
-use Rattle.regalloc2_semantics.proofs.SingleDef.{Made}
+use Rattle.regalloc2_carry.proofs.Points.{rising_by}
+use Rattle.regalloc2_carry.proofs.SingleDef.{Made}
 use Rattle.regalloc2_semantics.proofs.Soundness.{well_formed_are_sound}
-use Rattle.regalloc2_semantics.proofs.Paths.{blocks_agree_in_places_by_points}
-use Rattle.regalloc2_semantics.proofs.LiveIn.{live_is_used, live_stand_in_places}
+use Rattle.regalloc2_carry.proofs.Paths.{blocks_agree_in_places_by_points}
+use Rattle.regalloc2_carry.proofs.LiveIn.{live_is_used, live_stand_in_places}
 use Rattle.regalloc2_fastalloc_state.specs.Validate.NoLimits.{AreTaken}
-use Rattle.regalloc2_fastalloc_state.specs.Validate.Constraints.{BranchDefinesInPlace}
+use Rattle.regalloc2_function.specs.WellFormed.{BranchDefinesInPlace}
 use Rattle.regalloc2_fastalloc_state.specs.StateParts.{SlotsHaveOneOwner, IsSlotOrNone, slot_name}
 use Rattle.regalloc2_analysis.specs.declared.live_ranges.LiveRange.{LiveRange}
 use Rattle.regalloc2_analysis.specs.LiveRanges.LiveRanges.{IsKeptRange}

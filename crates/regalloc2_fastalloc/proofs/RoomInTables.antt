@@ -7,8 +7,8 @@ use Rattle.regalloc2_names.specs.Register.{VirtualRegister, no_vreg}
 use Rattle.regalloc2_names.specs.Operand.{OperandValue, is_def}
 use Rattle.regalloc2_function.specs.FunctionValue.{FunctionValue, InstValue, block_at, inst_at, no_inst, no_operand, op_at}
 use Rattle.regalloc2_function.specs.WellFormed.{DefinedOnce, IsDefinedBy}
-use Rattle.regalloc2_function.specs.TableLength.{CoversDefinitions}
-use Rattle.regalloc2_semantics.proofs.SingleDef.{defined_small, taken_small}
+use Rattle.regalloc2_function.specs.Inside.TableLength.{CoversDefinitions}
+use Rattle.regalloc2_carry.proofs.SingleDef.{defined_small, taken_small}
 use Rattle.regalloc2_fastalloc_proofs.specs.BlockSteps.{DefinesBelow}
 
 -- an instruction with operands is one of the function's

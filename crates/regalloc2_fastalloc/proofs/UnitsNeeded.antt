@@ -8,12 +8,11 @@ use Rattle.regalloc2_names.specs.declared.RegClass.TheVariants.{Int, Float, Vect
 use Rattle.regalloc2_names.specs.Place.{is_no_place}
 use Rattle.regalloc2_function.specs.FunctionValue.{FunctionValue, slot_size}
 use Rattle.regalloc2_function.specs.OutputValue.{OutputValue}
-use Rattle.regalloc2_fastalloc_state.specs.StateParts.{SpillSlotsValue, SlotsHaveOneOwner, AreUpTo, owners, units_of}
-use Rattle.regalloc2_fastalloc_state.specs.StateParts.{most_units}
+use Rattle.regalloc2_fastalloc_state.specs.StateParts.{SpillSlotsValue, SlotsHaveOneOwner, AreUpTo, owners, units_of, most_units}
 use Rattle.regalloc2_fastalloc_state.specs.OutOfResources.{SlotsExhaustedWith}
-use Rattle.regalloc2_semantics.proofs.Plain.{each_of_three}
+use Rattle.regalloc2_carry.proofs.Plain.{each_of_three}
 use Rattle.regalloc2_fastalloc.specs.Promise.{SlotsAreBounded}
-use Rattle.regalloc2_fastalloc.specs.ErrorReason.{greatest_slot, units_at_most}
+use Rattle.regalloc2_semantics.specs.Places.{greatest_slot, units_at_most}
 
 -- the sizes of a function's slots
 abbrev pub sizes_of : FunctionValue → List ℕ

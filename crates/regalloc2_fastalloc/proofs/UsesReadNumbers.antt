@@ -7,10 +7,9 @@ use Rattle.regalloc2_names.specs.Operand.{OperandValue, is_reading}
 use Rattle.regalloc2_function.specs.FunctionValue.{FunctionValue}
 use Rattle.regalloc2_function.specs.Machine.{MachineValue}
 use Rattle.regalloc2_function.specs.OutputValue.{OutputValue}
-use Rattle.regalloc2_function.specs.Path.{Way, IsPath, last_inst}
-use Rattle.regalloc2_function.specs.SourceRun.{Stamp, source_read}
-use Rattle.regalloc2_function.specs.Faithful.{IsFaithful}
-use Rattle.regalloc2_function.specs.Values.{numbers, reads_from, source_reads}
+use Rattle.regalloc2_semantics.specs.Runs.{Way, IsPath, last_inst, Stamp, source_read}
+use Rattle.regalloc2_semantics.specs.Faithful.{IsFaithful}
+use Rattle.regalloc2_semantics.specs.Values.{numbers, reads_from, source_reads}
 use Rattle.regalloc2_fastalloc.specs.Promise.{ReadsNumbers}
 
 if_read : (b : Bool) (x : Option Stamp) (xs : List (Option Stamp)) → (b ≡ true → IsSome x) → All IsSome xs → All IsSome (cond b (x ∷ xs) xs)

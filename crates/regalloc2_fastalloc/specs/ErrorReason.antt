@@ -1,18 +1,15 @@
--- Why `run` returns an error: the first test that fails, and the first place where it does. The tests are in regalloc2_fastalloc_state/specs/Validate, by
--- the definitions of regalloc2_function/specs.
-use Rattle.std.specs.Prelude.{ℕ, ◌≡◌, ◌+◌, ◌*◌, ◌<◌, ◌≤◌, ◌^◌, ◌⊎◌, max, Bool, true, length}
+-- Why `run` returns an error: the first test that fails, and the first place where it does. The tests are in
+-- regalloc2_function/specs: `WellFormed`, and `Reasons` for the first failure.
+use Rattle.std.specs.Prelude.{ℕ, ◌≡◌, ◌<◌, ◌≤◌, ◌^◌, ◌⊎◌, Bool, true, length}
 use Rattle.regalloc2_names.specs.declared.RegAllocError.{RegAllocError}
 use Rattle.regalloc2_names.specs.declared.RegAllocError.TheVariants.{CritEdge, SSA, BB, Branch, EntryLivein, DisallowedBranchArg, TooManyLiveRegs}
 use Rattle.regalloc2_names.specs.declared.RegAllocError.TheVariants.{TooManyOperands, Unsupported, TooManySpillSlots, Memory}
-use Rattle.regalloc2_names.specs.declared.RegClass.TheVariants.{Int, Float, Vector}
-use Rattle.regalloc2_function.specs.FunctionValue.{FunctionValue, inst_at, operand_count, slot_size}
-use Rattle.regalloc2_function.specs.Fitting.{Fits}
+use Rattle.regalloc2_function.specs.FunctionValue.{FunctionValue, inst_at, operand_count}
+use Rattle.regalloc2_semantics.specs.Fits.{Fits}
 use Rattle.regalloc2_function.specs.Machine.{MachineValue}
-use Rattle.regalloc2_function.specs.WellFormed.{IsWellFormed}
-use Rattle.regalloc2_fastalloc_state.specs.Validate.Constraints.{AreUnlimited, BranchDefinesInPlace, IsUnsupported}
-use Rattle.regalloc2_fastalloc_state.specs.OutOfResources.{Lacks}
-use Rattle.regalloc2_fastalloc_walk.specs.Findings.{AllPassTests}
-use Rattle.regalloc2_fastalloc_state.specs.Validate.Validated.{IsFunctionFault}
+use Rattle.regalloc2_function.specs.WellFormed.{IsWellFormed, AreUnlimited, BranchDefinesInPlace}
+use Rattle.regalloc2_function.specs.Reasons.{IsUnsupported, IsFunctionFault}
+use Rattle.regalloc2_semantics.specs.Places.{units_at_most}
 
 -- The first test needs no memory: fewer than 2^32 operands.
 abbrev pub HasFewOperands : FunctionValue → Type 0
@@ -36,22 +33,6 @@ FailsValidation f env asked e = HasFewOperands f × (asked ≡ true) × (IsWellF
 -- an instruction has too few registers
 abbrev pub SomeDoesNotFit : FunctionValue → MachineValue → Type 0
 SomeDoesNotFit f env = (i : ℕ) × (i < length f.insts) × (Fits f env (inst_at f i) → ⊥)
-
--- how many units the greatest slot takes
-abbrev pub greatest_slot : FunctionValue → ℕ
-greatest_slot f = max (slot_size f.slot_sizes Int) (max (slot_size f.slot_sizes Float) (slot_size f.slot_sizes Vector))
-
--- How many units slots may take: each less than twice its size, since it is aligned; there is one at most for each vreg, and six for the moves of each block.
-abbrev pub units_at_most : FunctionValue → ℕ
-units_at_most f = 2 * greatest_slot f * (f.num_vregs + 6 * length f.blocks)
-
--- an operand test fails, at the first instruction where one does
-abbrev pub IsRefusal : FunctionValue → RegAllocError → Type 0
-IsRefusal f e = (i : ℕ) × (e ≡ Unsupported i) × IsUnsupported f i
-
--- what an allocation lacks, if all instructions pass their tests
-abbrev pub LacksIfPassed : FunctionValue → MachineValue → RegAllocError → Type 0
-LacksIfPassed f env e = AllPassTests f → Lacks (SomeDoesNotFit f env) (2 ^ 24 < units_at_most f) e
 
 -- The reason that an error gives. A well-formed function is refused only for too many operands, an operand or a branch that the allocator rejects, a lack
 -- of registers or slots, or of memory. Not guaranteed: that `Memory` is returned only if memory ran out (it says which tests pass); nor that

@@ -1,29 +1,21 @@
--- What `run` guarantees of its outputs: the main theorem's conclusion. Its terms are in regalloc2_function/specs: paths in Path, what both runs read
--- in SourceRun and AllocatedRun, outputs in OutputValue, faithful ones in Faithful, valid places in Fitting, slots in Slots, numbers in Values.
+-- What `run` guarantees of its outputs: the main theorem's conclusion. Its terms are in regalloc2_semantics/specs,
+-- in reading order: `Runs`, `Faithful`, `Values`, `Places`, `Live`, `Debug`; values of functions, machines and outputs in regalloc2_function/specs.
 use Rattle.std.specs.Prelude.{ℕ, ◌≡◌, ◌<◌, ◌≤◌, ◌^◌, ◌⊎◌, List, All, IsSome, length, slice_index_or, Bool, false, [], nat_eq, ◌≢◌}
-use Rattle.regalloc2_names.specs.Register.{VirtualRegister, Register, no_vreg}
+use Rattle.regalloc2_names.specs.Register.{VirtualRegister, Register, no_vreg, has_register}
 use Rattle.regalloc2_names.specs.Operand.{OperandValue}
-use Rattle.regalloc2_names.specs.Place.{Place, InSlot}
-use Rattle.regalloc2_names.specs.Point.{before}
+use Rattle.regalloc2_names.specs.Place.{Place, InSlot, before}
 use Rattle.std.specs.List.{IsDistinct}
 use Rattle.regalloc2_names.specs.declared.OperandConstraint.TheVariants.{Reg}
 use Rattle.regalloc2_names.specs.declared.RegClass.{RegClass}
-use Rattle.regalloc2_names.specs.RegisterSet.{has_register}
-use Rattle.regalloc2_function.specs.FunctionValue.{FunctionValue, block_at, inst_at, op_at}
-use Rattle.regalloc2_function.specs.Machine.{MachineValue}
+use Rattle.regalloc2_function.specs.FunctionValue.{FunctionValue, block_at, inst_at, op_at, last_of}
+use Rattle.regalloc2_function.specs.Machine.{MachineValue, allocatable_count}
 use Rattle.regalloc2_function.specs.OutputValue.{OutputValue, IsInOrder, allocs_of, place_at}
-use Rattle.regalloc2_function.specs.Path.{Way, end_of, IsPath}
-use Rattle.regalloc2_function.specs.SourceRun.{IsWrittenFirst, arguments_at}
-use Rattle.regalloc2_function.specs.WellFormed.{last_of}
-use Rattle.regalloc2_function.specs.Faithful.{ConstraintsMet, EditsAreListed, HasNoStackToStack, IsFaithful}
-use Rattle.regalloc2_function.specs.DebugPaths.{HoldsValue as ShowsValue}
-use Rattle.regalloc2_function.specs.DebugPoints.{AreDebugLocations}
-use Rattle.regalloc2_function.specs.Fitting.{IsProperPlace, PlacesAreProper, allocatable_count}
-use Rattle.regalloc2_function.specs.Slots.{Owner, OfVReg, OfBranch, IsSlotOf, AreSlotsOwned, StandsInSlot}
-use Rattle.regalloc2_function.specs.Values.{Meaning, SameNumbers, numbers, source_reads}
-use Rattle.regalloc2_analysis.specs.BranchDefs.BranchDefs.{DefinesNumber, IsEdgeInto}
-use Rattle.regalloc2_semantics.specs.Live.{IsLive, HasEntered, HoldsValueAt}
-use Rattle.regalloc2_fastalloc.specs.ErrorReason.{units_at_most}
+use Rattle.regalloc2_semantics.specs.Runs.{Way, end_of, IsPath, IsWrittenFirst, arguments_at}
+use Rattle.regalloc2_semantics.specs.Faithful.{ConstraintsMet, EditsAreListed, HasNoStackToStack, IsFaithful}
+use Rattle.regalloc2_semantics.specs.Debug.{HoldsValue as ShowsValue, AreDebugLocations}
+use Rattle.regalloc2_semantics.specs.Places.{IsProperPlace, PlacesAreProper, Owner, OfVReg, OfBranch, IsSlotOf, AreSlotsOwned, StandsInSlot, units_at_most}
+use Rattle.regalloc2_semantics.specs.Values.{Meaning, SameNumbers, numbers, source_reads}
+use Rattle.regalloc2_semantics.specs.Live.{DefinesNumber, IsEdgeInto, IsLive, HasEntered, HoldsValueAt}
 
 -- on every path each use of the function reads a number, whatever the instructions compute
 abbrev pub ReadsNumbers : FunctionValue → Type 0

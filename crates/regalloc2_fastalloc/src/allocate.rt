@@ -6,8 +6,7 @@ ghost use Rattle.regalloc2_function.specs.Views.{edit_of, machine_of, output_of}
 ghost use Rattle.regalloc2_function.specs.WellFormed.{IsWellFormed};
 ghost use Rattle.regalloc2_function.specs.Fitting.{MachineFits};
 ghost use Rattle.regalloc2_fastalloc.specs.Promise.{IsAllocation};
-ghost use Rattle.regalloc2_fastalloc.specs.ErrorReason.{LacksIfPassed};
-ghost use Rattle.regalloc2_fastalloc.specs.Survey.{IsSurvey};
+ghost use Rattle.regalloc2_fastalloc.specs.Survey.{LacksIfPassed, IsSurvey};
 ghost use Rattle.regalloc2_fastalloc.specs.BeforeSteps.{IsBeforeFilling};
 ghost use Rattle.regalloc2_fastalloc_walk.specs.Findings.{AllPassTests};
 
@@ -15,8 +14,9 @@ use super::debug;
 use super::survey::{Survey, validate_unless_passed};
 use regalloc2_fastalloc_walk::state::State;
 use regalloc2_function::table_length::table_length;
-use regalloc2_function::{Edit, Function, MachineEnv, Output, reads_the_same_numbers};
+use regalloc2_function::{Edit, Function, MachineEnv, Output};
 use regalloc2_names::{Allocation, ProgPoint, RegAllocError};
+use regalloc2_semantics::reads_the_same_numbers;
 use std::alloc::Allocator;
 
 /// The parts of an output beside the places: how many units slots take, the moves as they are

@@ -6,8 +6,7 @@
 
 ghost use Rattle.std.specs.Prelude.{◌≡◌, ◌+◌, ◌<◌, ◌^◌, ◌⊎◌, IfOk, IfErr, IsTrue, OnOk, SomeIff};
 ghost use Rattle.regalloc2_fastalloc_walk.specs.Findings.{AllPassTests};
-ghost use Rattle.regalloc2_fastalloc.specs.ErrorReason.{IsRefusal};
-ghost use Rattle.regalloc2_fastalloc.specs.Survey.{IsSurvey, IsSurveyError};
+ghost use Rattle.regalloc2_fastalloc.specs.Survey.{IsRefusal, IsSurvey, IsSurveyError};
 
 use regalloc2_analysis::live_ranges::marked_labels;
 use regalloc2_fastalloc_state::validate::constraints::validate_operands;

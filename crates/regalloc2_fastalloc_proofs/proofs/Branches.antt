@@ -1,6 +1,6 @@
 -- A branch passes its arguments: each is spilled to its slot, then all are moved in parallel to their parameters' slots.
 -- Read first: `branch_carries` in `BranchCarries`, the theorem for one vreg and any block, with its premises.
--- Depends on `Operands`, `BlockEnd` and `Walk`, and on `SingleDef` and `Soundness` of regalloc2_semantics.
+-- Depends on `Operands`, `BlockEnd` and `Walk`, and on `SingleDef` of regalloc2_carry and `Soundness` of regalloc2_semantics.
 -- Main theorem: `branches_carry` in `BranchInWalk`. In a well-formed function the last instruction of a block, if it
 -- is a branch, carries each used vreg to where it is needed after the block: in its own slot, or in the slot of a
 -- parameter to which it is passed.

@@ -1,6 +1,6 @@
 -- One instruction by itself, with the moves before and after it.
 -- Read first: the record `CarriedBut` in `BoundaryToFirstOperand`: what is known at a boundary between instructions.
--- Depends on `Evictions`, `Operands` and `Moves`, and on `InstCarries` of regalloc2_semantics.
+-- Depends on `Evictions`, `Operands` and `Moves`, and on `InstCarries` of regalloc2_carry.
 -- Main theorem: `carries_by_itself` in `OneInstCarries`. From a state between instructions after it, allocating an instruction
 -- leaves one before it, and its listing carries each known vreg from the places where it is needed before to the places
 -- where it is needed after; after an instruction that ends its block nothing is needed.

@@ -1,6 +1,6 @@
 -- A walk that runs out of registers does so at an instruction that doesn't fit.
 -- Read first: `fits_enough` and `all_wait` in `WaitingOperands`, and `held_ample` in `EnoughAtStart`.
--- Depends on regalloc2_fastalloc_proofs (relations and `Safety`) and on `Fitting` of regalloc2_function.
+-- Depends on regalloc2_fastalloc_proofs (relations and `Safety`) and on `Fits` of regalloc2_semantics.
 -- Main theorem: `walk_stops` in `OutOfRegs`. Its invariant: `HasEnoughRegs` in the specs, as many registers are free
 -- as are needed, and one is reserved for moves. An instruction that fits leaves a register for each operand that waits
 -- (`WaitingOperands`), once fixed registers and clobbers are reserved (`EnoughAtStart`).

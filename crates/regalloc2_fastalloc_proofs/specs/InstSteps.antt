@@ -1,27 +1,25 @@
 -- What the steps of the walk do to the tables, for operands under every constraint but `Limit`.
 -- A relation named after a function of the walk, such as `AddMove`, relates a state to its outcome: the next state, or an error because a register is
 -- missing. In the third person, such as `AddsMove`, it is the case with a next state.
-use Rattle.std.specs.Prelude.{ℕ, ◌≡◌, ◌≢◌, ◌+◌, ◌<◌, ◌⊎◌, Bool, true, false, not, ◌&&◌, ◌||◌, List, [], ◌∷◌, ◌++◌, length, Option, None, Some}
-use Rattle.std.specs.Prelude.{slice_index, slice_index_or, slice_set, ◌-◌, ◌≤◌, nat_eq, is_none, filter, if◌then◌else◌}
+use Rattle.std.specs.Prelude.{ℕ, ◌≡◌, ◌≢◌, ◌+◌, ◌<◌, ◌⊎◌, Bool, true, false, not, ◌&&◌, ◌||◌, List, [], ◌∷◌, ◌++◌, length, Option, None, Some, slice_index}
+use Rattle.std.specs.Prelude.{slice_index_or, slice_set, ◌-◌, ◌≤◌, nat_eq, is_none, filter, if◌then◌else◌}
 use Rattle.regalloc2_names.specs.declared.RegClass.{RegClass}
 use Rattle.regalloc2_names.specs.declared.OperandConstraint.{OperandConstraint}
 use Rattle.regalloc2_names.specs.declared.OperandConstraint.TheVariants.{Any, Reg, Stack, FixedReg, Reuse, Limit}
 use Rattle.regalloc2_names.specs.declared.sets.PRegSet.{PRegSet}
-use Rattle.regalloc2_names.specs.Register.{Register, VirtualRegister, class_code, is_register}
-use Rattle.regalloc2_names.specs.RegisterSet.{has_register, registers_of}
-use Rattle.regalloc2_names.specs.Place.{is_memory, Place, NoPlace, InRegister, InSlot, is_place}
+use Rattle.regalloc2_names.specs.Register.{Register, VirtualRegister, class_code, is_register, has_register, registers_of}
+use Rattle.regalloc2_names.specs.Place.{is_memory, Place, NoPlace, InRegister, InSlot, is_place, before, after}
 use Rattle.regalloc2_names.specs.Operand.{OperandValue, is_def, is_late, is_reading, is_fixed_nonallocatable}
-use Rattle.regalloc2_names.specs.Point.{before, after}
 use Rattle.std.specs.List.{count_by}
-use Rattle.regalloc2_function.specs.Fitting.{is_under_reg}
+use Rattle.regalloc2_semantics.specs.Fits.{is_under_reg}
 use Rattle.regalloc2_function.specs.FunctionValue.{InstValue, op_at}
 use Rattle.regalloc2_function.specs.OutputValue.{MoveValue}
 use Rattle.regalloc2_fastalloc_state.specs.StateParts.{VRegAllocsValue, SpillSlotsValue, alloc_of, vreg_of_preg, SetsAlloc, GetsSpillSlot, slot_name}
 use Rattle.regalloc2_fastalloc_state.specs.StateParts.{needs_scratch_reserve}
 use Rattle.regalloc2_fastalloc_state.specs.Choice.{chosen}
-use Rattle.regalloc2_fastalloc_state.specs.InstRegs.{IsAvailableAt, RemovesAvailable, SameAvailable, awaited_of, free_count}
+use Rattle.regalloc2_fastalloc_state.specs.InstRegs.{IsAvailableAt, RemovesAvailable, SameAvailable, awaited_of, free_count, is_free, is_available_at}
+use Rattle.regalloc2_fastalloc_state.specs.InstRegs.{is_free_throughout}
 use Rattle.regalloc2_fastalloc_state.specs.Positions.{positions_of, both_positions}
-use Rattle.regalloc2_fastalloc_state.specs.InstRegs.{is_free, is_available_at, is_free_throughout}
 use Rattle.regalloc2_fastalloc_state.specs.declared.inst_regs.InstRegs.{InstRegs}
 use Rattle.regalloc2_fastalloc_state.specs.declared.positions.Positions.{Positions}
 use Rattle.regalloc2_fastalloc_state.specs.declared.request.Requirement.{Requirement}

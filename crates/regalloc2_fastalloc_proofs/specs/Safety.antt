@@ -1,12 +1,11 @@
 -- The invariant of the tables along the whole walk, for operands under every constraint but `Limit`.
 use Rattle.std.specs.Prelude.{ℕ, ◌≡◌, ◌≢◌, ◌<◌, ◌⊎◌, true, All, length, slice_index_or, None, Some}
 use Rattle.regalloc2_names.specs.declared.RegClass.{RegClass}
-use Rattle.regalloc2_names.specs.Register.{Register, VirtualRegister, class_code}
-use Rattle.regalloc2_names.specs.RegisterSet.{has_register}
+use Rattle.regalloc2_names.specs.Register.{Register, VirtualRegister, class_code, has_register}
 use Rattle.regalloc2_names.specs.Place.{Place, NoPlace, InRegister, InSlot}
 use Rattle.regalloc2_function.specs.Machine.{MachineValue, is_allocatable, scratch_of, IsFixedStackSlot}
 use Rattle.regalloc2_function.specs.OutputValue.{MoveValue}
-use Rattle.regalloc2_function.specs.Faithful.{IsStackToStack}
+use Rattle.regalloc2_semantics.specs.Faithful.{IsStackToStack}
 use Rattle.regalloc2_fastalloc_state.specs.declared.inst_regs.InstRegs.{InstRegs}
 use Rattle.regalloc2_fastalloc_state.specs.StateParts.{SpillSlotsValue, alloc_of, vreg_of_preg, slot_name, units_of, IsSlotOrNone}
 use Rattle.regalloc2_fastalloc_proofs.specs.InstSteps.{StateValue}

@@ -2,10 +2,9 @@
 use Rattle.std.specs.Prelude.{ℕ, ◌≡◌, ◌≢◌, ◌+◌, ◌-◌, ◌%◌, ◌<◌, ◌≤◌, Bool, true, List, All, Contains, length, slice_index, slice_index_or, if◌then◌else◌}
 use Rattle.regalloc2_names.specs.Register.{VirtualRegister, class_code}
 use Rattle.regalloc2_names.specs.declared.RegClass.{RegClass}
-use Rattle.regalloc2_names.specs.Place.{Place, NoPlace, InRegister, InSlot}
-use Rattle.regalloc2_names.specs.Point.{before}
+use Rattle.regalloc2_names.specs.Place.{Place, NoPlace, InRegister, InSlot, before}
 use Rattle.regalloc2_function.specs.OutputValue.{MoveValue}
-use Rattle.regalloc2_function.specs.Slots.{Owner, OfVReg, OfBranch, class_of_owner}
+use Rattle.regalloc2_semantics.specs.Places.{Owner, OfVReg, OfBranch, class_of_owner}
 use Rattle.regalloc2_fastalloc_state.specs.StateParts.{SpillSlotsValue, slot_name}
 
 -- a slot that was made: its owner and its name

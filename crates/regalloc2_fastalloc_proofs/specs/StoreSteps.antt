@@ -3,15 +3,13 @@ use Rattle.std.specs.Prelude.{ℕ, ◌≡◌, ◌≢◌, ◌<◌, ◌⊎◌, ◌
 use Rattle.regalloc2_names.specs.declared.RegClass.{RegClass}
 use Rattle.regalloc2_names.specs.Register.{Register, VirtualRegister, class_code, no_vreg}
 use Rattle.regalloc2_names.specs.Operand.{OperandValue}
-use Rattle.regalloc2_names.specs.Place.{Place, NoPlace, InRegister, is_memory}
-use Rattle.regalloc2_names.specs.Point.{before}
-use Rattle.regalloc2_function.specs.FunctionValue.{FunctionValue, block_at, inst_at, op_at}
+use Rattle.regalloc2_names.specs.Place.{Place, NoPlace, InRegister, is_memory, before}
+use Rattle.regalloc2_function.specs.FunctionValue.{FunctionValue, block_at, inst_at, op_at, last_of}
 use Rattle.regalloc2_function.specs.OutputValue.{MoveValue}
-use Rattle.regalloc2_function.specs.SourceRun.{arguments_at}
-use Rattle.regalloc2_function.specs.WellFormed.{last_of}
-use Rattle.regalloc2_semantics.specs.Blocks.{target_at}
-use Rattle.regalloc2_semantics.specs.Stores.{Store, store_moves, IsOneOf, AreInOrder}
-use Rattle.regalloc2_analysis.specs.BranchDefs.BranchDefs.{DefinesNumber, IsStoredOperand, IsEdgeInto, fixed_definition}
+use Rattle.regalloc2_semantics.specs.Runs.{arguments_at}
+use Rattle.regalloc2_semantics.specs.Live.{target_at, DefinesNumber, IsEdgeInto}
+use Rattle.regalloc2_carry.specs.Stores.{Store, store_moves, IsOneOf, AreInOrder}
+use Rattle.regalloc2_analysis.specs.BranchDefs.BranchDefs.{IsStoredOperand, fixed_definition}
 use Rattle.regalloc2_fastalloc_state.specs.StateParts.{SpillSlotsValue, GetsSpillSlot, NoneIsFrom, slot_name}
 use Rattle.regalloc2_fastalloc_proofs.specs.InstSteps.{StateValue, Outcome, next, no_register, SameMachine, MayHold}
 

@@ -4,9 +4,8 @@ use Rattle.std.specs.Prelude.{Option, None, Some, IfSome, IfNone, IsNone, ◌↔
 use Rattle.regalloc2_names.specs.declared.RegClass.{RegClass}
 use Rattle.regalloc2_names.specs.declared.sets.PRegSet.{PRegSet}
 use Rattle.regalloc2_names.specs.Listed.{has_register-small}
-use Rattle.regalloc2_names.specs.Register.{Register, class_code}
+use Rattle.regalloc2_names.specs.Register.{Register, class_code, has_register}
 use Rattle.regalloc2_names.specs.RegisterBits.{bits_of_register}
-use Rattle.regalloc2_names.specs.RegisterSet.{has_register}
 use Rattle.regalloc2_fastalloc_state.specs.StateParts.{NoneIsFrom}
 
 -- the register found is an allocatable one of the class

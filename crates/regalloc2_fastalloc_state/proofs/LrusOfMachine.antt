@@ -1,20 +1,18 @@
 -- The LRU lists of a machine's registers.
-use Rattle.std.proofs.Common.{ℕ, suc, ◌≡◌, ◌≢◌, ◌+◌, ◌<◌, List, [], ◌∷◌, ◌++◌, Bool, true, false, length, refl, sym, ap, ◌∙◌, ◌⊎◌, ⊎_elim, inl, inr}
-use Rattle.std.proofs.Common.{subst, arith, slice_index_or}
+use Rattle.std.proofs.Common.{ℕ, suc, ◌≡◌, ◌≢◌, ◌+◌, ◌<◌, List, [], ◌∷◌, ◌++◌, Bool, true, false, length, refl, sym, ap, ◌∙◌, ◌⊎◌, ⊎_elim, inl, inr, subst}
+use Rattle.std.proofs.Common.{arith, slice_index_or}
 use Rattle.std.specs.Prelude.{All, Contains, ◌||◌, Result, Ok, Err, IfOk}
 use Rattle.std.specs.List.{IsDistinct, AllByRecursion}
-use Rattle.std.proofs.lemmas.List.Elements.{Contains-append_left, Contains-append_right, All-contains}
+use Rattle.std.proofs.lemmas.List.Elements.{Contains-append_left, Contains-append_right, All-contains, All-push}
 use Rattle.std.proofs.lemmas.List.Sorted.{Contains-permutation, IsPermutation-sym}
 use Rattle.regalloc2_names.specs.declared.RegClass.{RegClass}
 use Rattle.regalloc2_names.specs.declared.RegClass.TheVariants.{Int, Float, Vector}
 use Rattle.regalloc2_names.specs.declared.sets.PRegSet.{PRegSet}
-use Rattle.regalloc2_names.specs.Register.{Register, class_code, is_register}
-use Rattle.regalloc2_names.specs.RegisterSet.{has_register}
+use Rattle.regalloc2_names.specs.Register.{Register, class_code, is_register, has_register}
 use Rattle.regalloc2_semantics.proofs.Cells.{is_register-true}
 use Rattle.regalloc2_parts.specs.Ring.{IsNewRing}
 use Rattle.regalloc2_fastalloc_state.specs.ClassLrus.{AreLrusOf}
 use Rattle.regalloc2_fastalloc_state.specs.StateParts.{AreThoseBelow, AreLrus, AreSplit, IsLruOf}
-use Rattle.std.proofs.lemmas.List.Elements.{All-push}
 use Rattle.std.proofs.lemmas.Bool.{cases_eq, cases_Bool, or_left, or_right}
 
 -- a list whose members differ, with one more

@@ -4,11 +4,10 @@ use Rattle.std.specs.Prelude.{Some, Contains, ◌↔◌, ◌||◌, slice_index_o
 use Rattle.std.proofs.lemmas.List.Elements.{Contains-append_left, Contains-append_right, Contains-push, Contains-push_cases}
 use Rattle.std.proofs.lemmas.Bool.{or_left, or_right, cases_Bool}
 use Rattle.regalloc2_names.specs.Place.{Place, NoPlace, InRegister}
-use Rattle.regalloc2_names.specs.Register.{Register, VirtualRegister, is_register}
-use Rattle.regalloc2_names.specs.RegisterSet.{has_register}
+use Rattle.regalloc2_names.specs.Register.{Register, VirtualRegister, is_register, has_register}
 use Rattle.regalloc2_names.specs.declared.sets.PRegSet.{PRegSet}
 use Rattle.regalloc2_semantics.proofs.Cells.{is_register-true, is_register-same}
-use Rattle.regalloc2_semantics.proofs.Forms.{same_register}
+use Rattle.regalloc2_carry.proofs.Forms.{same_register}
 use Rattle.regalloc2_fastalloc_state.specs.FilledRegs.{AreRegistersOf}
 use Rattle.regalloc2_fastalloc_state.specs.StateParts.{VRegAllocsValue, IsInverse, vreg_of_preg}
 

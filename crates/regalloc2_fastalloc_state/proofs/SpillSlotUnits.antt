@@ -8,8 +8,7 @@ use Rattle.std.proofs.lemmas.Bool.{cases_eq, false≢true}
 use Rattle.std.proofs.lemmas.List.{get_or_read, get_or-set_same, get_or-set_other, length-set}
 use Rattle.std.proofs.lemmas.List.Sums.{sum_by-set, count_by-le-length}
 use Rattle.regalloc2_names.specs.declared.RegAllocError.{RegAllocError}
-use Rattle.regalloc2_names.specs.declared.RegAllocError.TheVariants.{TooManyLiveRegs}
-use Rattle.regalloc2_names.specs.declared.RegAllocError.TheVariants.{TooManySpillSlots}
+use Rattle.regalloc2_names.specs.declared.RegAllocError.TheVariants.{TooManyLiveRegs, TooManySpillSlots}
 use Rattle.regalloc2_names.specs.declared.RegClass.{RegClass}
 use Rattle.regalloc2_names.specs.Register.{VirtualRegister, class_code}
 use Rattle.regalloc2_names.specs.Place.{Place, NoPlace, InSlot, is_no_place}
@@ -19,8 +18,8 @@ use Rattle.regalloc2_parts.specs.ScratchPool.{error_of}
 use Rattle.regalloc2_fastalloc_state.specs.StateParts.{SpillSlotsValue, SlotsHaveOneOwner, GetsSpillSlot, AreUpTo, IsSlotOrNone, later_end, owners, slot_name}
 use Rattle.regalloc2_fastalloc_state.specs.StateParts.{most_units}
 use Rattle.regalloc2_fastalloc_state.specs.OutOfResources.{IsResourceError, LacksSlots, SlotsExhausted}
-use Rattle.regalloc2_semantics.proofs.Forms.{NoPlace-from_failed_test}
-use Rattle.regalloc2_semantics.proofs.Plain.{end_near}
+use Rattle.regalloc2_carry.proofs.Forms.{NoPlace-from_failed_test}
+use Rattle.regalloc2_carry.proofs.Plain.{end_near}
 use Rattle.regalloc2_fastalloc_state.proofs.SlotsAsPlaces.{slot_grows}
 
 -- one more element passes the test

@@ -1,17 +1,16 @@
 -- The two tables of places stay inverse.
 use Rattle.std.proofs.Common.{ℕ, ◌≡◌, ◌≢◌, ◌<◌, Bool, true, false, cond, List, ◌∷◌, not, length, refl, sym, ap, ◌∙◌, ◌⊎◌, inl, inr, ⊎_elim, nat_eq}
 use Rattle.std.proofs.Common.{slice_index_or, set, subst, get_or-set_same, arith}
-use Rattle.std.specs.Prelude.{Option, None, Some}
+use Rattle.std.specs.Prelude.{Option, None, Some, Contains}
 use Rattle.std.proofs.lemmas.List.{get_or-set_other}
 use Rattle.std.proofs.Math.ListN.{length-set}
 use Rattle.regalloc2_names.specs.Register.{Register, VirtualRegister}
 use Rattle.regalloc2_names.specs.RegisterBits.{bits_of_register}
-use Rattle.std.specs.Prelude.{Contains}
 use Rattle.std.proofs.lemmas.List.Elements.{Contains-get_or}
 use Rattle.std.proofs.lemmas.Bool.{cases_eq}
 use Rattle.regalloc2_names.specs.Place.{Place, NoPlace, InRegister, InSlot, is_in_register, is_place, register_of_place}
 use Rattle.regalloc2_semantics.proofs.Cells.{is_place-true, is_place-same, is_place-other}
-use Rattle.regalloc2_semantics.proofs.Plain.{chosen, no_some}
+use Rattle.regalloc2_carry.proofs.Plain.{chosen, no_some}
 use Rattle.regalloc2_fastalloc_state.specs.StateParts.{VRegAllocsValue, IsInverse, SetsAlloc, SetsVRegInPReg, HasIf, IsNewest, alloc_of, vreg_of_preg}
 use Rattle.regalloc2_fastalloc_state.specs.StateParts.{without, in_front_if, count_after}
 use Rattle.regalloc2_fastalloc_state.proofs.TakenOut.{left_in, in_front, front_or_rest, member_kept, passes_other}

@@ -1,8 +1,7 @@
 -- The registers in which the vregs of a list are located.
 use Rattle.std.specs.Prelude.{◌≡◌, true, List, Contains, slice_index_or}
 use Rattle.regalloc2_names.specs.Place.{Place, NoPlace, InRegister}
-use Rattle.regalloc2_names.specs.Register.{Register, VirtualRegister}
-use Rattle.regalloc2_names.specs.RegisterSet.{has_register}
+use Rattle.regalloc2_names.specs.Register.{Register, VirtualRegister, has_register}
 use Rattle.regalloc2_names.specs.declared.sets.PRegSet.{PRegSet}
 
 -- a set has the registers at which the vregs of a list are located, by a table of locations, and no others

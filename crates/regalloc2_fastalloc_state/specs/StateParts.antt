@@ -1,19 +1,15 @@
 -- The allocator's tables, as contracts see them.
-use Rattle.std.specs.Prelude.{ℕ, ◌≡◌, ◌≢◌, ◌+◌, ◌-◌, ◌*◌, ◌<◌, ◌≤◌, Bool, true, false, not, List, [], ◌∷◌, All, Any, Contains, filter}
-use Rattle.std.specs.Prelude.{length, replicate, slice_index}
-use Rattle.std.specs.Prelude.{slice_index_or, Option, None, Some, if◌then◌else◌, ◌&&◌, ◌||◌, ◌↔◌, ◌==◌, ◌^◌, min, nat_lt, is_none}
+use Rattle.std.specs.Prelude.{ℕ, ◌≡◌, ◌≢◌, ◌+◌, ◌-◌, ◌*◌, ◌<◌, ◌≤◌, Bool, true, false, not, List, [], ◌∷◌, All, Any, Contains, filter, length, replicate}
+use Rattle.std.specs.Prelude.{slice_index, slice_index_or, Option, None, Some, if◌then◌else◌, ◌&&◌, ◌||◌, ◌↔◌, ◌==◌, ◌^◌, min, nat_lt, is_none}
 use Rattle.std.specs.Int.{next_multiple_of}
 use Rattle.std.specs.List.{count_by}
 use Rattle.regalloc2_names.specs.declared.RegClass.{RegClass}
-use Rattle.regalloc2_names.specs.Register.{class_code}
+use Rattle.regalloc2_names.specs.Register.{class_code, Register, VirtualRegister, has_register}
 use Rattle.regalloc2_parts.specs.Ring.{AreDistinctOf}
-use Rattle.regalloc2_function.specs.Fitting.{count_below, register_number}
-use Rattle.regalloc2_function.specs.Machine.{empty_set}
+use Rattle.regalloc2_function.specs.Machine.{count_below, register_number, empty_set}
 use Rattle.regalloc2_function.specs.OutputValue.{MoveValue}
-use Rattle.regalloc2_names.specs.Register.{Register, VirtualRegister}
 use Rattle.regalloc2_names.specs.RegisterBits.{bits_of_register}
 use Rattle.regalloc2_names.specs.declared.sets.PRegSet.{PRegSet}
-use Rattle.regalloc2_names.specs.RegisterSet.{has_register}
 use Rattle.regalloc2_names.specs.Place.{Place, NoPlace, InRegister, InSlot, is_place, is_in_register, is_no_place}
 
 -- where the vregs are located, by number; which vreg is in each register, by index; the vregs in registers, the last filled register's first; by

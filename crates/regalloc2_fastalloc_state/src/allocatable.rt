@@ -1,13 +1,12 @@
 //! The registers that may be allocated.
 
-ghost use Rattle.std.specs.Prelude.{◌≡◌, ◌≢◌, ◌+◌, ◌↔◌, ◌<◌, ◌∷◌, ◌||◌, ◌⊎◌, true, not, filter, Contains, IfSome, IfNone};
-ghost use Rattle.std.specs.Prelude.{IfOk, IfErr, None, Some, Bool, slice_index_or};
+ghost use Rattle.std.specs.Prelude.{◌≡◌, ◌≢◌, ◌+◌, ◌↔◌, ◌<◌, ◌∷◌, ◌||◌, ◌⊎◌, true, not, filter, Contains, IfSome, IfNone, IfOk, IfErr, None, Some, Bool};
+ghost use Rattle.std.specs.Prelude.{slice_index_or};
 ghost use Rattle.regalloc2_names.specs.declared.RegClass.{RegClass};
 ghost use Rattle.regalloc2_function.specs.Machine.{is_allocatable};
 ghost use Rattle.regalloc2_function.specs.Views.{machine_of};
-ghost use Rattle.regalloc2_names.specs.Register.{Register, class_code, is_register};
+ghost use Rattle.regalloc2_names.specs.Register.{Register, class_code, is_register, has_register};
 ghost use Rattle.regalloc2_names.specs.Place.{is_memory};
-ghost use Rattle.regalloc2_names.specs.RegisterSet.{has_register};
 ghost use Rattle.regalloc2_fastalloc_state.specs.Choice.{chosen};
 ghost use Rattle.regalloc2_fastalloc_state.specs.ClassLrus.{AreLrusOf};
 ghost use Rattle.regalloc2_fastalloc_state.specs.StateParts.{IsLeastRecentIn, NoneIsIn, NoneIsFrom, AreLrus, AreThoseBelow, SameRegisters, lru_of};

@@ -2,10 +2,8 @@
 //! required.
 
 ghost use Rattle.std.specs.Prelude.{IsTrue, ◌≡◌, ◌+◌, ◌-◌, ◌<◌, ◌^◌, ◌&&◌, ◌||◌, ◌∷◌, [], true, None, Some, not, slice_index_or, slice_set, if◌then◌else◌};
-ghost use Rattle.regalloc2_names.specs.Register.{Register, class_code, is_register};
-ghost use Rattle.regalloc2_names.specs.RegisterSet.{has_register};
-ghost use Rattle.regalloc2_fastalloc_state.specs.InstRegs.{RemovesAvailable, IsAvailableAt, SameAvailable, awaited_of};
-ghost use Rattle.regalloc2_fastalloc_state.specs.InstRegs.{is_available_at, is_free_throughout};
+ghost use Rattle.regalloc2_names.specs.Register.{Register, class_code, is_register, has_register};
+ghost use Rattle.regalloc2_fastalloc_state.specs.InstRegs.{RemovesAvailable, IsAvailableAt, SameAvailable, awaited_of, is_available_at, is_free_throughout};
 
 use crate::positions::Positions;
 use regalloc2_names::{PReg, PRegSet, RegClass};

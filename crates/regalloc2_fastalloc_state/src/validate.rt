@@ -4,7 +4,7 @@
 ghost use Rattle.std.specs.Prelude.{IfErr, OnOk};
 ghost use Rattle.regalloc2_function.specs.Views.{machine_of};
 ghost use Rattle.regalloc2_function.specs.WellFormed.{IsWellFormed};
-ghost use Rattle.regalloc2_fastalloc_state.specs.Validate.Validated.{IsFunctionFault};
+ghost use Rattle.regalloc2_function.specs.Reasons.{IsFunctionFault};
 
 use regalloc2_function::ssa::test_soundness;
 use regalloc2_function::{Function, MachineEnv, test_shape};

@@ -2,8 +2,7 @@
 
 ghost use Rattle.std.specs.Prelude.{◌≡◌, ◌≢◌, ◌↔◌, ◌<◌, ◌≤◌, ◌⊎◌, ◌+◌, ◌-◌, ◌^◌, [], true, IsTrue, All, length, IfOk, IfErr, IfSome, IfNone, Option, Some};
 ghost use Rattle.regalloc2_names.specs.Place.{InRegister, is_in_register};
-ghost use Rattle.regalloc2_names.specs.Register.{Register, VirtualRegister};
-ghost use Rattle.regalloc2_names.specs.RegisterSet.{has_register};
+ghost use Rattle.regalloc2_names.specs.Register.{Register, VirtualRegister, has_register};
 ghost use Rattle.regalloc2_fastalloc_state.specs.StateParts.{IsInverse, IsNewest, alloc_of, vreg_of_preg, SetsAlloc, SetsVRegInPReg, no_allocs, count_after};
 ghost use Rattle.regalloc2_fastalloc_state.specs.StateParts.{HasIf, in_front_if, without};
 ghost use Rattle.regalloc2_fastalloc_state.specs.FilledRegs.{AreRegistersOf};

@@ -8,8 +8,7 @@ use Rattle.regalloc2_names.specs.Listed.{listed_is}
 use Rattle.regalloc2_names.specs.declared.RegClass.{RegClass}
 use Rattle.regalloc2_names.specs.declared.RegClass.TheVariants.{Int, Float, Vector}
 use Rattle.regalloc2_names.specs.declared.sets.PRegSet.{PRegSet}
-use Rattle.regalloc2_names.specs.Register.{Register}
-use Rattle.regalloc2_names.specs.RegisterSet.{has_register, registers_of, registers_of_words, word_members}
+use Rattle.regalloc2_names.specs.Register.{Register, has_register, registers_of, registers_of_words, word_members}
 use Rattle.regalloc2_fastalloc_state.specs.StateParts.{vreg_of_preg}
 use Rattle.regalloc2_fastalloc_state.specs.declared.inst_regs.InstRegs.{InstRegs}
 use Rattle.regalloc2_fastalloc_proofs.specs.InstSteps.{StateValue, EvictsPReg, empty, EvictsEach, none_left, one_more}

@@ -7,7 +7,7 @@ use Rattle.std.proofs.Math.Seq.{get_or-append_seam}
 use Rattle.regalloc2_index.proofs.Numbers.{below_or_last}
 use Rattle.regalloc2_function.specs.FunctionValue.{FunctionValue, InstValue, inst_at}
 use Rattle.regalloc2_analysis.specs.LiveRanges.WalkInvariant.{AddsNothing, ListsAdding}
-use Rattle.regalloc2_fastalloc_state.specs.Validate.Constraints.{BranchDefinesInPlace}
+use Rattle.regalloc2_function.specs.WellFormed.{BranchDefinesInPlace}
 use Rattle.regalloc2_fastalloc_state.specs.Validate.NoLimits.{IsTakenOperand}
 use Rattle.regalloc2_fastalloc_walk.specs.declared.walk.Found.{Found}
 use Rattle.regalloc2_fastalloc_walk.specs.Findings.{IsFound, ListsAddingFrom, PassesTests}

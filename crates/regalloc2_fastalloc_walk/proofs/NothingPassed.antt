@@ -3,16 +3,16 @@ use Rattle.std.proofs.Common.{ℕ, zero, suc, ◌≡◌, ◌<◌, ◌≤◌, Lis
 use Rattle.std.proofs.lemmas.List.{append-nil}
 use Rattle.regalloc2_names.specs.declared.RegClass.{RegClass}
 use Rattle.regalloc2_names.specs.declared.RegClass.TheVariants.{Int, Float, Vector}
-use Rattle.regalloc2_names.specs.Point.{before}
+use Rattle.regalloc2_names.specs.Place.{before}
 use Rattle.regalloc2_function.specs.FunctionValue.{FunctionValue, block_at}
 use Rattle.regalloc2_function.specs.OutputValue.{MoveValue}
-use Rattle.regalloc2_function.specs.SourceRun.{arguments_at}
-use Rattle.regalloc2_semantics.specs.Blocks.{HasEdge, target_at}
+use Rattle.regalloc2_semantics.specs.Runs.{arguments_at}
+use Rattle.regalloc2_semantics.specs.Live.{HasEdge, target_at}
 use Rattle.regalloc2_parts.specs.AtOnce.{in_turn}
 use Rattle.regalloc2_fastalloc_state.specs.declared.inst_regs.InstRegs.{InstRegs}
 use Rattle.regalloc2_fastalloc_proofs.specs.InstSteps.{StateValue}
-use Rattle.regalloc2_fastalloc_proofs.specs.BranchSteps.{GathersEdgeMoves, GathersMoves, IsOwnDef, OrdersMoves, ProcessesBranch, Pushes, no_edge, none_gathered}
-use Rattle.regalloc2_fastalloc_proofs.specs.BranchSteps.{of_class, one_edge}
+use Rattle.regalloc2_fastalloc_proofs.specs.BranchSteps.{GathersEdgeMoves, GathersMoves, IsOwnDef, OrdersMoves, ProcessesBranch, Pushes, no_edge}
+use Rattle.regalloc2_fastalloc_proofs.specs.BranchSteps.{none_gathered, of_class, one_edge}
 use Rattle.regalloc2_fastalloc_proofs.proofs.Moves.ParallelMovesOrdered.{none_taken}
 
 -- where there are no moves, none are made

@@ -1,6 +1,5 @@
 -- What a pass over operands, from the last to the first, finds.
-use Rattle.std.proofs.Common.{ℕ, zero, suc, ◌≡◌, ◌+◌, ◌<◌, ◌≤◌, inl, inr, Bool, true, false, List, [], ◌∷◌, length, refl}
-use Rattle.std.proofs.Common.{arith, eq-eqb, sym, ap, ◌∙◌, subst}
+use Rattle.std.proofs.Common.{ℕ, zero, suc, ◌≡◌, ◌+◌, ◌<◌, ◌≤◌, inl, inr, Bool, true, false, List, [], ◌∷◌, length, refl, arith, eq-eqb, sym, ap, ◌∙◌, subst}
 use Rattle.std.specs.Prelude.{All, drop, IsTrue, ◌↔◌, ◌&&◌, ◌||◌, if◌then◌else◌, nat_eq, slice_index, slice_set}
 use Rattle.std.proofs.lemmas.Bool.{cases_Bool, cases_eq}
 use Rattle.std.proofs.lemmas.Bool.Decides.{nat_tests}
@@ -24,7 +23,7 @@ use Rattle.regalloc2_fastalloc_state.specs.Masks.{AreMasks}
 use Rattle.regalloc2_fastalloc_state.specs.Validate.NoLimits.{IsTakenOperand}
 use Rattle.regalloc2_fastalloc_state.proofs.ArraysByClass.{zeros}
 use Rattle.regalloc2_function.specs.FunctionValue.{op_at, no_operand}
-use Rattle.regalloc2_function.specs.Fitting.{is_under_reg}
+use Rattle.regalloc2_semantics.specs.Fits.{is_under_reg}
 use Rattle.regalloc2_fastalloc_proofs.specs.InstSteps.{asks_reg_of_class, asking}
 use Rattle.regalloc2_fastalloc_walk.specs.ReserveSteps.{AreSorted}
 

@@ -3,8 +3,7 @@ use Rattle.std.proofs.Common.{ℕ, ◌≡◌, Bool, List, refl, sym, ap, ◌∙�
 use Rattle.std.specs.Prelude.{◌&&◌}
 use Rattle.regalloc2_names.specs.declared.OperandConstraint.{OperandConstraint}
 use Rattle.regalloc2_names.specs.declared.OperandConstraint.TheVariants.{Any}
-use Rattle.regalloc2_names.specs.Place.{Place, NoPlace, InRegister, InSlot, is_in_slot}
-use Rattle.regalloc2_names.specs.Point.{after}
+use Rattle.regalloc2_names.specs.Place.{Place, NoPlace, InRegister, InSlot, is_in_slot, after}
 use Rattle.regalloc2_names.specs.Operand.{OperandValue, is_def, is_fixed, is_fixed_nonallocatable, is_reading}
 use Rattle.regalloc2_names.specs.Register.{Register, VirtualRegister}
 use Rattle.regalloc2_function.specs.FunctionValue.{op_at}
@@ -13,8 +12,8 @@ use Rattle.regalloc2_fastalloc_state.specs.declared.request.OperandRequest.{Oper
 use Rattle.regalloc2_fastalloc_state.specs.declared.request.Requirement.{Requirement}
 use Rattle.regalloc2_fastalloc_state.specs.declared.request.Requirement.TheVariants.{AnyPlace, InPReg}
 use Rattle.regalloc2_fastalloc_state.specs.StateParts.{alloc_of}
-use Rattle.regalloc2_fastalloc_proofs.specs.InstSteps.{StateValue, AllocsUse, MeetsRequirement, ProcessesOperand, requirement_of, use_request}
-use Rattle.regalloc2_fastalloc_proofs.specs.InstSteps.{a_use, awaited_less, in_slot, not_used, stays}
+use Rattle.regalloc2_fastalloc_proofs.specs.InstSteps.{StateValue, AllocsUse, MeetsRequirement, ProcessesOperand, requirement_of, use_request, a_use}
+use Rattle.regalloc2_fastalloc_proofs.specs.InstSteps.{awaited_less, in_slot, not_used, stays}
 use Rattle.regalloc2_fastalloc_proofs.proofs.Operands.OperandRules.{use_vreg, reading}
 
 -- the vreg stays in its slot: nothing is claimed, moved or noted

@@ -1,6 +1,6 @@
 -- What a block's beginning stores: the values that are listed, moved as they are found and pushed, the ones from the stack first, are the stores on the edge.
-use Rattle.std.proofs.Common.{ℕ, zero, suc, ◌≡◌, ◌≢◌, ◌+◌, ◌<◌, ◌≤◌, ◌⊎◌, Bool, true, false, List, [], ◌∷◌, ◌++◌, length, inl, inr, refl, sym, ap, ◌∙◌}
-use Rattle.std.proofs.Common.{subst, arith, eq-eqb}
+use Rattle.std.proofs.Common.{ℕ, zero, suc, ◌≡◌, ◌≢◌, ◌+◌, ◌<◌, ◌≤◌, ◌⊎◌, Bool, true, false, List, [], ◌∷◌, ◌++◌, length, inl, inr, refl, sym, ap, ◌∙◌, subst}
+use Rattle.std.proofs.Common.{arith, eq-eqb}
 use Rattle.std.specs.Prelude.{Option, None, Some, IsSome, not, sum_by, slice_index_or, if◌then◌else◌}
 use Rattle.std.proofs.lemmas.Bool.{cases_eq, cases_Bool}
 use Rattle.std.proofs.lemmas.List.{append-nil, append_assoc}
@@ -9,20 +9,21 @@ use Rattle.regalloc2_names.specs.declared.RegClass.TheVariants.{Int}
 use Rattle.regalloc2_names.specs.Register.{Register, VirtualRegister}
 use Rattle.regalloc2_names.specs.Operand.{OperandValue}
 use Rattle.regalloc2_names.specs.Place.{Place, NoPlace, InRegister, InSlot, is_memory}
-use Rattle.regalloc2_function.specs.FunctionValue.{FunctionValue, block_at, op_at}
+use Rattle.regalloc2_function.specs.FunctionValue.{FunctionValue, block_at, op_at, last_of}
 use Rattle.regalloc2_function.specs.OutputValue.{MoveValue}
-use Rattle.regalloc2_function.specs.WellFormed.{IsWellFormed, last_of}
-use Rattle.regalloc2_semantics.specs.Stores.{Store, moves_by, store_moves, IsOneOf, AreInOrder}
-use Rattle.regalloc2_semantics.specs.Stores.IsOneOf.{first, later}
-use Rattle.regalloc2_semantics.proofs.SingleDef.{IsDefOperand, not_both, one_operand}
+use Rattle.regalloc2_function.specs.WellFormed.{IsWellFormed}
+use Rattle.regalloc2_carry.specs.Stores.{Store, moves_by, store_moves, IsOneOf, AreInOrder}
+use Rattle.regalloc2_carry.specs.Stores.IsOneOf.{first, later}
+use Rattle.regalloc2_carry.proofs.SingleDef.{IsDefOperand, not_both, one_operand}
 use Rattle.regalloc2_semantics.proofs.Soundness.{well_formed_are_sound}
-use Rattle.regalloc2_analysis.specs.BranchDefs.BranchDefs.{DefinesNumber, IsEdgeInto, fixed_definition}
+use Rattle.regalloc2_semantics.specs.Live.{DefinesNumber, IsEdgeInto}
+use Rattle.regalloc2_analysis.specs.BranchDefs.BranchDefs.{fixed_definition}
 use Rattle.regalloc2_fastalloc_state.specs.StateParts.{NoSlotIsShared, SpillSlotsValue, GetsSpillSlot, NoneIsFrom, slot_name}
 use Rattle.regalloc2_fastalloc_proofs.specs.InstSteps.{StateValue, SameMachine, no_register}
 use Rattle.regalloc2_fastalloc_proofs.specs.BlockSteps.{MayBeAllocated}
 use Rattle.regalloc2_fastalloc_proofs.specs.BranchSteps.{RegsAvoidStack}
-use Rattle.regalloc2_fastalloc_proofs.specs.StoreSteps.{StoreBranchDefs, no_slot, one_slot, IsByWay, StoresFor, StoresOn, pushed_moves}
-use Rattle.regalloc2_fastalloc_proofs.specs.StoreSteps.{branch_operands, fixed_or_slot, defined_place, IsStoredFor, its_own, given, IsConcerned, GetsSlots}
+use Rattle.regalloc2_fastalloc_proofs.specs.StoreSteps.{StoreBranchDefs, no_slot, one_slot, IsByWay, StoresFor, StoresOn, pushed_moves, branch_operands}
+use Rattle.regalloc2_fastalloc_proofs.specs.StoreSteps.{fixed_or_slot, defined_place, IsStoredFor, its_own, given, IsConcerned, GetsSlots}
 use Rattle.regalloc2_fastalloc_proofs.proofs.Safety.StoredDefs.{last_within}
 use Rattle.regalloc2_fastalloc_proofs.proofs.Safety.StoresKeepSafe.{stored_concerned, stored_defines}
 use Rattle.regalloc2_fastalloc_proofs.proofs.Slots.SlotsGrow.{SlotsStay, gives_stay, same_stay}

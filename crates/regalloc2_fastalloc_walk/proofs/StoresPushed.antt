@@ -6,7 +6,7 @@ use Rattle.std.specs.Cmp.{booleans_Decides}
 use Rattle.std.proofs.lemmas.List.{append-nil, drop_more}
 use Rattle.regalloc2_names.specs.Place.{Place, is_memory}
 use Rattle.regalloc2_function.specs.OutputValue.{MoveValue}
-use Rattle.regalloc2_semantics.specs.Stores.{Store, moves_by, store_moves}
+use Rattle.regalloc2_carry.specs.Stores.{Store, moves_by, store_moves}
 use Rattle.regalloc2_fastalloc_proofs.specs.InstSteps.{StateValue}
 use Rattle.regalloc2_fastalloc_proofs.specs.StoreSteps.{pushed_moves}
 use Rattle.regalloc2_fastalloc_walk.specs.BranchStores.{AreMadeOf, IsMadeOf, PushesStores, none_made, passed_over, one_made}

@@ -1,9 +1,8 @@
 -- What the steps of the walk require of the state that they begin with.
 use Rattle.std.specs.Prelude.{ℕ, ◌≡◌, ◌+◌, ◌<◌, ◌≤◌, true, [], List, length, slice_index, slice_index_or}
-use Rattle.regalloc2_names.specs.Place.{Place, NoPlace}
+use Rattle.regalloc2_names.specs.Place.{Place, NoPlace, before, after, inst_limit}
 use Rattle.regalloc2_names.specs.Operand.{OperandValue}
 use Rattle.regalloc2_names.specs.Register.{VirtualRegister}
-use Rattle.regalloc2_names.specs.Point.{before, after, inst_limit}
 use Rattle.regalloc2_function.specs.FunctionValue.{FunctionValue, block_at, inst_at, operand_count}
 use Rattle.regalloc2_analysis.specs.declared.branch_defs.BranchDefs.{BranchDefs}
 use Rattle.regalloc2_analysis.specs.declared.branch_defs.EdgeInto.{EdgeInto}

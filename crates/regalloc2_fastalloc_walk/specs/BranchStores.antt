@@ -5,7 +5,7 @@ use Rattle.regalloc2_names.specs.Register.{Register, VirtualRegister, no_vreg}
 use Rattle.regalloc2_names.specs.Operand.{OperandValue}
 use Rattle.regalloc2_names.specs.Place.{Place, NoPlace, InRegister, is_memory}
 use Rattle.regalloc2_function.specs.FunctionValue.{FunctionValue, op_at}
-use Rattle.regalloc2_semantics.specs.Stores.{Store, moves_by, store_moves}
+use Rattle.regalloc2_carry.specs.Stores.{Store, moves_by, store_moves}
 use Rattle.regalloc2_analysis.specs.BranchDefs.BranchDefs.{fixed_definition}
 use Rattle.regalloc2_analysis.specs.BranchDefs.Tables.{site_of}
 use Rattle.regalloc2_analysis.specs.declared.branch_defs.BranchDefs.{BranchDefs}

@@ -1,7 +1,7 @@
 //! The beginning of a block: what is read from there on arrives in spill slots.
 
 ghost use Rattle.std.specs.Prelude.{◌≡◌, ◌<◌, All, length, None, OnOk};
-ghost use Rattle.regalloc2_names.specs.Point.{before, inst_limit};
+ghost use Rattle.regalloc2_names.specs.Place.{before, inst_limit};
 ghost use Rattle.regalloc2_names.specs.Register.{Register};
 ghost use Rattle.regalloc2_fastalloc_walk.specs.StateView.{IsStepAt, ComesTo};
 ghost use Rattle.regalloc2_fastalloc_state.specs.StateParts.{AllAtOrAfter, vreg_of_preg};

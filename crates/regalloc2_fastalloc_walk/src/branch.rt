@@ -1,24 +1,22 @@
 //! The moves of a branch: each argument goes to the slots of the parameters that it is passed to.
 
-ghost use Rattle.regalloc2_semantics.specs.Blocks.{HasEdge, target_at};
-ghost use Rattle.std.specs.Prelude.{ℕ, List, ◌≡◌, ◌↔◌, ◌≢◌, ◌<◌, ◌+◌, ◌++◌, ◌∷◌, ◌⊎◌, [], None, Some, length, IsTrue, IfSome, IfErr, OnOk};
-ghost use Rattle.std.specs.Prelude.{OnErr, IfNone, slice_index_or, true, MatchResult};
-ghost use Rattle.regalloc2_names.specs.Place.{Place, NoPlace, InRegister};
-ghost use Rattle.regalloc2_names.specs.Point.{before};
-ghost use Rattle.regalloc2_names.specs.Register.{Register, class_code};
+ghost use Rattle.regalloc2_semantics.specs.Live.{HasEdge, target_at};
+ghost use Rattle.std.specs.Prelude.{ℕ, List, ◌≡◌, ◌↔◌, ◌≢◌, ◌<◌, ◌+◌, ◌++◌, ◌∷◌, ◌⊎◌, [], None, Some, length, IsTrue, IfSome, IfErr, OnOk, OnErr, IfNone};
+ghost use Rattle.std.specs.Prelude.{slice_index_or, true, MatchResult};
+ghost use Rattle.regalloc2_names.specs.Place.{Place, NoPlace, InRegister, before};
+ghost use Rattle.regalloc2_names.specs.Register.{Register, class_code, has_register};
 ghost use Rattle.regalloc2_function.specs.FunctionValue.{block_at};
 ghost use Rattle.regalloc2_parts.specs.AtOnce.{ends_of, HasOneSourceEach};
 ghost use Rattle.regalloc2_parts.specs.Resolved.{moves_listed, with_place};
 ghost use Rattle.regalloc2_fastalloc_proofs.specs.BranchSteps.{RegsAvoidStack, AreBetweenSlots, AreNextTempSlots, AreOf, ClassMove, OrderMoves};
-ghost use Rattle.regalloc2_fastalloc_proofs.specs.BranchSteps.{IsScratchRegFor, AddsTempSlotsAtMost, PushMoves, SpillArgument};
-ghost use Rattle.regalloc2_fastalloc_proofs.specs.BranchSteps.{GatherEdge, GatherMoves, PushAllClasses, ProcessBranch};
+ghost use Rattle.regalloc2_fastalloc_proofs.specs.BranchSteps.{IsScratchRegFor, AddsTempSlotsAtMost, PushMoves, SpillArgument, GatherEdge, GatherMoves};
+ghost use Rattle.regalloc2_fastalloc_proofs.specs.BranchSteps.{PushAllClasses, ProcessBranch};
 ghost use Rattle.regalloc2_fastalloc_state.specs.OutOfResources.{SlotsExhaustedWith, IsResourceError};
 ghost use Rattle.regalloc2_parts.specs.ScratchPool.{DoDiffer, IsOfScratchPair};
 ghost use Rattle.regalloc2_fastalloc_proofs.specs.InstSteps.{a_move, next, no_register};
 ghost use Rattle.regalloc2_fastalloc_walk.specs.BeforeSteps.{IsBeforeAllMoves, IsBeforeEdge, IsBeforeGathering, IsBeforeMoves, IsBeforePassing};
 ghost use Rattle.regalloc2_fastalloc_walk.specs.OwnDefs.{IsOwnBy, GatherArgument};
 ghost use Rattle.regalloc2_fastalloc_walk.specs.StateView.{Between, IsBranchStepAt, IsStepAt, SameTables, tables_of, ComesTo, ComesToOne};
-ghost use Rattle.regalloc2_names.specs.RegisterSet.{has_register};
 ghost use Rattle.regalloc2_fastalloc_state.specs.InstRegs.{is_free_throughout};
 ghost use Rattle.regalloc2_fastalloc_state.specs.Choice.{chosen};
 ghost use Rattle.regalloc2_fastalloc_state.specs.StateParts.{IsLeastRecentIn, NoneIsIn, AllAtOrAfter, lru_of};

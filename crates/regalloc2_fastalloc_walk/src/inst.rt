@@ -1,10 +1,9 @@
 //! The operands of one instruction. An operand under `Limit` requires any register, as under `Reg`.
 
 ghost use Rattle.regalloc2_names.specs.Register.{Register};
-ghost use Rattle.std.specs.Prelude.{◌≡◌, ◌<◌, ◌≤◌, ◌+◌, ◌↔◌, length, not, false, true, slice_set, slice_index_or, ℕ, IfSome, IfNone, IfOk};
-ghost use Rattle.std.specs.Prelude.{IsNone, IsTrue, All};
-ghost use Rattle.regalloc2_names.specs.Point.{after, before, inst_limit};
-ghost use Rattle.regalloc2_names.specs.Place.{NoPlace, is_place, is_in_slot};
+ghost use Rattle.std.specs.Prelude.{◌≡◌, ◌<◌, ◌≤◌, ◌+◌, ◌↔◌, length, not, false, true, slice_set, slice_index_or, ℕ, IfSome, IfNone, IfOk, IsNone, IsTrue};
+ghost use Rattle.std.specs.Prelude.{All};
+ghost use Rattle.regalloc2_names.specs.Place.{after, before, inst_limit, NoPlace, is_place, is_in_slot};
 ghost use Rattle.regalloc2_names.specs.Operand.{is_def, is_late, is_reading};
 ghost use Rattle.regalloc2_parts.specs.Picked.{picked};
 ghost use Rattle.regalloc2_fastalloc_walk.specs.OperandsAt.{is_at};

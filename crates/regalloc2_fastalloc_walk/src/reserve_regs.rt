@@ -1,16 +1,15 @@
 //! What an instruction claims before its operands are allocated: fixed registers and clobbers.
 
 ghost use Rattle.std.specs.Prelude.{All, ℕ, ◌≡◌, ◌<◌, ◌⊎◌, ◌||◌, ◌↔◌, ◌∷◌, [], length, true, false, IsTrue, OnOk, IfOk, IfSome, IfNone, IfErr, Some, MatchResult};
-ghost use Rattle.regalloc2_names.specs.Register.{Register};
-ghost use Rattle.regalloc2_names.specs.RegisterSet.{has_register, registers_of};
+ghost use Rattle.regalloc2_names.specs.Register.{Register, has_register, registers_of};
 ghost use Rattle.regalloc2_fastalloc_state.specs.Positions.{positions_of};
 ghost use Rattle.regalloc2_fastalloc_state.specs.InstRegs.{SameAvailable, RemovesAvailable, is_free_throughout};
 ghost use Rattle.regalloc2_fastalloc_state.specs.StateParts.{AllAtOrAfter};
 ghost use Rattle.regalloc2_fastalloc_state.specs.OutOfResources.{IsResourceErrorIn};
 ghost use Rattle.regalloc2_fastalloc_state.specs.Validate.NoLimits.{IsTakenOperand};
 ghost use Rattle.regalloc2_function.specs.FunctionValue.{op_at};
-ghost use Rattle.regalloc2_fastalloc_proofs.specs.InstSteps.{NeedsFixedReg, NoneUsed, RegsAreNotReserved, RemovesClobbers, ReserveRegs};
-ghost use Rattle.regalloc2_fastalloc_proofs.specs.InstSteps.{EvictFixed, EvictEach, SameButOrder};
+ghost use Rattle.regalloc2_fastalloc_proofs.specs.InstSteps.{NeedsFixedReg, NoneUsed, RegsAreNotReserved, RemovesClobbers, ReserveRegs, EvictFixed};
+ghost use Rattle.regalloc2_fastalloc_proofs.specs.InstSteps.{EvictEach, SameButOrder};
 ghost use Rattle.regalloc2_fastalloc_walk.specs.StateView.{Between, IsStepAt, SameTables, tables_of, ComesTo};
 ghost use Rattle.regalloc2_fastalloc_walk.specs.ReserveSteps.{AreSorted, AwaitsAll, ReservesClaims, ReservesOnly, IsNewlyReserved, IsReservedAt, IsReserved};
 ghost use Rattle.regalloc2_fastalloc_walk.specs.ReserveSteps.{KeepsReserved, Shrinks, ReservesRegForOperand, TakesOnly, RegIsNotReserved};

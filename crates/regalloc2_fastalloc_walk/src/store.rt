@@ -1,17 +1,14 @@
 //! A branch's definitions, stored at the beginning of the block that it leads to.
 
 ghost use Rattle.std.specs.Prelude.{◌≡◌, ◌+◌, ◌<◌, ◌⊎◌, ◌||◌, ◌++◌, ◌∷◌, [], All, if◌then◌else◌, length, map, not, None, Some, OnOk, IfOk, IfErr, slice_index_or};
-ghost use Rattle.regalloc2_names.specs.Place.{is_no_place};
+ghost use Rattle.regalloc2_names.specs.Place.{is_no_place, before};
 ghost use Rattle.regalloc2_names.specs.Register.{class_code};
-ghost use Rattle.regalloc2_names.specs.Point.{before};
-ghost use Rattle.regalloc2_function.specs.FunctionValue.{block_at};
-ghost use Rattle.regalloc2_function.specs.FunctionValue.{op_at};
+ghost use Rattle.regalloc2_function.specs.FunctionValue.{block_at, op_at};
 ghost use Rattle.regalloc2_fastalloc_state.specs.StateParts.{AllAtOrAfter, NoneIsFrom, slot_name};
 ghost use Rattle.regalloc2_fastalloc_proofs.specs.InstSteps.{MayHold};
 ghost use Rattle.regalloc2_fastalloc_proofs.specs.StoreSteps.{StoreBranchDefs};
-ghost use Rattle.regalloc2_fastalloc_walk.specs.BranchStores.{FindsDefined, FindsStore, FindsStores, ListsGiven, ListsParams};
-ghost use Rattle.regalloc2_fastalloc_walk.specs.BranchStores.{PushStore, PushStores, PushAllStores};
-ghost use Rattle.regalloc2_fastalloc_walk.specs.BranchStores.{ListsStores, own_store};
+ghost use Rattle.regalloc2_fastalloc_walk.specs.BranchStores.{FindsDefined, FindsStore, FindsStores, ListsGiven, ListsParams, PushStore, PushStores};
+ghost use Rattle.regalloc2_fastalloc_walk.specs.BranchStores.{PushAllStores, ListsStores, own_store};
 ghost use Rattle.regalloc2_fastalloc_walk.specs.BeforeSteps.{IsBeforeListing, IsBeforeStores};
 ghost use Rattle.regalloc2_fastalloc_walk.specs.StateView.{IsStepAt, MakesSlots, tables_of, ComesTo};
 

@@ -7,8 +7,7 @@
 //! liveness needs no analysis of its own, and no instruction is visited twice.
 
 ghost use Rattle.std.specs.Prelude.{◌≡◌, ◌<◌, ◌+◌, ◌*◌, ◌↔◌, ◌&&◌, ◌++◌, ◌∷◌, [], if◌then◌else◌, length, slice_index_or, ℕ, IsTrue, OnOk, IfOk, IfErr};
-ghost use Rattle.regalloc2_names.specs.Point.{before, inst_limit};
-ghost use Rattle.regalloc2_names.specs.Place.{NoPlace};
+ghost use Rattle.regalloc2_names.specs.Place.{before, inst_limit, NoPlace};
 ghost use Rattle.regalloc2_function.specs.FunctionValue.{block_at, inst_at};
 ghost use Rattle.regalloc2_fastalloc_proofs.specs.InstSteps.{ends_block};
 ghost use Rattle.regalloc2_fastalloc_proofs.specs.BranchSteps.{AddsTempSlotsAtMost};
@@ -17,8 +16,7 @@ ghost use Rattle.regalloc2_analysis.specs.LiveRanges.LiveRanges.{IsWanted};
 ghost use Rattle.regalloc2_fastalloc_walk.specs.Findings.{IsFound, PassesTests};
 ghost use Rattle.regalloc2_fastalloc_walk.specs.BeforeSteps.{IsBeforeInst, IsBeforeNoting, IsBeforeBlock, IsBeforeBeginning, IsBeforeWalk};
 ghost use Rattle.regalloc2_fastalloc_walk.specs.StateView.{Between, IsBranchStepAt, IsStepAt, ComesTo};
-ghost use Rattle.regalloc2_fastalloc_proofs.specs.BlockSteps.{temp_slots_at, AllocInstInBlock, AllocBlock, BeginBlock, AllocBlocks};
-ghost use Rattle.regalloc2_fastalloc_proofs.specs.BlockSteps.{offset_of};
+ghost use Rattle.regalloc2_fastalloc_proofs.specs.BlockSteps.{temp_slots_at, AllocInstInBlock, AllocBlock, BeginBlock, AllocBlocks, offset_of};
 
 use super::inst::InstCx;
 use super::state::State;

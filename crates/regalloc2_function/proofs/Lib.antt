@@ -1,7 +1,6 @@
--- Lemmas on both runs, on listings and on machines; the tests of blocks and definitions, the order of a depth-first walk, and sets of
--- numbers are as defined. Each serves a lemma function or a test of this crate.
--- Read first: `RunLaws`: a read finds an earlier write. `ValueLaws`, `Converse`: reads agree exactly if numbers do. `Keeps` in
--- `TableKeepsDefs`, what the table of definitions keeps.
+-- Lemmas on listings and on machines; the tests of blocks and definitions, the order of a depth-first walk, and sets of
+-- numbers are as defined. Each serves a test of this crate.
+-- Read first: `Keeps` in `TableKeepsDefs`, what the table of definitions keeps.
 -- Depends on the specs. `ListingLaws`, `OrderLaws` and `Steps` are on listings; `Misfits` and `Tests` on machines; `Copies` on stored outputs.
 -- Definitions and uses: `noted_once`, `usable_uses`, `taken_fault` and `unusable_fault` in `TableDecidesSSA`: the
 -- table of definitions decides both tests, and names the first failure. `ListingsOfFunction` and `DefsCounted` join
@@ -14,9 +13,6 @@
 -- is `Walked`; `NamedBlocks` for what has to be a block.
 -- Sets: `NumberSets`, over `NumberMaps` and `NumberIndexes` (words by key), `NumberBits` (members of a word) and
 -- `NumberUnions`; `WordsWritten`, what a write does to two lists of words.
-pub mod RunLaws
-pub mod ValueLaws
-pub mod Converse
 pub mod Steps
 pub mod ListingLaws
 pub mod Tests
@@ -46,3 +42,4 @@ pub mod NumberMaps
 pub mod NumberSets
 pub mod NumberUnions
 pub mod WordsWritten
+pub mod Following

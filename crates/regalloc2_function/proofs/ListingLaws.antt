@@ -1,12 +1,12 @@
 -- What an iterator over a listing gives is the listing that the definitions have.
-use Rattle.std.proofs.Common.{◌≡◌, ℕ, zero, suc, ◌+◌, ◌-◌, ◌<◌, ◌≤◌, Bool, List, [], ◌∷◌, length, get_or, true, false, refl, sym, ap, ◌∙◌, map, take}
-use Rattle.std.proofs.Common.{drop, arith}
+use Rattle.std.proofs.Common.{◌≡◌, ℕ, zero, suc, ◌+◌, ◌-◌, ◌<◌, ◌≤◌, Bool, List, [], ◌∷◌, length, get_or, true, false, refl, sym, ap, ◌∙◌, map, take, drop}
+use Rattle.std.proofs.Common.{arith}
 use Rattle.std.specs.Prelude.{nat_le, nat_lt, filter, All}
 use Rattle.std.specs.List.Sorted.{IsNonDecreasingBy, IsPartitionPoint}
 use Rattle.std.proofs.lemmas.Bool.Decides.{nat_tests}
 use Rattle.std.proofs.lemmas.List.{length-map, length-drop, drop-map, take_all}
 use Rattle.std.proofs.lemmas.List.Elements.{All-append, All-map, All-nil, All-cons}
-use Rattle.regalloc2_names.specs.Point.{before}
+use Rattle.regalloc2_names.specs.Place.{before}
 use Rattle.regalloc2_function.specs.declared.listing.Edit.{Edit}
 use Rattle.regalloc2_function.specs.Views.{edit_of}
 use Rattle.regalloc2_function.specs.OutputValue.{OutputValue, MoveValue, is_listed_at, moves_before}

@@ -1,6 +1,6 @@
 -- The listings, as the function's own tests see them.
-use Rattle.std.proofs.Common.{ℕ, zero, suc, ◌≡◌, ◌+◌, ◌-◌, ◌<◌, ◌≤◌, ◌⊎◌, true, Some, None, List, [], ◌∷◌, length, get_or, take, refl, sym, ap, ◌∙◌}
-use Rattle.std.proofs.Common.{subst, inl, inr, arith}
+use Rattle.std.proofs.Common.{ℕ, zero, suc, ◌≡◌, ◌+◌, ◌-◌, ◌<◌, ◌≤◌, ◌⊎◌, true, Some, None, List, [], ◌∷◌, length, get_or, take, refl, sym, ap, ◌∙◌, subst}
+use Rattle.std.proofs.Common.{inl, inr, arith}
 use Rattle.std.specs.Prelude.{All, Contains, cond, count_by, flat_map, map, nat_eq, sum_by}
 use Rattle.std.proofs.lemmas.Bool.{cases_Bool}
 use Rattle.std.proofs.lemmas.List.{get_or_default, get_or_past, take_all}
@@ -9,12 +9,12 @@ use Rattle.std.proofs.lemmas.List.Sums.{sum_by-cons}
 use Rattle.regalloc2_index.specs.Range.{numbers_from, numbers_of}
 use Rattle.regalloc2_names.specs.Register.{VirtualRegister}
 use Rattle.regalloc2_names.specs.Operand.{OperandValue, is_def, is_reading}
-use Rattle.regalloc2_names.specs.Point.{before, after}
-use Rattle.regalloc2_function.specs.FunctionValue.{FunctionValue, BlockValue, InstValue, block_at, inst_at, no_block, no_inst}
-use Rattle.regalloc2_function.specs.WellFormed.{BlocksFollow, DefinedOnce, IsDefinedBy, UsesAreDefined, defines_number, definitions_of, last_of}
+use Rattle.regalloc2_names.specs.Place.{before, after}
+use Rattle.regalloc2_function.specs.FunctionValue.{FunctionValue, BlockValue, InstValue, block_at, inst_at, no_block, no_inst, last_of}
+use Rattle.regalloc2_function.specs.WellFormed.{BlocksFollow, DefinedOnce, IsDefinedBy, UsesAreDefined, defines_number, definitions_of}
 use Rattle.regalloc2_function.specs.Reasons.{AreSingle, DefinitionSite, UseSite, argument_use, block_definitions, block_uses, definitions_among}
-use Rattle.regalloc2_function.specs.Reasons.{definitions_in, inst_definitions, inst_reads, operand_definition, operand_read, param_definition}
-use Rattle.regalloc2_function.specs.Reasons.{passed_at, uses_in}
+use Rattle.regalloc2_function.specs.Reasons.{definitions_in, inst_definitions, inst_reads, operand_definition, operand_read, param_definition, passed_at}
+use Rattle.regalloc2_function.specs.Reasons.{uses_in}
 use Rattle.regalloc2_function.proofs.DefsCounted.{among_blocks, first_is_start, insts_to, start_of}
 use Rattle.regalloc2_function.proofs.ListMembers.{all_members, from_filter, from_flat, from_map, from_numbers, in_filter, in_flat, in_map, in_numbers}
 use Rattle.regalloc2_function.proofs.BlockRanges.{block_is}

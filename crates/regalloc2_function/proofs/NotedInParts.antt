@@ -4,8 +4,8 @@ use Rattle.regalloc2_names.specs.declared.RegAllocError.{RegAllocError}
 use Rattle.regalloc2_function.specs.Reasons.{DefinitionSite, UseSite, IsFirstIn}
 use Rattle.std.proofs.lemmas.List.Elements.{All-nil}
 use Rattle.std.specs.Prelude.{All}
-use Rattle.regalloc2_function.specs.Definitions.{Table, NotesDefinitions, IsFirstNumberTaken, NamesTaken, IsNumberTaken, IsUsable, NamesUnusable}
-use Rattle.regalloc2_function.specs.Definitions.NotesDefinitions.{none, more}
+use Rattle.regalloc2_function.specs.Inside.Definitions.{Table, NotesDefinitions, IsFirstNumberTaken, NamesTaken, IsNumberTaken, IsUsable, NamesUnusable}
+use Rattle.regalloc2_function.specs.Inside.Definitions.NotesDefinitions.{none, more}
 use Rattle.regalloc2_function.proofs.ListsInParts.{first_of_part}
 
 -- to note one list of definitions and then another is to note both, one after the other

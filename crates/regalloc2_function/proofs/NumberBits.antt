@@ -1,14 +1,13 @@
 -- The numbers of a word's bits.
 use Rattle.std.proofs.Common.{ℕ, zero, suc, ◌≡◌, ◌≢◌, ◌<◌, ◌≤◌, ◌+◌, ◌-◌, ◌*◌, ◌/◌, ◌%◌, ◌^◌, refl, arith, bit_and, ◌∙◌, sym, ap, List, [], ◌∷◌, ◌++◌}
-use Rattle.std.proofs.Common.{append_assoc, w64, cond, Bool, true, false, nat_eq, eq-eqb}
+use Rattle.std.proofs.Common.{append_assoc, w64, cond, Bool, true, false, nat_eq, eq-eqb, inl, inr}
 use Rattle.std.specs.Prelude.{◌⊎◌, map, if◌then◌else◌}
-use Rattle.std.proofs.Common.{inl, inr}
 use Rattle.std.proofs.lemmas.Bool.{cases_eq, cases_lt}
 use Rattle.std.proofs.lemmas.Bool.Decides.{nat_tests}
 use Rattle.std.specs.Int.{bit_at, trailing_zeros}
 use Rattle.std.proofs.lemmas.Nat.Bits.{bit_at-zero, bit_at-lt, bit_at_above, bit_at-trailing_zeros, bit_at_clear_same, bit_at_clear_other}
 use Rattle.regalloc2_function.specs.Numbers.{bits_from, bits_of, times_listed, RisesFrom, numbers_of_set, word_of, has_number}
-use Rattle.regalloc2_function.specs.NumberWords.{KeysApart, KeysInOneOnly}
+use Rattle.regalloc2_function.specs.Inside.NumberWords.{KeysApart, KeysInOneOnly}
 use Rattle.regalloc2_function.proofs.NumberIndexes.{word_of-lacks}
 
 bits_zero : (n k : ℕ) → bits_from k n 0 ≡ []

@@ -1,12 +1,12 @@
 -- A word is written at an index for its key.
-use Rattle.std.proofs.Common.{ℕ, zero, suc, ◌≡◌, ◌≢◌, ◌<◌, ◌≤◌, ◌+◌, inl, inr, refl, sym, ap, ◌∙◌, arith, false, cond, nat_eq, eq-eqb, List, [], ◌∷◌}
-use Rattle.std.proofs.Common.{◌++◌, length, slice_index_or, slice_set, take, length-take}
+use Rattle.std.proofs.Common.{ℕ, zero, suc, ◌≡◌, ◌≢◌, ◌<◌, ◌≤◌, ◌+◌, inl, inr, refl, sym, ap, ◌∙◌, arith, false, cond, nat_eq, eq-eqb, List, [], ◌∷◌, ◌++◌}
+use Rattle.std.proofs.Common.{length, slice_index_or, slice_set, take, length-take}
 use Rattle.std.proofs.Math.Seq.{take-set-lt}
 use Rattle.std.proofs.lemmas.List.{take_more_set}
 use Rattle.std.proofs.lemmas.Bool.Decides.{nat_tests}
 use Rattle.std.proofs.lemmas.Bool.{ne_eqb}
 use Rattle.regalloc2_function.specs.Numbers.{word_of}
-use Rattle.regalloc2_function.specs.NumberWords.{LacksKey, KeysApart, IsIndexFor}
+use Rattle.regalloc2_function.specs.Inside.NumberWords.{LacksKey, KeysApart, IsIndexFor}
 
 apart-flip : (a b : ℕ) → nat_eq a b ≡ false → nat_eq b a ≡ false
 apart-flip a b e = grind (arith, nat_tests)

@@ -9,7 +9,7 @@ use Rattle.std.proofs.lemmas.List.Sorted.{IsPermutation-map, IsPermutation-sym}
 use Rattle.std.proofs.lemmas.Map.Keys.{IsDistinct-IsPermutation}
 use Rattle.std.proofs.lemmas.Bool.Decides.{nat_tests}
 use Rattle.regalloc2_function.specs.Numbers.{word_of}
-use Rattle.regalloc2_function.specs.NumberWords.{LacksKey, KeysApart}
+use Rattle.regalloc2_function.specs.Inside.NumberWords.{LacksKey, KeysApart}
 use Rattle.regalloc2_function.proofs.NumberIndexes.{word_of-lacks}
 
 Lacks-from_all : (k : ℕ) (es : List (ℕ × ℕ)) → AllByRecursion (λ y. nat_eq k y ≡ false) (keys_of es) → LacksKey k es

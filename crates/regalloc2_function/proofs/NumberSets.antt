@@ -1,12 +1,12 @@
 -- The words of a set, inline and not.
-use Rattle.std.proofs.Common.{ℕ, ◌≡◌, ◌≢◌, ◌<◌, ◌+◌, ◌*◌, ◌-◌, ◌/◌, ◌%◌, ◌^◌, inl, inr, refl, ap, ◌∙◌, arith, Bool, true, false, cond, nat_eq, eq-eqb}
-use Rattle.std.proofs.Common.{List, [], ◌∷◌, ◌++◌, bit_and, bit_or, w64}
+use Rattle.std.proofs.Common.{ℕ, ◌≡◌, ◌≢◌, ◌<◌, ◌+◌, ◌*◌, ◌-◌, ◌/◌, ◌%◌, ◌^◌, inl, inr, refl, ap, ◌∙◌, arith, Bool, true, false, cond, nat_eq, eq-eqb, List}
+use Rattle.std.proofs.Common.{[], ◌∷◌, ◌++◌, bit_and, bit_or, w64}
 use Rattle.std.specs.Int.{bit_at}
 use Rattle.std.proofs.lemmas.Bool.{cases_eq}
 use Rattle.std.proofs.lemmas.Bool.Decides.{nat_tests}
 use Rattle.std.proofs.lemmas.Nat.Bits.{bit_at_set_same, bit_at_set_other, bit_at_clear_same, bit_at_clear_other, bit_at-zero}
 use Rattle.regalloc2_function.specs.Numbers.{word_of, has_number}
-use Rattle.regalloc2_function.specs.NumberWords.{LacksKey, KeysApart, KeysInOneOnly}
+use Rattle.regalloc2_function.specs.Inside.NumberWords.{LacksKey, KeysApart, KeysInOneOnly}
 use Rattle.regalloc2_function.proofs.NumberBits.{word_of-append}
 
 -- a word of the whole

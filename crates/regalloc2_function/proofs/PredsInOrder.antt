@@ -1,7 +1,6 @@
 -- A pass over all successors that meets each block's predecessors in the order of its list.
-use Rattle.std.proofs.Common.{ℕ, zero, suc, ◌≡◌, ◌+◌, ◌-◌, ◌*◌, ◌<◌, ◌≤◌, Bool, true, false}
-use Rattle.std.proofs.Common.{List, [], ◌∷◌, ◌++◌, length, get_or, set, replicate, take, drop, refl, sym, ap, ◌∙◌}
-use Rattle.std.proofs.Common.{eq-eqb, add-one, append_assoc, append-nil, subst, inl, inr, arith}
+use Rattle.std.proofs.Common.{ℕ, zero, suc, ◌≡◌, ◌+◌, ◌-◌, ◌*◌, ◌<◌, ◌≤◌, Bool, true, false, List, [], ◌∷◌, ◌++◌, length, get_or, set, replicate, take, drop}
+use Rattle.std.proofs.Common.{refl, sym, ap, ◌∙◌, eq-eqb, add-one, append_assoc, append-nil, subst, inl, inr, arith}
 use Rattle.std.specs.Prelude.{◌↔◌, cond, flat_map, nat_eq}
 use Rattle.std.proofs.Math.Seq.{drop-cons, drop-length}
 use Rattle.std.proofs.lemmas.Bool.{cases_eq, ne_eqb}
@@ -9,9 +8,9 @@ use Rattle.std.proofs.lemmas.List.{get_or_at, get_or-set_other, get_or-set_same,
 use Rattle.std.proofs.lemmas.List.Sums.{count_by_more_no, count_by_more_yes, sum_by-append}
 use Rattle.std.proofs.lemmas.List.Folds.{sum_by-replicate}
 use Rattle.regalloc2_index.specs.Range.{numbers_from}
-use Rattle.regalloc2_function.specs.FunctionValue.{FunctionValue, block_at}
-use Rattle.regalloc2_function.specs.WellFormed.{EachBlock, PredecessorsAgree, SuccessorsAreBlocks, times_in}
-use Rattle.regalloc2_function.specs.Ways.{ListedInOrder, MetSoFar, ways_of_first}
+use Rattle.regalloc2_function.specs.FunctionValue.{FunctionValue, block_at, EachBlock}
+use Rattle.regalloc2_function.specs.WellFormed.{PredecessorsAgree, SuccessorsAreBlocks, times_in}
+use Rattle.regalloc2_function.specs.Inside.Ways.{ListedInOrder, MetSoFar, ways_of_first}
 use Rattle.regalloc2_function.proofs.ListsInParts.{numbers_more, numbers_split}
 use Rattle.regalloc2_function.proofs.PredsListed.{all_ways_end, all_ways_more}
 use Rattle.regalloc2_function.proofs.TimesInList.{times-take}

@@ -1,6 +1,6 @@
 -- Lists of blocks that are filled one position at a time.
-use Rattle.std.proofs.Common.{ℕ, ◌≡◌, ◌≢◌, ◌+◌, ◌<◌, ◌≤◌, Bool, true, false, List, [], ◌∷◌, ◌++◌, length, get_or, set, take, sym, ap, ◌∙◌, subst}
-use Rattle.std.proofs.Common.{eq-eqb, add-zero, zero-add, inl, inr, ◌⊎◌, arith}
+use Rattle.std.proofs.Common.{ℕ, ◌≡◌, ◌≢◌, ◌+◌, ◌<◌, ◌≤◌, Bool, true, false, List, [], ◌∷◌, ◌++◌, length, get_or, set, take, sym, ap, ◌∙◌, subst, eq-eqb}
+use Rattle.std.proofs.Common.{add-zero, zero-add, inl, inr, ◌⊎◌, arith}
 use Rattle.std.specs.Prelude.{All, cond, map, nat_eq}
 use Rattle.std.proofs.lemmas.Bool.{cases_eq, ne_eqb}
 use Rattle.std.proofs.lemmas.List.{get_or-map, get_or-set_other, get_or-set_same, get_or_past, length-map, map-set}
@@ -8,7 +8,7 @@ use Rattle.std.proofs.lemmas.List.Sums.{count_by_more_yes, sum_by_more, sum_by_p
 use Rattle.std.specs.declared.vec.Vec.{Vec}
 use Rattle.regalloc2_function.specs.FunctionValue.{FunctionValue, block_at, no_block}
 use Rattle.regalloc2_function.specs.WellFormed.{times_in}
-use Rattle.regalloc2_function.specs.Ways.{listed_of}
+use Rattle.regalloc2_function.specs.Inside.Ways.{listed_of}
 use Rattle.regalloc2_function.proofs.ListMembers.{all_members}
 use Rattle.regalloc2_function.proofs.TimesInList.{times-take}
 

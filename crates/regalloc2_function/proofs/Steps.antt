@@ -2,7 +2,7 @@
 use Rattle.std.proofs.Common.{◌≡◌, ℕ, suc, ◌+◌, ◌-◌, ◌<◌, ◌≤◌, List, [], ◌∷◌, length, true, false, refl, map, arith}
 use Rattle.std.specs.Prelude.{nat_le}
 use Rattle.std.proofs.lemmas.Bool.Decides.{nat_tests}
-use Rattle.regalloc2_names.specs.Point.{before}
+use Rattle.regalloc2_names.specs.Place.{before}
 use Rattle.regalloc2_function.specs.declared.listing.Edit.{Edit}
 use Rattle.regalloc2_function.specs.Listing.{ListedInst, ListedMove, listing_left}
 use Rattle.regalloc2_function.specs.Views.{move_of, edit_of}

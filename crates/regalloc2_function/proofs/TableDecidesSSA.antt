@@ -14,8 +14,8 @@ use Rattle.regalloc2_function.specs.FunctionValue.{FunctionValue}
 use Rattle.regalloc2_function.specs.WellFormed.{BlocksFollow, DefinedOnce, IsDefinedBy, UsesAreDefined}
 use Rattle.regalloc2_function.specs.Reasons.{AreSingle, DefinitionSite, IsDefinitionFault, IsFirstRepeat, IsFirstUndefined, UseSite, definitions_among}
 use Rattle.regalloc2_function.specs.Reasons.{definitions_in, uses_in}
-use Rattle.regalloc2_function.specs.Definitions.{IsUsable, NamesTaken, NamesUnusable, NotesDefinitions, Table, entry_of}
-use Rattle.regalloc2_function.specs.TableLength.{CoversDefinitions}
+use Rattle.regalloc2_function.specs.Inside.Definitions.{IsUsable, NamesTaken, NamesUnusable, NotesDefinitions, Table, entry_of}
+use Rattle.regalloc2_function.specs.Inside.TableLength.{CoversDefinitions}
 use Rattle.regalloc2_function.proofs.ListingsOfFunction.{defined_listed, listed_defines, listed_uses, once_single, single_once, uses_listed}
 use Rattle.regalloc2_function.proofs.DefsCounted.{among_append}
 use Rattle.regalloc2_function.proofs.TableKeepsDefs.{Keeps, notes_keep, taken_repeats}

@@ -1,6 +1,6 @@
 -- What a table keeps of the definitions that are noted in it.
-use Rattle.std.proofs.Common.{ℕ, ◌≡◌, ◌≢◌, ◌<◌, false, Option, Some, None, List, [], ◌∷◌, ◌++◌, length, set, replicate, refl, sym, ap, ◌∙◌}
-use Rattle.std.proofs.Common.{subst, eq-eqb, inl, inr, arith, length-set, get_or-set_same, get_or-set_other}
+use Rattle.std.proofs.Common.{ℕ, ◌≡◌, ◌≢◌, ◌<◌, false, Option, Some, None, List, [], ◌∷◌, ◌++◌, length, set, replicate, refl, sym, ap, ◌∙◌, subst, eq-eqb}
+use Rattle.std.proofs.Common.{inl, inr, arith, length-set, get_or-set_same, get_or-set_other}
 use Rattle.std.specs.Prelude.{Contains, nat_eq}
 use Rattle.std.proofs.lemmas.Bool.{cases_Bool, cases_eq, cases_lt}
 use Rattle.std.proofs.lemmas.List.{get_or-replicate, get_or_past, length-replicate}
@@ -8,8 +8,8 @@ use Rattle.std.proofs.lemmas.List.Elements.{Contains-append_left, Contains-push,
 use Rattle.std.proofs.lemmas.Bool.Decides.{Decides-eqb}
 use Rattle.regalloc2_function.specs.Reasons.{DefinitionSite, AreSingle, definitions_among}
 use Rattle.regalloc2_function.specs.declared.ssa.Definition.{Definition}
-use Rattle.regalloc2_function.specs.Definitions.{Table, NotesDefinitions, IsNumberTaken, entry_of, kept_of}
-use Rattle.regalloc2_function.specs.Definitions.NotesDefinitions.{none, more}
+use Rattle.regalloc2_function.specs.Inside.Definitions.{Table, NotesDefinitions, IsNumberTaken, entry_of, kept_of}
+use Rattle.regalloc2_function.specs.Inside.Definitions.NotesDefinitions.{none, more}
 use Rattle.regalloc2_function.proofs.DefsCounted.{among_append}
 
 -- a table has an entry for each of these definitions and no other, and they define each number at most once and below a bound

@@ -4,9 +4,9 @@ use Rattle.std.specs.Prelude.{All, Contains}
 use Rattle.std.proofs.lemmas.List.Elements.{All-contains}
 use Rattle.regalloc2_names.specs.Register.{VirtualRegister}
 use Rattle.regalloc2_names.specs.Operand.{OperandValue, is_def}
-use Rattle.regalloc2_names.specs.Point.{before, after}
+use Rattle.regalloc2_names.specs.Place.{before, after}
 use Rattle.regalloc2_function.specs.FunctionValue.{FunctionValue, block_at, inst_at}
-use Rattle.regalloc2_function.specs.TableLength.{CoversDefinitions, IsBelow, IsShort, ReachedByDef, ReachedByParam}
+use Rattle.regalloc2_function.specs.Inside.TableLength.{CoversDefinitions, IsBelow, IsShort, ReachedByDef, ReachedByParam}
 use Rattle.regalloc2_function.proofs.ListingsOfFunction.{has_operands}
 
 -- some block's parameter reaches the bound, if it isn't 0

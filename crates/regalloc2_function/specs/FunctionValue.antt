@@ -1,19 +1,18 @@
 -- The function that is being allocated, as contracts see it.
 -- Its parts are what the methods of upstream's trait `Function` return.
-use Rattle.std.specs.Prelude.{ℕ, ◌<◌, ◌≤◌, ◌^◌, Bool, false, IsTrue, List, [], ◌∷◌, length, slice_index_or, sum_by, All}
+use Rattle.std.specs.Prelude.{ℕ, ◌<◌, ◌≤◌, ◌^◌, Bool, false, IsTrue, List, [], ◌∷◌, length, slice_index_or, sum_by, All, ◌-◌}
 use Rattle.std.specs.Int.{is_power_of_two}
 use Rattle.regalloc2_index.specs.Number.{invalid_number}
 use Rattle.regalloc2_index.specs.Range.{Span}
-use Rattle.regalloc2_names.specs.Place.{slot_limit}
-use Rattle.regalloc2_names.specs.Point.{inst_limit}
-use Rattle.regalloc2_names.specs.Register.{VirtualRegister, vreg_limit}
-use Rattle.regalloc2_names.specs.Operand.{OperandValue}
 use Rattle.regalloc2_names.specs.declared.RegClass.{RegClass}
 use Rattle.regalloc2_names.specs.declared.RegClass.TheVariants.{Int, Float, Vector}
 use Rattle.regalloc2_names.specs.declared.sets.PRegSet.{PRegSet}
 use Rattle.regalloc2_names.specs.declared.OperandConstraint.TheVariants.{Any}
 use Rattle.regalloc2_names.specs.declared.OperandKind.TheVariants.{Use}
 use Rattle.regalloc2_names.specs.declared.OperandPos.TheVariants.{Early}
+use Rattle.regalloc2_names.specs.Place.{slot_limit, inst_limit}
+use Rattle.regalloc2_names.specs.Register.{VirtualRegister, vreg_limit}
+use Rattle.regalloc2_names.specs.Operand.{OperandValue}
 
 -- an instruction
 pub record InstValue : Type 0 where
@@ -109,3 +108,19 @@ no_operand = record { vreg = record { number = 0; class = Int }; constraint = An
 -- the operand of an index
 abbrev pub op_at : List OperandValue → ℕ → OperandValue
 op_at operands k = slice_index_or operands k no_operand
+
+-- each block of a function
+abbrev pub EachBlock : FunctionValue → (ℕ → BlockValue → Type 0) → Type 0
+EachBlock f P = (b : ℕ) → b < length f.blocks → P b (block_at f b)
+
+-- each operand of an instruction, with its index
+abbrev pub EachOperand : InstValue → (ℕ → OperandValue → Type 0) → Type 0
+EachOperand i P = (k : ℕ) (d : OperandValue) → k < length i.operands → P k (slice_index_or i.operands k d)
+
+-- each instruction of a block
+abbrev pub EachInst : FunctionValue → BlockValue → (ℕ → InstValue → Type 0) → Type 0
+EachInst f b P = (i : ℕ) → b.range.first ≤ i → i < b.range.end → P i (inst_at f i)
+
+-- the last instruction of a block
+abbrev pub last_of : BlockValue → ℕ
+last_of b = b.range.end - 1

@@ -1,5 +1,5 @@
 -- What a closure returns for blocks.
-use Rattle.std.specs.Prelude.{ℕ, ◌≡◌, ◌<◌, Bool, false, List, [], ◌∷◌, All, flat_map, length, replicate}
+use Rattle.std.specs.Prelude.{ℕ, ◌≡◌, ◌<◌, List, ◌∷◌, All, flat_map}
 use Rattle.std.specs.Borrow.{Bor}
 use Rattle.regalloc2_index.specs.Range.{numbers_from}
 
@@ -14,10 +14,3 @@ named_blocks succs num entry = entry ∷ flat_map succs (numbers_from 0 num)
 -- the entry and each successor is one of `num` blocks
 abbrev pub AreBlocks : (ℕ → List ℕ) → ℕ → ℕ → Type 0
 AreBlocks succs num entry = All (λ s. s < num) (named_blocks succs num entry)
-
--- a depth-first walk may begin: the closure may be called for each block, and no block is visited or listed
-pub record CanWalk (may_call : ℕ → Type 0) (answers : ℕ → Bor (List ℕ) → Type 0) (entry : ℕ) (visited : List Bool) (listed : List ℕ) : Type 0 where
-  pub callable : (b : ℕ) → b < length visited → may_call b
-  pub same : (succs : ℕ → List ℕ) × AreSuccessors answers (length visited) succs × AreBlocks succs (length visited) entry
-  pub unvisited : visited ≡ replicate (length visited) false
-  pub empty : listed ≡ []

@@ -1,11 +1,10 @@
 -- The registers of a machine, as contracts see them.
 -- Its parts are the fields of upstream's `MachineEnv`.
-use Rattle.std.specs.Prelude.{Bool, ◌||◌, List, [], ◌∷◌, Contains, Option, None, slice_index_or}
-use Rattle.regalloc2_names.specs.Register.{Register, class_code}
-use Rattle.regalloc2_names.specs.RegisterSet.{has_register}
-use Rattle.regalloc2_names.specs.Place.{Place, NoPlace, InRegister, InSlot}
+use Rattle.std.specs.Prelude.{Bool, ◌||◌, List, [], ◌∷◌, Contains, Option, None, slice_index_or, ℕ, zero, suc, ◌+◌, if◌then◌else◌}
 use Rattle.regalloc2_names.specs.declared.RegClass.{RegClass}
 use Rattle.regalloc2_names.specs.declared.sets.PRegSet.{PRegSet}
+use Rattle.regalloc2_names.specs.Register.{Register, class_code, has_register}
+use Rattle.regalloc2_names.specs.Place.{Place, NoPlace, InRegister, InSlot}
 
 abbrev pub empty_set : PRegSet
 empty_set = record { bits = 0 ∷ 0 ∷ 0 ∷ [] }
@@ -47,3 +46,14 @@ abbrev pub IsPlainRegister : MachineValue → Place → Type 0
 IsPlainRegister env NoPlace = ⊥
 IsPlainRegister env (InRegister r) = IsFixedStackSlot env r → ⊥
 IsPlainRegister env (InSlot n) = ⊥
+
+-- how many numbers below a count pass
+unfoldable pub count_below : (ℕ → Bool) → ℕ → ℕ
+count_below p zero = 0
+count_below p (suc n) = (if p n then 1 else 0) + count_below p n
+
+abbrev pub register_number : RegClass → ℕ → Register
+register_number class n = record { number = n; class = class }
+
+unfoldable pub allocatable_count : MachineValue → RegClass → ℕ
+allocatable_count env class = count_below (λ n. is_allocatable env class (register_number class n)) 64

@@ -3,8 +3,7 @@
 use Rattle.std.specs.Prelude.{ℕ, ◌≡◌, ◌≢◌, ◌+◌, ◌≤◌, ◌<◌, Bool, ◌&&◌, ◌||◌, nat_eq, nat_lt, if◌then◌else◌, List, length, slice_index, slice_index_or}
 use Rattle.std.specs.Prelude.{slice_range, filter, map, All}
 use Rattle.std.specs.List.Sorted.{IsNonDecreasingBy}
-use Rattle.regalloc2_names.specs.Place.{Place, NoPlace}
-use Rattle.regalloc2_names.specs.Point.{before}
+use Rattle.regalloc2_names.specs.Place.{Place, NoPlace, before}
 use Rattle.regalloc2_function.specs.FunctionValue.{FunctionValue, inst_at}
 
 -- a move from a place to another

@@ -1,17 +1,28 @@
 -- Where the tests of a function fail first, as their errors report.
-use Rattle.std.specs.Prelude.{ℕ, ◌≡◌, ◌≢◌, ◌<◌, ◌≤◌, ◌⊎◌, List, [], ◌∷◌, ◌++◌, All, count_by, filter_map, flat_map, length, map, nat_eq}
-use Rattle.std.specs.Prelude.{slice_index_or, Option, None, Some, if◌then◌else◌}
+use Rattle.std.specs.Prelude.{ℕ, ◌≡◌, ◌≢◌, ◌<◌, ◌≤◌, ◌⊎◌, List, [], ◌∷◌, ◌++◌, All, count_by, filter_map, flat_map, length, map, nat_eq, slice_index_or}
+use Rattle.std.specs.Prelude.{Option, None, Some, if◌then◌else◌}
 use Rattle.regalloc2_index.specs.Range.{numbers_from, numbers_of}
+use Rattle.regalloc2_names.specs.declared.RegAllocError.{RegAllocError}
+use Rattle.regalloc2_names.specs.declared.RegAllocError.TheVariants.{BB, Branch, CritEdge, DisallowedBranchArg, EntryLivein, Memory, SSA, Unsupported}
 use Rattle.regalloc2_names.specs.Register.{VirtualRegister}
 use Rattle.regalloc2_names.specs.Operand.{OperandValue, is_def, is_reading}
-use Rattle.regalloc2_names.specs.Point.{before, after, invalid_inst}
-use Rattle.regalloc2_names.specs.declared.RegAllocError.{RegAllocError}
-use Rattle.regalloc2_names.specs.declared.RegAllocError.TheVariants.{BB, Branch, CritEdge, DisallowedBranchArg, EntryLivein, Memory, SSA}
-use Rattle.regalloc2_function.specs.FunctionValue.{FunctionValue, BlockValue, block_at, inst_at}
+use Rattle.regalloc2_names.specs.Place.{before, after, invalid_inst}
+use Rattle.regalloc2_function.specs.FunctionValue.{FunctionValue, BlockValue, block_at, inst_at, last_of, InstValue}
 use Rattle.regalloc2_function.specs.WellFormed.{ArgumentsCounted, ArgumentsFit, BlocksEnd, BlocksFollow, DefinedOnce, EndsAt, EntryIsFirst, FollowsAt}
-use Rattle.regalloc2_function.specs.WellFormed.{IsDefinedBy, IsFirstToFail, NoCriticalEdge, NoOperandsIntoJoins, PredecessorsAgree}
-use Rattle.regalloc2_function.specs.WellFormed.{SuccessorsAreBlocks, UsesAreDefined, last_of, ArgumentsFitAt, NoOperandsAt, NotCriticalAt}
-use Rattle.regalloc2_function.specs.WellFormed.{PredecessorsAt}
+use Rattle.regalloc2_function.specs.WellFormed.{IsDefinedBy, NoCriticalEdge, NoOperandsIntoJoins, PredecessorsAgree, SuccessorsAreBlocks, UsesAreDefined}
+use Rattle.regalloc2_function.specs.WellFormed.{ArgumentsFitAt, NoOperandsAt, NotCriticalAt, PredecessorsAt, ReusesAreSound, FixedAvoidClobbers, AreUnlimited}
+use Rattle.regalloc2_function.specs.WellFormed.{BranchDefinesInPlace}
+use Rattle.regalloc2_function.specs.Machine.{MachineValue}
+
+-- the first block that fails a test
+abbrev pub IsFirstToFail : FunctionValue → (ℕ → BlockValue → Type 0) → ℕ → Type 0
+IsFirstToFail f P b = (b < length f.blocks) × (P b (block_at f b) → ⊥) × ((c : ℕ) → c < b → P c (block_at f c))
+
+-- the first instruction that fails a test
+pub record IsFirstFailing (f : FunctionValue) (P : InstValue → Type 0) (i : ℕ) : Type 0 where
+  pub there : i < length f.insts
+  pub fails : P (inst_at f i) → ⊥
+  pub passed : (j : ℕ) → j < i → P (inst_at f j)
 
 -- the first of a list that fails: all before it pass
 pub record IsFirstIn {X : Type 0} (P : X → Type 0) (xs : List X) (x : X) : Type 0 where
@@ -153,3 +164,21 @@ pub data IsSoundnessFault (f : FunctionValue) : RegAllocError → Type 0 where
   open_end : (b : ℕ) → EntryIsFirst f → IsFirstToFail f (EndsAt f) b → IsSoundnessFault f (BB b)
   arguments : (b : ℕ) → EntryIsFirst f → BlocksEnd f → IsFirstToFail f (ArgumentsFitAt f) b → IsSoundnessFault f (Branch (last_of (block_at f b)))
   definitions : (v : VirtualRegister) (i : ℕ) → EntryIsFirst f → BlocksEnd f → ArgumentsFit f → IsDefinitionFault f (SSA v i) → IsSoundnessFault f (SSA v i)
+
+-- where the tests of reuses, and then of fixed registers, fail first
+abbrev pub IsFixedFault : FunctionValue → MachineValue → RegAllocError → Type 0
+IsFixedFault f env e = (i : ℕ) × (e ≡ Unsupported i) × (IsFirstFailing f (ReusesAreSound env) i
+    ⊎ (((j : ℕ) → j < length f.insts → ReusesAreSound env (inst_at f j)) × IsFirstFailing f FixedAvoidClobbers i))
+
+-- an instruction that the allocator rejects: the first that has a `Limit`, or if none has one, the first branch that defines in any register or by a
+-- reuse
+abbrev pub IsUnsupported : FunctionValue → ℕ → Type 0
+IsUnsupported f i = IsFirstFailing f AreUnlimited i ⊎ (((j : ℕ) → j < length f.insts → AreUnlimited (inst_at f j)) × IsFirstFailing f BranchDefinesInPlace i)
+
+-- memory ran out, or a test failed: of blocks and edges; else of the entry, terminators, arguments, definitions and uses; else of
+-- reuses and fixed registers
+pub data IsFunctionFault (f : FunctionValue) (env : MachineValue) : RegAllocError → Type 0 where
+  memory : IsFunctionFault f env Memory
+  misshapen : {e : RegAllocError} → IsShapeFault f e → IsFunctionFault f env e
+  unsound : {e : RegAllocError} → HasShape f → IsSoundnessFault f e → IsFunctionFault f env e
+  clashing : {e : RegAllocError} → HasShape f → HasSoundness f → IsFixedFault f env e → IsFunctionFault f env e

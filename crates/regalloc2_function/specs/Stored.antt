@@ -1,8 +1,7 @@
 -- What stored outputs stand for.
 use Rattle.std.specs.Prelude.{ℕ, map, All}
-use Rattle.regalloc2_names.specs.Place.{Place}
+use Rattle.regalloc2_names.specs.Place.{Place, IsPointNumber}
 use Rattle.regalloc2_names.specs.PlaceBits.{IsPlaceBits, place_of_bits}
-use Rattle.regalloc2_names.specs.Point.{IsPointNumber}
 use Rattle.regalloc2_function.specs.OutputValue.{OutputValue, MoveValue, DebugLocation}
 use Rattle.regalloc2_function.specs.declared.serialize.StoredOutput.{StoredOutput}
 

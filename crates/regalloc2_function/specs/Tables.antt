@@ -1,9 +1,8 @@
 -- The tables of a function's blocks and instructions.
 use Rattle.std.specs.Prelude.{ℕ, ◌≡◌, ◌<◌, ◌≤◌, ◌↔◌, true, List, [], ◌∷◌, length, map, slice_index}
-use Rattle.regalloc2_names.specs.Point.{before, after}
-use Rattle.regalloc2_function.specs.FunctionValue.{FunctionValue, BlockValue, block_at}
+use Rattle.regalloc2_names.specs.Place.{before, after}
+use Rattle.regalloc2_function.specs.FunctionValue.{FunctionValue, BlockValue, block_at, last_of}
 use Rattle.regalloc2_function.specs.Reasons.{HasShape}
-use Rattle.regalloc2_function.specs.WellFormed.{last_of}
 use Rattle.regalloc2_function.specs.Leaves.{Leaves, ListsOnce, Reaches, met, succs_in}
 use Rattle.regalloc2_function.specs.declared.cfg.CFGInfo.{CFGInfo}
 

@@ -1,30 +1,17 @@
 -- The preconditions on a function, in the order in which they are tested.
 -- The tests are as in upstream's `CFGInfo::init` and `validate_ssa`, and what its allocators take for granted.
-use Rattle.std.specs.Prelude.{ℕ, ◌≡◌, ◌+◌, ◌-◌, ◌<◌, ◌≤◌, ◌⊎◌, Bool, true, false, ◌&&◌, nat_eq, if◌then◌else◌, List, [], ◌∷◌, All, Contains, count_by}
-use Rattle.std.specs.Prelude.{length, map, slice_index, slice_index_or}
+use Rattle.std.specs.Prelude.{ℕ, ◌≡◌, ◌+◌, ◌-◌, ◌<◌, ◌≤◌, ◌⊎◌, Bool, true, false, ◌&&◌, nat_eq, if◌then◌else◌, List, [], ◌∷◌, All, Contains, count_by, length}
+use Rattle.std.specs.Prelude.{map, slice_index, slice_index_or}
 use Rattle.regalloc2_names.specs.declared.OperandConstraint.{OperandConstraint}
 use Rattle.regalloc2_names.specs.declared.OperandConstraint.TheVariants.{Any, Reg, Stack, FixedReg, Reuse, Limit}
 use Rattle.regalloc2_names.specs.declared.RegClass.{RegClass}
 use Rattle.regalloc2_names.specs.declared.OperandKind.TheVariants.{Def, Use}
 use Rattle.regalloc2_names.specs.declared.OperandPos.TheVariants.{Early, Late}
-use Rattle.regalloc2_names.specs.Register.{Register, VirtualRegister}
-use Rattle.regalloc2_names.specs.RegisterSet.{has_register}
+use Rattle.regalloc2_names.specs.Register.{Register, VirtualRegister, has_register}
 use Rattle.regalloc2_names.specs.Operand.{OperandValue, is_def, is_reading}
-use Rattle.regalloc2_names.specs.Point.{before, after}
-use Rattle.regalloc2_function.specs.FunctionValue.{FunctionValue, BlockValue, InstValue, block_at, inst_at}
+use Rattle.regalloc2_names.specs.Place.{before, after}
+use Rattle.regalloc2_function.specs.FunctionValue.{FunctionValue, BlockValue, InstValue, block_at, inst_at, EachBlock, EachOperand, EachInst, last_of, op_at}
 use Rattle.regalloc2_function.specs.Machine.{MachineValue, is_allocatable}
-
--- each block of a function
-abbrev pub EachBlock : FunctionValue → (ℕ → BlockValue → Type 0) → Type 0
-EachBlock f P = (b : ℕ) → b < length f.blocks → P b (block_at f b)
-
--- each operand of an instruction, with its index
-abbrev pub EachOperand : InstValue → (ℕ → OperandValue → Type 0) → Type 0
-EachOperand i P = (k : ℕ) (d : OperandValue) → k < length i.operands → P k (slice_index_or i.operands k d)
-
--- each instruction of a block
-abbrev pub EachInst : FunctionValue → BlockValue → (ℕ → InstValue → Type 0) → Type 0
-EachInst f b P = (i : ℕ) → b.range.first ≤ i → i < b.range.end → P i (inst_at f i)
 
 -- how often a number is in a list
 abbrev pub times_in : ℕ → List ℕ → ℕ
@@ -33,10 +20,6 @@ times_in n xs = count_by (λ x. nat_eq x n) xs
 -- how many edges lead into a block; the function's start counts as one into the entry
 abbrev pub ways_into : FunctionValue → ℕ → ℕ
 ways_into f b = length (block_at f b).preds + (if nat_eq b f.entry then 1 else 0)
-
--- the last instruction of a block
-abbrev pub last_of : BlockValue → ℕ
-last_of b = b.range.end - 1
 
 -- the entry and each successor is a block
 abbrev pub SuccessorsAreBlocks : FunctionValue → Type 0
@@ -183,6 +166,25 @@ pub record IsWellFormed (env : MachineValue) (f : FunctionValue) : Type 0 where
   pub reuses : All (ReusesAreSound env) f.insts
   pub fixed : All FixedAvoidClobbers f.insts
 
--- the first block that fails a test
-abbrev pub IsFirstToFail : FunctionValue → (ℕ → BlockValue → Type 0) → ℕ → Type 0
-IsFirstToFail f P b = (b < length f.blocks) × (P b (block_at f b) → ⊥) × ((c : ℕ) → c < b → P c (block_at f c))
+-- no operand has `Limit`
+abbrev pub IsUnlimited : OperandValue → Type 0
+IsUnlimited o = (n : ℕ) → o.constraint ≡ Limit n → ⊥
+
+abbrev pub AreUnlimited : InstValue → Type 0
+AreUnlimited i = (k : ℕ) → k < length i.operands → IsUnlimited (op_at i.operands k)
+
+-- the place of an operand under a constraint is known before registers are chosen: a register by name, or a stack place if need be
+abbrev pub IsInPlace : OperandConstraint → Type 0
+IsInPlace Any = Unit {0}
+IsInPlace Reg = ⊥
+IsInPlace Stack = Unit {0}
+IsInPlace (FixedReg r) = Unit {0}
+IsInPlace (Reuse n) = ⊥
+IsInPlace (Limit n) = Unit {0}
+
+abbrev pub DefinesInPlace : OperandValue → Type 0
+DefinesInPlace o = is_def o.kind ≡ true → IsInPlace o.constraint
+
+-- a branch defines in such places alone
+abbrev pub BranchDefinesInPlace : InstValue → Type 0
+BranchDefinesInPlace i = i.is_branch ≡ true → (k : ℕ) → k < length i.operands → DefinesInPlace (op_at i.operands k)

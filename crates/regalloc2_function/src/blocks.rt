@@ -1,14 +1,13 @@
 //! The tests of a function's blocks and edges.
 
-ghost use Rattle.std.specs.Prelude.{◌≡◌, ◌+◌, ◌<◌, ◌≤◌, ◌^◌, ◌↔◌, ◌⊎◌, ℕ, [], All, length, replicate, slice_index, IfErr, IfNone, IfOk, IfSome};
-ghost use Rattle.std.specs.Prelude.{IsTrue, OnOk, if◌then◌else◌, nat_eq};
+ghost use Rattle.std.specs.Prelude.{◌≡◌, ◌+◌, ◌<◌, ◌≤◌, ◌^◌, ◌↔◌, ◌⊎◌, ℕ, [], All, length, replicate, slice_index, IfErr, IfNone, IfOk, IfSome, IsTrue, OnOk};
+ghost use Rattle.std.specs.Prelude.{if◌then◌else◌, nat_eq};
 ghost use Rattle.std.specs.Bool.{OnTrue};
-ghost use Rattle.regalloc2_function.specs.FunctionValue.{block_at};
-ghost use Rattle.regalloc2_function.specs.Reasons.{HasShape, IsFirstFork, IsFirstIn, IsFirstOutside, IsShapeFault};
-ghost use Rattle.regalloc2_function.specs.WellFormed.{BlocksFollow, EachBlock, IsFirstToFail, NoCriticalEdge, NoOperandsAt, NoOperandsIntoJoins};
-ghost use Rattle.regalloc2_function.specs.WellFormed.{NotCriticalAt, PredecessorsAgree, PredecessorsAt, SuccessorsAreBlocks, last_of, times_in};
-ghost use Rattle.regalloc2_function.specs.WellFormed.{ways_into};
-ghost use Rattle.regalloc2_function.specs.Ways.{ListedInOrder, MetSoFar, listed_of};
+ghost use Rattle.regalloc2_function.specs.FunctionValue.{block_at, EachBlock, last_of};
+ghost use Rattle.regalloc2_function.specs.Reasons.{HasShape, IsFirstFork, IsFirstIn, IsFirstOutside, IsShapeFault, IsFirstToFail};
+ghost use Rattle.regalloc2_function.specs.WellFormed.{BlocksFollow, NoCriticalEdge, NoOperandsAt, NoOperandsIntoJoins, NotCriticalAt, PredecessorsAgree};
+ghost use Rattle.regalloc2_function.specs.WellFormed.{PredecessorsAt, SuccessorsAreBlocks, times_in, ways_into};
+ghost use Rattle.regalloc2_function.specs.Inside.Ways.{ListedInOrder, MetSoFar, listed_of};
 
 use crate::Function;
 use regalloc2_index::{Block, Inst};

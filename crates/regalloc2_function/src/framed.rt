@@ -3,7 +3,8 @@
 ghost use Rattle.std.specs.Prelude.{◌≡◌, ◌+◌, ◌<◌, ◌≤◌, ◌↔◌, ℕ, false, IsTrue, IsOk, IfErr, length};
 ghost use Rattle.regalloc2_function.specs.FunctionValue.{block_at, inst_at};
 ghost use Rattle.regalloc2_function.specs.WellFormed.{SuccessorsAreBlocks, BlocksFollow, FollowsAt, BlocksEnd, EndsAt, EndsBlock, ArgumentsCounted};
-ghost use Rattle.regalloc2_function.specs.WellFormed.{CountedAt, IsFramed, IsFirstToFail};
+ghost use Rattle.regalloc2_function.specs.WellFormed.{CountedAt, IsFramed};
+ghost use Rattle.regalloc2_function.specs.Reasons.{IsFirstToFail};
 
 use super::Function;
 use regalloc2_index::{Block, Inst};

@@ -1,12 +1,12 @@
 //! Sparse sets of numbers.
 
-ghost use Rattle.std.specs.Prelude.{◌≡◌, ◌≢◌, ◌+◌, ◌<◌, ◌≤◌, ◌/◌, ◌||◌, ℕ, true, false, cond, ◌∷◌, nat_eq, OnOk, OnErr, IfOk, IfSome, IfNone};
-ghost use Rattle.std.specs.Prelude.{[], length, slice_index_or, unwrap_or};
+ghost use Rattle.std.specs.Prelude.{◌≡◌, ◌≢◌, ◌+◌, ◌<◌, ◌≤◌, ◌/◌, ◌||◌, ℕ, true, false, cond, ◌∷◌, nat_eq, OnOk, OnErr, IfOk, IfSome, IfNone, [], length};
+ghost use Rattle.std.specs.Prelude.{slice_index_or, unwrap_or};
 ghost use Rattle.std.specs.Int.{bit_at};
 ghost use Rattle.std.specs.HashMap.{get};
 ghost use Rattle.std.specs.Iterator.{YieldsFirst, item_count};
 ghost use Rattle.regalloc2_function.specs.Numbers.{word_of, has_number, bits_of, numbers_of_set, set_limit, times_listed, word_bits, RisesFrom, ListsMembers};
-ghost use Rattle.regalloc2_function.specs.NumberWords.{LacksKey, KeysApart, IsIndexFor, KeysInOneOnly, inline_words};
+ghost use Rattle.regalloc2_function.specs.Inside.NumberWords.{LacksKey, KeysApart, IsIndexFor, KeysInOneOnly, inline_words};
 
 use std::alloc::{AllocError, Allocator, Global};
 use std::collections::{HashMap, hash_map};
@@ -68,7 +68,7 @@ impl Model for Few {
 
     ghost Value = { List (ℕ × ℕ) };
 
-    ghost use Rattle.regalloc2_function.specs.NumberWords.{KeysApart, inline_words};
+    ghost use Rattle.regalloc2_function.specs.Inside.NumberWords.{KeysApart, inline_words};
 
     ghost view = { λ few. take few.len few.words };
 
@@ -366,7 +366,7 @@ impl<A: Allocator> Model for IndexSet<A> {
 
     ghost Value = { List (ℕ × ℕ) };
 
-    ghost use Rattle.regalloc2_function.specs.NumberWords.{KeysInOneOnly};
+    ghost use Rattle.regalloc2_function.specs.Inside.NumberWords.{KeysInOneOnly};
 
     ghost view = { λ s. s.few ++ s.many.entries };
 

@@ -1,6 +1,5 @@
-//! The function that is being allocated, the machine, the output of an allocation, and their
-//! semantics; the function's order of blocks, its tables, and the tests that a well-formed function
-//! passes.
+//! The function that is being allocated, the machine and the output of an allocation; the function's
+//! order of blocks, its tables, and the tests that a well-formed function passes.
 //!
 //! Contracts speak of three values: the [`Function`]'s own, `machine_of` a [`MachineEnv`] and
 //! `output_of` an [`Output`]. The definitions over them are in this crate's `specs`.
@@ -8,8 +7,7 @@
 
 ghost use Rattle.std.specs.Prelude.{◌≡◌, ◌+◌, ◌<◌, ◌≤◌, SomeIff, length, map, slice_index_or, []};
 ghost use Rattle.regalloc2_index.specs.Number.{invalid_number};
-ghost use Rattle.regalloc2_names.specs.Place.{slot_limit};
-ghost use Rattle.regalloc2_names.specs.Point.{inst_limit};
+ghost use Rattle.regalloc2_names.specs.Place.{slot_limit, inst_limit};
 ghost use Rattle.regalloc2_names.specs.Register.{vreg_limit};
 ghost use Rattle.regalloc2_function.specs.FunctionValue.{FunctionValue, IsLimited, block_at, inst_at, operand_count, operand_limit, slot_size, label_of};
 
@@ -20,7 +18,6 @@ mod blocks;
 pub mod cfg;
 mod framed;
 pub mod indexset;
-mod laws;
 mod listing;
 mod machine;
 mod misfit;
@@ -31,7 +28,6 @@ pub mod table_length;
 
 pub use blocks::test_shape;
 pub use framed::{is_framed, test_blocks, test_ends};
-pub use laws::{agrees_where_numbers_do, finds_earlier_writes, reads_the_same_numbers};
 pub use listing::{Edit, InstOrEdit, Output, OutputIter};
 pub use machine::{MachineEnv, machine_fits, test_machine};
 pub use misfit::MachineMisfit;

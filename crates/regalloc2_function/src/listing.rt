@@ -3,8 +3,7 @@
 ghost use Rattle.std.specs.Prelude.{◌≡◌, ◌≢◌, ℕ, All, ◌+◌, ◌*◌, ◌<◌, ◌≤◌, ◌↔◌, IsTrue, nat_lt, length, []};
 ghost use Rattle.std.specs.List.Sorted.{IsNonDecreasingBy};
 ghost use Rattle.std.specs.Iterator.{YieldsFirstBy, item_count};
-ghost use Rattle.regalloc2_names.specs.Point.{before};
-ghost use Rattle.regalloc2_names.specs.Place.{NoPlace};
+ghost use Rattle.regalloc2_names.specs.Place.{before, NoPlace};
 ghost use Rattle.regalloc2_function.specs.FunctionValue.{block_at, inst_at};
 ghost use Rattle.regalloc2_function.specs.OutputValue.{OffsetsInOrder, IsInOrder, alloc_start, alloc_end, allocs_of};
 ghost use Rattle.regalloc2_function.specs.Listing.{block_listing, IsListedWithin};

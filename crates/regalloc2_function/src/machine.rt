@@ -1,17 +1,15 @@
 //! The registers of a machine.
 
-ghost use Rattle.std.specs.Prelude.{◌≡◌, ◌≢◌, ℕ, ◌<◌, ◌&&◌, ◌↔◌, IsTrue, IfErr, OnErr, OnOk, MatchOption, ◌⊎◌, All, Any, Contains, Some, true};
-ghost use Rattle.std.specs.Prelude.{false, length};
+ghost use Rattle.std.specs.Prelude.{◌≡◌, ◌≢◌, ℕ, ◌<◌, ◌&&◌, ◌↔◌, IsTrue, IfErr, OnErr, OnOk, MatchOption, ◌⊎◌, All, Any, Contains, Some, true, false, length};
 ghost use Rattle.std.specs.Bool.{OnTrue, OnFalse};
-ghost use Rattle.regalloc2_names.specs.Register.{Register, invalid_register};
-ghost use Rattle.regalloc2_names.specs.RegisterSet.{has_register};
+ghost use Rattle.regalloc2_names.specs.Register.{Register, invalid_register, has_register};
 ghost use Rattle.regalloc2_names.specs.declared.RegClass.{RegClass};
 ghost use Rattle.regalloc2_function.specs.FunctionValue.{FunctionValue, block_at, inst_at};
 ghost use Rattle.regalloc2_function.specs.Machine.{is_allocatable, is_preferred, is_non_preferred, scratch_of};
 ghost use Rattle.regalloc2_names.specs.Operand.{is_fixed_nonallocatable};
 ghost use Rattle.regalloc2_function.specs.Fitting.{MachineFits, ClassFits, NamesClass, NamesByArgument};
-ghost use Rattle.regalloc2_function.specs.Misfit.{AreSlotsValid, FitsBefore, AreRegistersSound, IsScratchSound, IsSlotApart, PassesRegisters};
-ghost use Rattle.regalloc2_function.specs.Misfit.{PassesScratch, IsMisfit};
+ghost use Rattle.regalloc2_function.specs.Misfit.{AreSlotsValid, FitsBefore, AreRegistersSound, IsScratchSound, IsSlotApart, PassesRegisters, PassesScratch};
+ghost use Rattle.regalloc2_function.specs.Misfit.{IsMisfit};
 ghost use Rattle.regalloc2_function.specs.Views.{machine_of};
 
 use super::Function;
@@ -158,8 +156,7 @@ impl<A: Allocator> MachineEnv<A> {
 /// Collects the registers that may be allocated, of all classes.
 impl<A: Allocator> From<&MachineEnv<A>> for PRegSet {
     ghost use Rattle.std.specs.Prelude.{◌≡◌, ◌||◌};
-    ghost use Rattle.regalloc2_names.specs.Register.{Register};
-    ghost use Rattle.regalloc2_names.specs.RegisterSet.{has_register};
+    ghost use Rattle.regalloc2_names.specs.Register.{Register, has_register};
     ghost use Rattle.regalloc2_names.specs.declared.RegClass.{RegClass};
     ghost use Rattle.regalloc2_function.specs.Machine.{is_allocatable};
     ghost use Rattle.regalloc2_function.specs.Views.{machine_of};

@@ -5,7 +5,8 @@ ghost use Rattle.regalloc2_index.specs.Number.{number_limit};
 ghost use Rattle.regalloc2_function.specs.Reasons.{IsFirstIn};
 ghost use Rattle.regalloc2_function.specs.WellFormed.{SuccessorsAreBlocks};
 ghost use Rattle.regalloc2_function.specs.Leaves.{Leaves, ListsOnce, Reaches, met, succs_in};
-ghost use Rattle.regalloc2_function.specs.Listed.{AreBlocks, AreSuccessors, CanWalk, named_blocks};
+ghost use Rattle.regalloc2_function.specs.Listed.{AreBlocks, AreSuccessors, named_blocks};
+ghost use Rattle.regalloc2_function.specs.Inside.DepthFirst.{CanWalk};
 
 use super::blocks::first_outside;
 use crate::Function;

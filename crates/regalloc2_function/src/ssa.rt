@@ -1,18 +1,19 @@
 //! The tests on definitions and uses.
 
-ghost use Rattle.std.specs.Prelude.{◌≡◌, ◌≢◌, ◌+◌, ◌<◌, ◌≤◌, ◌↔◌, ◌⊎◌, ℕ, [], All, filter_map, flat_map, map, length, replicate, slice_set, IfErr};
-ghost use Rattle.std.specs.Prelude.{IsTrue, None, OnOk, Some};
+ghost use Rattle.std.specs.Prelude.{◌≡◌, ◌≢◌, ◌+◌, ◌<◌, ◌≤◌, ◌↔◌, ◌⊎◌, ℕ, [], All, filter_map, flat_map, map, length, replicate, slice_set, IfErr, IsTrue};
+ghost use Rattle.std.specs.Prelude.{None, OnOk, Some};
 ghost use Rattle.std.specs.Bool.{OnFalse, OnTrue};
 ghost use Rattle.regalloc2_index.specs.Range.{numbers_from, numbers_of};
-ghost use Rattle.regalloc2_names.specs.Point.{inst_limit};
-ghost use Rattle.regalloc2_function.specs.FunctionValue.{block_at};
-ghost use Rattle.regalloc2_function.specs.Reasons.{param_definition, operand_definition, inst_definitions, block_definitions, definitions_in};
-ghost use Rattle.regalloc2_function.specs.Reasons.{operand_read, inst_reads, argument_use, passed_at, block_uses, uses_in, IsDefinitionFault};
-ghost use Rattle.regalloc2_function.specs.Reasons.{HasShape, HasSoundness, IsSoundnessFault};
-ghost use Rattle.regalloc2_function.specs.WellFormed.{ArgumentsFit, ArgumentsFitAt, BlocksFollow, DefinedOnce, EntryIsFirst, IsFirstToFail};
-ghost use Rattle.regalloc2_function.specs.WellFormed.{SuccessorsAreBlocks, UsesAreDefined, last_of};
-ghost use Rattle.regalloc2_function.specs.Definitions.{entry_of, IsDefinedInTable, IsNumberTaken, IsUsable, NamesTaken, NamesUnusable, NotesDefinitions};
-ghost use Rattle.regalloc2_function.specs.TableLength.{CoversDefinitions};
+ghost use Rattle.regalloc2_names.specs.Place.{inst_limit};
+ghost use Rattle.regalloc2_function.specs.FunctionValue.{block_at, last_of};
+ghost use Rattle.regalloc2_function.specs.Reasons.{param_definition, operand_definition, inst_definitions, block_definitions, definitions_in, operand_read};
+ghost use Rattle.regalloc2_function.specs.Reasons.{inst_reads, argument_use, passed_at, block_uses, uses_in, IsDefinitionFault, HasShape, HasSoundness};
+ghost use Rattle.regalloc2_function.specs.Reasons.{IsSoundnessFault, IsFirstToFail};
+ghost use Rattle.regalloc2_function.specs.WellFormed.{ArgumentsFit, ArgumentsFitAt, BlocksFollow, DefinedOnce, EntryIsFirst, SuccessorsAreBlocks};
+ghost use Rattle.regalloc2_function.specs.WellFormed.{UsesAreDefined};
+ghost use Rattle.regalloc2_function.specs.Inside.Definitions.{entry_of, IsDefinedInTable, IsNumberTaken, IsUsable, NamesTaken, NamesUnusable};
+ghost use Rattle.regalloc2_function.specs.Inside.Definitions.{NotesDefinitions};
+ghost use Rattle.regalloc2_function.specs.Inside.TableLength.{CoversDefinitions};
 ghost use Rattle.regalloc2_function.specs.Tables.{IsInfoOf};
 
 use super::cfg::CFGInfo;

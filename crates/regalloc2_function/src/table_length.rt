@@ -3,7 +3,7 @@
 ghost use Rattle.std.specs.Prelude.{◌≡◌, ◌+◌, ◌<◌, ◌≤◌, ◌⊎◌, ℕ, All, length, true};
 ghost use Rattle.regalloc2_names.specs.Operand.{is_def};
 ghost use Rattle.regalloc2_function.specs.FunctionValue.{block_at, inst_at};
-ghost use Rattle.regalloc2_function.specs.TableLength.{CoversDefinitions, IsBelow, IsShort, ReachedByDef, ReachedByParam};
+ghost use Rattle.regalloc2_function.specs.Inside.TableLength.{CoversDefinitions, IsBelow, IsShort, ReachedByDef, ReachedByParam};
 
 use crate::Function;
 use regalloc2_index::{Block, Inst};

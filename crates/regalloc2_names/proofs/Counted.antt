@@ -8,8 +8,7 @@ use Rattle.std.proofs.lemmas.Nat.Bits.{bit_at-lt}
 use Rattle.regalloc2_names.specs.declared.RegClass.{RegClass}
 use Rattle.regalloc2_names.specs.declared.RegClass.TheVariants.{Int, Float, Vector}
 use Rattle.regalloc2_names.specs.declared.sets.PRegSet.{PRegSet}
-use Rattle.regalloc2_names.specs.Register.{Register}
-use Rattle.regalloc2_names.specs.RegisterSet.{registers_of, registers_of_words, word_members}
+use Rattle.regalloc2_names.specs.Register.{Register, registers_of, registers_of_words, word_members}
 
 no_ones : (n : ℕ) → n < 1 → ones n ≡ 0
 no_ones zero h = ones-ones 0

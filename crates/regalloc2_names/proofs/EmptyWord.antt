@@ -6,8 +6,7 @@ use Rattle.std.proofs.lemmas.Bool.{cases_eq}
 use Rattle.std.proofs.lemmas.Nat.Bits.{bit_at-trailing_zeros, bit_at-zero}
 use Rattle.regalloc2_names.specs.declared.RegClass.{RegClass}
 use Rattle.regalloc2_names.specs.declared.sets.PRegSet.{PRegSet}
-use Rattle.regalloc2_names.specs.Register.{Register, class_code}
-use Rattle.regalloc2_names.specs.RegisterSet.{has_register}
+use Rattle.regalloc2_names.specs.Register.{Register, class_code, has_register}
 
 no_bits : (w : ℕ) → w < 2 ^ 64 → ((n : ℕ) → nat_eq (bit_at w n) 1 ≡ false) → ((w ≡ 0) ⊎ (w ≢ 0)) → w ≡ 0
 no_bits w fits none (inl e) = e

@@ -1,14 +1,12 @@
 -- The members of a word.
-use Rattle.std.proofs.Common.{ℕ, zero, suc, ◌≡◌, ◌≢◌, ◌<◌, ◌≤◌, ◌+◌, ◌-◌, ◌*◌, ◌%◌, ◌^◌, refl, arith, bit_and, ◌∙◌, sym, ap, [], ◌∷◌, w64}
+use Rattle.std.proofs.Common.{ℕ, zero, suc, ◌≡◌, ◌≢◌, ◌<◌, ◌≤◌, ◌+◌, ◌-◌, ◌*◌, ◌%◌, ◌^◌, refl, arith, bit_and, ◌∙◌, sym, ap, [], ◌∷◌, w64, inl, inr}
 use Rattle.std.specs.Prelude.{◌⊎◌}
-use Rattle.std.proofs.Common.{inl, inr}
 use Rattle.std.proofs.lemmas.Bool.{cases_eq}
 use Rattle.std.specs.Int.{bit_at, trailing_zeros}
 use Rattle.std.proofs.lemmas.Nat.Bits.{bit_at-zero, bit_at-trailing_zeros, bit_at_clear_same, bit_at_clear_other}
 use Rattle.regalloc2_names.specs.declared.RegClass.{RegClass}
 use Rattle.regalloc2_names.specs.declared.RegClass.TheVariants.{Int, Float, Vector}
-use Rattle.regalloc2_names.specs.RegisterSet.{registers_of_words}
-use Rattle.regalloc2_names.specs.RegisterSet.{word_members}
+use Rattle.regalloc2_names.specs.Register.{registers_of_words, word_members}
 
 -- a word without bits has no members
 pub members_zero : (class : RegClass) (n k : ℕ) → word_members class k n 0 ≡ []

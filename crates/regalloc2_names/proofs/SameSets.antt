@@ -10,8 +10,7 @@ use Rattle.std.proofs.lemmas.Slice.Eq.{slice_eq-Decides}
 use Rattle.regalloc2_names.specs.declared.RegClass.{RegClass}
 use Rattle.regalloc2_names.specs.declared.RegClass.TheVariants.{Int, Float, Vector}
 use Rattle.regalloc2_names.specs.declared.sets.PRegSet.{PRegSet}
-use Rattle.regalloc2_names.specs.Register.{Register, class_code, is_register}
-use Rattle.regalloc2_names.specs.RegisterSet.{has_register, registers_of}
+use Rattle.regalloc2_names.specs.Register.{Register, class_code, is_register, has_register, registers_of}
 use Rattle.regalloc2_names.specs.Listed.{is_listed, listed_is, has_register-small}
 use Rattle.regalloc2_names.specs.Same.{is_register-true, is_register-same}
 use Rattle.regalloc2_names.specs.SameSet.{is_same_set}

@@ -1,24 +1,19 @@
 -- Registers in words of bits.
-use Rattle.std.proofs.Common.{ℕ, zero, suc, eqb-true, eq-eqb, ◌≡◌, ◌≢◌, ◌<◌, ◌≤◌, ◌+◌, ◌-◌, ◌*◌, ◌%◌, ◌^◌, min, max, refl, arith, bit_or, bit_and}
-use Rattle.std.proofs.Common.{sym, ap, length, List, [], ◌∷◌, Bool, true, false, not, nat_lt, ◌||◌, ◌&&◌, nat_eq, w64, slice_set, slice_index_or}
-use Rattle.std.proofs.Common.{get_or-set_same, get_or-set_other}
-use Rattle.std.specs.Prelude.{slice_index}
+use Rattle.std.proofs.Common.{ℕ, zero, suc, eqb-true, eq-eqb, ◌≡◌, ◌≢◌, ◌<◌, ◌≤◌, ◌+◌, ◌-◌, ◌*◌, ◌%◌, ◌^◌, min, max, refl, arith, bit_or, bit_and, sym, ap}
+use Rattle.std.proofs.Common.{length, List, [], ◌∷◌, Bool, true, false, not, nat_lt, ◌||◌, ◌&&◌, nat_eq, w64, slice_set, slice_index_or, get_or-set_same}
+use Rattle.std.proofs.Common.{get_or-set_other, ◌∙◌, inl, inr}
+use Rattle.std.specs.Prelude.{slice_index, ◌⊎◌}
 use Rattle.std.specs.Int.{bit_at}
 use Rattle.std.proofs.lemmas.Bool.Decides.{nat_tests}
 use Rattle.std.proofs.Math.Nat.{zero-mul, one-mul}
 use Rattle.regalloc2_names.specs.declared.RegClass.{RegClass}
 use Rattle.regalloc2_names.specs.declared.RegClass.TheVariants.{Int, Float, Vector}
-use Rattle.std.proofs.lemmas.Nat.{one_shl, pow_pos}
-use Rattle.std.proofs.lemmas.Nat.Bits.{and_pow, bit_at-lt, bit_at_set_same, bit_at_set_other, bit_at_clear_same, bit_at_clear_other, bit_at_or}
-use Rattle.std.proofs.lemmas.Nat.Bits.{bit_at_and, bit_at_above, bit_at_not, bit_at_ones, bit_at_ones_above}
-use Rattle.std.proofs.lemmas.Nat.{and_le_l}
+use Rattle.std.proofs.lemmas.Nat.{one_shl, pow_pos, and_le_l}
+use Rattle.std.proofs.lemmas.Nat.Bits.{and_pow, bit_at-lt, bit_at_set_same, bit_at_set_other, bit_at_clear_same, bit_at_clear_other, bit_at_or, bit_at_and}
+use Rattle.std.proofs.lemmas.Nat.Bits.{bit_at_above, bit_at_not, bit_at_ones, bit_at_ones_above}
 use Rattle.std.proofs.lemmas.Bool.{cases_lt}
 use Rattle.std.proofs.Math.Bool.{and_comm}
-use Rattle.std.proofs.Common.{◌∙◌}
-use Rattle.std.proofs.Common.{inl, inr}
-use Rattle.std.specs.Prelude.{◌⊎◌}
-use Rattle.regalloc2_names.specs.Register.{class_code, Register}
-use Rattle.regalloc2_names.specs.RegisterSet.{words_have}
+use Rattle.regalloc2_names.specs.Register.{class_code, Register, words_have}
 
 scaled : (b p : ℕ) → b < 2 → 0 < p → not (nat_eq (b * p) 0) ≡ nat_eq b 1
 scaled zero p hb hp = rw zero-mul refl

@@ -1,6 +1,6 @@
 -- The walk over a set lists each of its registers once, by rising index.
-use Rattle.std.specs.Prelude.{ℕ, zero, suc, ◌≡◌, ◌≢◌, ◌<◌, ◌≤◌, ◌+◌, ◌*◌, refl, Bool, true, false, cond, nat_eq, List, [], ◌∷◌, ◌++◌, length}
-use Rattle.std.specs.Prelude.{Contains, slice_index, slice_index_or, ◌⊎◌, ◌↔◌}
+use Rattle.std.specs.Prelude.{ℕ, zero, suc, ◌≡◌, ◌≢◌, ◌<◌, ◌≤◌, ◌+◌, ◌*◌, refl, Bool, true, false, cond, nat_eq, List, [], ◌∷◌, ◌++◌, length, Contains}
+use Rattle.std.specs.Prelude.{slice_index, slice_index_or, ◌⊎◌, ◌↔◌}
 use Rattle.std.specs.Int.{bit_at}
 use Rattle.std.proofs.Common.{arith, eqb-true, eq-eqb, inl, inr}
 use Rattle.std.proofs.lemmas.Bool.{cases_eq, cases_lt}
@@ -9,9 +9,8 @@ use Rattle.std.proofs.lemmas.List.Elements.{Contains-append_left, Contains-appen
 use Rattle.regalloc2_names.specs.declared.RegClass.{RegClass}
 use Rattle.regalloc2_names.specs.declared.RegClass.TheVariants.{Int, Float, Vector}
 use Rattle.regalloc2_names.specs.declared.sets.PRegSet.{PRegSet}
-use Rattle.regalloc2_names.specs.Register.{Register, class_code}
+use Rattle.regalloc2_names.specs.Register.{Register, class_code, has_register, registers_of, registers_of_words, word_members}
 use Rattle.regalloc2_names.specs.RegisterBits.{bits_of_register}
-use Rattle.regalloc2_names.specs.RegisterSet.{has_register, registers_of, registers_of_words, word_members}
 
 -- each register of a list has a greater index than the registers before it
 abbrev pub IsRising : List Register → Type 0

@@ -4,8 +4,7 @@ use Rattle.std.specs.Cmp.{IsEquivalence, IsPartialEquivalence, on_equiv, partial
 use Rattle.std.specs.Cmp.Lexicographic.{pointwise}
 use Rattle.std.proofs.lemmas.Cmp.{and_equiv, lists_equiv, nat_eq_equiv}
 use Rattle.regalloc2_names.specs.declared.sets.PRegSet.{PRegSet}
-use Rattle.regalloc2_names.specs.Register.{class_code, is_register}
-use Rattle.regalloc2_names.specs.RegisterSet.{registers_of}
+use Rattle.regalloc2_names.specs.Register.{class_code, is_register, registers_of}
 
 -- the registers of two sets, by rising index, are the same
 abbrev pub is_same_set : PRegSet → PRegSet → Bool

@@ -18,8 +18,7 @@ use Rattle.regalloc2_names.specs.declared.InstPosition.{InstPosition}
 use Rattle.regalloc2_names.specs.declared.InstPosition.TheVariants.{Before, After}
 use Rattle.regalloc2_names.specs.ErrorKind.{kind_of}
 use Rattle.regalloc2_names.specs.Operand.{OperandValue, nonallocatable_register}
-use Rattle.regalloc2_names.specs.Place.{Place, NoPlace, InRegister, InSlot}
-use Rattle.regalloc2_names.specs.Point.{inst_of_point, position_of_point}
+use Rattle.regalloc2_names.specs.Place.{Place, NoPlace, InRegister, InSlot, inst_of_point, position_of_point}
 use Rattle.regalloc2_names.specs.Register.{Register, VirtualRegister}
 use Rattle.regalloc2_names.specs.RegisterBits.{bits_of_register}
 

@@ -1,7 +1,8 @@
 //! Program points, before and after instructions.
 
 ghost use Rattle.std.specs.Prelude.{◌≡◌, ◌≢◌, ℕ, ◌+◌, ◌-◌, ◌<◌, ◌↔◌, IsTrue};
-ghost use Rattle.regalloc2_names.specs.Point.{IsPointNumber, after, before, inst_limit, inst_of_point, invalid_inst, invalid_point, point_at, position_of_point};
+ghost use Rattle.regalloc2_names.specs.Place.{IsPointNumber, after, before, inst_limit, inst_of_point, invalid_inst, invalid_point, point_at};
+ghost use Rattle.regalloc2_names.specs.Place.{position_of_point};
 
 use super::InstPosition;
 use regalloc2_index::Inst;
@@ -19,7 +20,7 @@ pub struct ProgPoint {
 
 impl Model for ProgPoint {
     ghost use Rattle.std.specs.Prelude.{ℕ};
-    ghost use Rattle.regalloc2_names.specs.Point.{IsPointNumber};
+    ghost use Rattle.regalloc2_names.specs.Place.{IsPointNumber};
 
     ghost Value = { ℕ };
 

@@ -1,10 +1,10 @@
 //! Sets of registers.
 
 ghost use Rattle.std.specs.Prelude.{◌≢◌, ◌∷◌, ◌^◌, slice_index, List, Contains, ◌≡◌, ◌≤◌, ℕ, ◌<◌, ◌↔◌, ◌||◌, ◌&&◌, not, false, true, IsTrue, IfSome, IsNone, length, nat_lt};
-ghost use Rattle.regalloc2_names.specs.Register.{IsRegister, Register, class_code, hw_limit, is_register, register_count};
+ghost use Rattle.regalloc2_names.specs.Register.{IsRegister, Register, class_code, hw_limit, is_register, register_count, has_register, word_members};
+ghost use Rattle.regalloc2_names.specs.Register.{words_have, registers_of};
 ghost use Rattle.regalloc2_names.specs.RegisterBits.{bits_of_register};
 ghost use Rattle.std.specs.Int.{bit_at};
-ghost use Rattle.regalloc2_names.specs.RegisterSet.{has_register, word_members, words_have, registers_of};
 ghost use Rattle.regalloc2_names.specs.declared.RegClass.{RegClass};
 ghost use Rattle.std.specs.Iterator.{YieldsFirst, item_count};
 
@@ -19,7 +19,7 @@ pub struct PRegSet {
     bits: [u64; 3],
 }
 
-#[tactic(auto, unfolding(crate::specs::RegisterSet::has_register))]
+#[tactic(auto, unfolding(crate::specs::Register::has_register))]
 impl PRegSet {
     /// Returns the empty set.
     pub const fn empty() -> Self
@@ -205,8 +205,7 @@ fn highest_bit(word: u64) -> usize
 
 impl PartialEq for PRegSet {
     ghost use Rattle.std.specs.Prelude.{◌≡◌, ◌↔◌, IsTrue};
-    ghost use Rattle.regalloc2_names.specs.Register.{Register};
-    ghost use Rattle.regalloc2_names.specs.RegisterSet.{has_register};
+    ghost use Rattle.regalloc2_names.specs.Register.{Register, has_register};
     ghost use Rattle.regalloc2_names.specs.SameSet.{is_same_set, is_same_set-per};
 
     ghost eq = { is_same_set };
@@ -230,8 +229,7 @@ impl Eq for PRegSet {
 
 impl Default for PRegSet {
     ghost use Rattle.std.specs.Prelude.{◌≡◌, false};
-    ghost use Rattle.regalloc2_names.specs.Register.{Register};
-    ghost use Rattle.regalloc2_names.specs.RegisterSet.{has_register};
+    ghost use Rattle.regalloc2_names.specs.Register.{Register, has_register};
 
     ghost is_default = { λ s. (r : Register) → has_register s r ≡ false };
 
@@ -244,8 +242,7 @@ impl BitAnd<PRegSet> for PRegSet {
     type Output = PRegSet;
 
     ghost use Rattle.std.specs.Prelude.{◌≡◌, ◌&&◌};
-    ghost use Rattle.regalloc2_names.specs.Register.{Register};
-    ghost use Rattle.regalloc2_names.specs.RegisterSet.{has_register};
+    ghost use Rattle.regalloc2_names.specs.Register.{Register, has_register};
 
     ghost bitand_gives = { λ a b s. (r : Register) → has_register s r ≡ has_register a r && has_register b r };
 
@@ -260,8 +257,7 @@ impl BitOr<PRegSet> for PRegSet {
     type Output = PRegSet;
 
     ghost use Rattle.std.specs.Prelude.{◌≡◌, ◌||◌};
-    ghost use Rattle.regalloc2_names.specs.Register.{Register};
-    ghost use Rattle.regalloc2_names.specs.RegisterSet.{has_register};
+    ghost use Rattle.regalloc2_names.specs.Register.{Register, has_register};
 
     ghost bitor_gives = { λ a b s. (r : Register) → has_register s r ≡ has_register a r || has_register b r };
 
@@ -286,7 +282,7 @@ impl Model for PRegSetIter {
 
     ghost Value = { List Register };
 
-    ghost use Rattle.regalloc2_names.specs.RegisterSet.{registers_of_words};
+    ghost use Rattle.regalloc2_names.specs.Register.{registers_of_words};
 
     ghost view = { λ it. registers_of_words it.int it.float it.vector };
 }
@@ -357,8 +353,7 @@ impl FromIterator<PReg> for PRegSet {
     type Alloc = Global;
 
     ghost use Rattle.std.specs.Prelude.{◌≡◌, ◌↔◌, true, Contains};
-    ghost use Rattle.regalloc2_names.specs.Register.{Register};
-    ghost use Rattle.regalloc2_names.specs.RegisterSet.{has_register};
+    ghost use Rattle.regalloc2_names.specs.Register.{Register, has_register};
 
     ghost from_iter_gives = { λ xs s. (r : Register) → (has_register s r ≡ true) ↔ Contains xs r };
 

@@ -1,7 +1,7 @@
 //! The texts of names.
 
 ghost use Rattle.std.specs.Prelude.{Some, ◌≡◌};
-ghost use Rattle.regalloc2_names.specs.RegisterSet.{registers_of};
+ghost use Rattle.regalloc2_names.specs.Register.{registers_of};
 ghost use Rattle.regalloc2_names.specs.Text.{class_letter, class_name, constraint_text, kind_text, operand_text, place_text, point_debug_text};
 ghost use Rattle.regalloc2_names.specs.Text.{class_vreg_text, register_debug_text, register_text, set_text, slot_text, vreg_debug_text, vreg_text};
 

@@ -1,6 +1,6 @@
 -- A ring that was made of some registers.
-use Rattle.std.proofs.Common.{zero, suc, ◌≡◌, ◌<◌, ◌≤◌, ◌∙◌, refl, arith, sym, ap, subst, List}
-use Rattle.std.proofs.Common.{[], ◌∷◌, Bool, true, false, not, cond, nat_eq, eq-eqb, slice_index_or, inl, inr}
+use Rattle.std.proofs.Common.{zero, suc, ◌≡◌, ◌<◌, ◌≤◌, ◌∙◌, refl, arith, sym, ap, subst, List, [], ◌∷◌, Bool, true, false, not, cond, nat_eq, eq-eqb}
+use Rattle.std.proofs.Common.{slice_index_or, inl, inr}
 use Rattle.std.specs.Prelude.{All, Contains, IsPermutation, ◌↔◌, ◌⊎◌, filter, map}
 use Rattle.std.specs.List.{AllByRecursion, IsDistinct}
 use Rattle.std.specs.List.Sorted.{IsNonDecreasingBy}
@@ -11,8 +11,7 @@ use Rattle.std.proofs.lemmas.Map.Keys.{IsDistinct-head, IsDistinct-tail, IsDisti
 use Rattle.regalloc2_names.specs.declared.RegClass.{RegClass}
 use Rattle.regalloc2_names.specs.Listed.{IsRising, IsWalkOf}
 use Rattle.regalloc2_names.specs.declared.sets.PRegSet.{PRegSet}
-use Rattle.regalloc2_names.specs.RegisterSet.{has_register}
-use Rattle.regalloc2_names.specs.Register.{Register, class_code, is_register}
+use Rattle.regalloc2_names.specs.Register.{has_register, Register, class_code, is_register}
 use Rattle.regalloc2_names.specs.RegisterBits.{bits_of_register}
 use Rattle.regalloc2_parts.specs.Ring.{AreDistinctOf, IsNewRing}
 use Rattle.regalloc2_parts.specs.RingNodes.{named}

@@ -5,7 +5,7 @@ use Rattle.std.specs.List.{All}
 use Rattle.regalloc2_names.specs.declared.RegAllocError.{RegAllocError}
 use Rattle.regalloc2_names.specs.declared.RegAllocError.TheVariants.{TooManySpillSlots, Memory as OutOfMemory}
 use Rattle.regalloc2_names.specs.declared.sets.PRegSet.{PRegSet}
-use Rattle.regalloc2_names.specs.RegisterSet.{has_register}
+use Rattle.regalloc2_names.specs.Register.{has_register}
 use Rattle.regalloc2_names.specs.Place.{Place, NoPlace, InRegister, InSlot, is_memory}
 use Rattle.regalloc2_parts.specs.AtOnce.{ends_of, own_names, in_turn}
 use Rattle.regalloc2_parts.specs.Resolved.{IsUnnamed}

@@ -1,11 +1,10 @@
 //! Registers ordered by their last use: LRU lists.
 
-ghost use Rattle.std.specs.Prelude.{◌≡◌, ◌-◌, ◌∷◌, ◌<◌, ◌↔◌, ◌==◌, IsTrue, true, false, IfSome, IfNone, IfOk, IfErr, All, Contains, length};
-ghost use Rattle.std.specs.Prelude.{Bool, Some, not, filter, find, map, reverse, slice_get, slice_index_or, slice_set, ◌≢◌, [], IsOk};
+ghost use Rattle.std.specs.Prelude.{◌≡◌, ◌-◌, ◌∷◌, ◌<◌, ◌↔◌, ◌==◌, IsTrue, true, false, IfSome, IfNone, IfOk, IfErr, All, Contains, length, Bool, Some, not};
+ghost use Rattle.std.specs.Prelude.{filter, find, map, reverse, slice_get, slice_index_or, slice_set, ◌≢◌, [], IsOk};
 ghost use Rattle.std.specs.List.{IsDistinct};
 ghost use Rattle.regalloc2_names.specs.declared.RegClass.{RegClass};
-ghost use Rattle.regalloc2_names.specs.Register.{Register, class_code, is_register};
-ghost use Rattle.regalloc2_names.specs.RegisterSet.{has_register};
+ghost use Rattle.regalloc2_names.specs.Register.{Register, class_code, is_register, has_register};
 ghost use Rattle.regalloc2_parts.specs.Links.{IsFewLinksApart};
 ghost use Rattle.regalloc2_parts.specs.Ring.{AreDistinctOf, IsNewRing, IsOldestAccepted, ring_of};
 

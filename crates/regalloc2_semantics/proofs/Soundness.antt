@@ -1,18 +1,16 @@
 -- Well-formed functions have what the theorem on paths needs.
-use Rattle.std.proofs.Common.{ℕ, zero, suc, ◌≡◌, ◌≢◌, ◌+◌, ◌<◌, ◌≤◌, Bool, true, false, cond, List, [], ◌∷◌, length, map, refl, arith, sym, ap, ◌∙◌}
-use Rattle.std.proofs.Common.{subst, inl, inr, eq-eqb, eqb-true, nat_eq}
+use Rattle.std.proofs.Common.{ℕ, zero, suc, ◌≡◌, ◌≢◌, ◌+◌, ◌<◌, ◌≤◌, Bool, true, false, cond, List, [], ◌∷◌, length, map, refl, arith, sym, ap, ◌∙◌, subst}
+use Rattle.std.proofs.Common.{inl, inr, eq-eqb, eqb-true, nat_eq}
 use Rattle.std.specs.Prelude.{slice_index_or, count_by, ◌||◌}
 use Rattle.std.proofs.lemmas.Bool.{cases_eq, ne_eqb, cases_lt}
 use Rattle.std.proofs.lemmas.List.{get_or_past}
 use Rattle.std.proofs.lemmas.List.Sums.{get_or-le-sum_by, sum_by-cons, count_by-le-length}
 use Rattle.regalloc2_names.specs.Register.{VirtualRegister, is_vreg}
 use Rattle.regalloc2_names.specs.Operand.{OperandValue, is_def}
-use Rattle.regalloc2_function.specs.FunctionValue.{FunctionValue, BlockValue, InstValue, block_at, inst_at, no_block, no_inst, no_operand}
+use Rattle.regalloc2_function.specs.FunctionValue.{FunctionValue, BlockValue, InstValue, block_at, inst_at, no_block, no_inst, no_operand, op_at}
 use Rattle.regalloc2_function.specs.WellFormed.{defines_number, times_in, ways_into, DefinedOnce, PredecessorsAgree, NoCriticalEdge}
-use Rattle.regalloc2_function.specs.FunctionValue.{op_at}
-use Rattle.regalloc2_semantics.specs.Carry.{Undefined}
-use Rattle.regalloc2_semantics.specs.Blocks.{names, HasEdge, target_at, IsParameter, IsEnteredOnce}
-use Rattle.regalloc2_semantics.specs.Sound.{WellFormedAreSound}
+use Rattle.regalloc2_semantics.specs.Live.{Undefined, names, HasEdge, target_at}
+use Rattle.regalloc2_semantics.specs.Sound.{IsParameter, IsEnteredOnce, WellFormedAreSound}
 use Rattle.regalloc2_semantics.proofs.Cells.{is_vreg-true}
 
 -- sums by recursion

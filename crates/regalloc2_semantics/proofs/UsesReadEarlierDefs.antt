@@ -6,18 +6,17 @@ use Rattle.std.proofs.lemmas.Bool.{cases_lt, or_left, or_right}
 use Rattle.regalloc2_names.specs.declared.OperandPos.{OperandPos}
 use Rattle.regalloc2_names.specs.declared.OperandPos.TheVariants.{Early, Late}
 use Rattle.regalloc2_names.specs.Operand.{OperandValue}
-use Rattle.regalloc2_names.specs.Point.{before}
+use Rattle.regalloc2_names.specs.Place.{before}
 use Rattle.regalloc2_names.specs.Register.{VirtualRegister, is_vreg}
 use Rattle.regalloc2_function.specs.FunctionValue.{FunctionValue, InstValue, block_at, inst_at, no_inst}
-use Rattle.regalloc2_function.specs.Path.{Way, Onward, ToSuccessor, Location, end_of, last_inst, IsPath}
-use Rattle.regalloc2_function.specs.SourceRun.{Stamp, read_of, source_before, source_after, source_read}
+use Rattle.regalloc2_semantics.specs.Runs.{Way, Onward, ToSuccessor, Location, end_of, last_inst, IsPath, Stamp, read_of, source_before, source_after}
+use Rattle.regalloc2_semantics.specs.Runs.{source_read}
 use Rattle.regalloc2_function.specs.WellFormed.{DefinedOnce, IsDefinedBy}
-use Rattle.regalloc2_function.specs.Laws.{SourceIsEarlier, NumbersGiveReads}
-use Rattle.regalloc2_semantics.specs.Carry.{Undefined}
-use Rattle.regalloc2_semantics.specs.Blocks.{names, HasSoundBlocks}
-use Rattle.regalloc2_semantics.specs.Laws.{AgreeingReadsFindEarlier, ReadsAgreeWhereNumbersDo, WellFormedReadEarlier}
+use Rattle.regalloc2_semantics.specs.Laws.{SourceIsEarlier, NumbersGiveReads, AgreeingReadsFindEarlier, ReadsAgreeWhereNumbersDo, WellFormedReadEarlier}
+use Rattle.regalloc2_semantics.specs.Live.{Undefined, names}
+use Rattle.regalloc2_semantics.specs.Sound.{HasSoundBlocks}
 use Rattle.regalloc2_semantics.proofs.Cells.{is_vreg-same}
-use Rattle.regalloc2_semantics.proofs.BothRuns.{after_defs-other}
+use Rattle.regalloc2_semantics.proofs.AfterWrites.{after_defs-other}
 use Rattle.regalloc2_semantics.proofs.Soundness.{no_definition, no_second, well_formed_are_sound}
 
 -- a path is at an instruction of a block

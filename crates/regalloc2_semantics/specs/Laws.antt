@@ -1,13 +1,46 @@
--- From reads that agree to a faithful output.
-use Rattle.std.specs.Prelude.{ℕ, ◌<◌, List, All, length}
+-- Laws on the runs, and from reads that agree to a faithful output.
+use Rattle.std.specs.Prelude.{ℕ, ◌≡◌, ◌<◌, true, List, length, slice_index_or, Some, None, All}
+use Rattle.regalloc2_names.specs.Operand.{OperandValue, is_reading}
+use Rattle.regalloc2_names.specs.Register.{VirtualRegister}
+use Rattle.regalloc2_names.specs.Place.{Place, NoPlace}
 use Rattle.regalloc2_function.specs.FunctionValue.{FunctionValue}
 use Rattle.regalloc2_function.specs.Machine.{MachineValue}
 use Rattle.regalloc2_function.specs.OutputValue.{OutputValue}
-use Rattle.regalloc2_function.specs.Path.{Way, IsPath}
-use Rattle.regalloc2_function.specs.SourceRun.{UsesWritten, UsesFindEarlier}
-use Rattle.regalloc2_function.specs.Faithful.{ReadsAgree, ConstraintsMet, IsStackToStack, IsFaithful}
-use Rattle.regalloc2_function.specs.Values.{SameNumbers}
 use Rattle.regalloc2_function.specs.WellFormed.{IsWellFormed}
+use Rattle.regalloc2_semantics.specs.Runs.{Way, last_inst, Stamp, source_read, IsPath, source_before, cells_before, UsesWritten}
+use Rattle.regalloc2_semantics.specs.Faithful.{ReadsAgree, IsFaithful, ConstraintsMet, IsStackToStack}
+use Rattle.regalloc2_semantics.specs.Values.{SameNumbers}
+
+-- every use of the last step finds a write of an earlier step
+abbrev pub UsesFindEarlier : FunctionValue → List Way → Type 0
+UsesFindEarlier f ws = (k : ℕ) (d : OperandValue) → k < length (last_inst f ws).operands →
+    let o : OperandValue = slice_index_or (last_inst f ws).operands k d in
+    is_reading o ≡ true → (s : Stamp) × (source_read f ws o ≡ Some s) × (s.step < length ws)
+
+-- each write that the function's run finds was made at an earlier step
+abbrev pub SourceIsEarlier : Type 0
+SourceIsEarlier = (f : FunctionValue) (ws : List Way) (v : VirtualRegister) (s : Stamp) → source_before f ws v ≡ Some s → s.step < length ws
+
+-- each write that a place holds was made at an earlier step
+abbrev pub CellsAreEarlier : Type 0
+CellsAreEarlier = (f : FunctionValue) (o : OutputValue) (ws : List Way) (p : Place) (s : Stamp) → cells_before f o ws p ≡ Some s → s.step < length ws
+
+-- a missing place holds nothing
+abbrev pub MissingHoldsNothing : Type 0
+MissingHoldsNothing = (f : FunctionValue) (o : OutputValue) (ws : List Way) → cells_before f o ws NoPlace ≡ None
+
+-- a faithful output reads the function's own numbers
+abbrev pub FaithfulGivesNumbers : Type 0
+FaithfulGivesNumbers = (f : FunctionValue) (env : MachineValue) (out : OutputValue) → IsFaithful f env out → SameNumbers f out
+
+-- where reads agree on every path, both runs read the same numbers, whatever the instructions compute
+abbrev pub ReadsGiveNumbers : Type 0
+ReadsGiveNumbers = (f : FunctionValue) (out : OutputValue) → ((ws : List Way) → IsPath f ws → ReadsAgree f out ws) → SameNumbers f out
+
+-- the converse: if each use finds a write of an earlier step, and both runs read the same numbers, whatever the instructions compute, reads agree
+abbrev pub NumbersGiveReads : Type 0
+NumbersGiveReads = (f : FunctionValue) (out : OutputValue) → ((ws : List Way) → IsPath f ws → UsesFindEarlier f ws) → SameNumbers f out → (ws : List Way) →
+    IsPath f ws → ReadsAgree f out ws
 
 -- on every path all reads agree
 abbrev pub ReadsAgreeOnPaths : FunctionValue → OutputValue → Type 0

@@ -1,15 +1,17 @@
--- What a listing carries for one vreg, and what each block must do for reads to agree on every path.
--- Read first: `Carries` in `Carry`, over `Listing`; `BlocksAgreeInPlaces` in `Blocks`; `Progress` in `OperandsPlaced`.
--- `Values`: two interpreters, over numbers in vregs and in places, for authors of code generators.
--- Depends on regalloc2_function: paths, both runs, well-formed functions. The allocator isn't mentioned.
-pub mod BlockByPoints
-pub mod Blocks
-pub mod Carry
-pub mod Instruction
-pub mod Laws
-pub mod Listing
-pub mod Live
-pub mod OperandsPlaced
-pub mod Sound
-pub mod Stores
+-- All that the theorem on the allocator speaks of, in reading order, and the laws over it.
+-- `Runs`: paths and the two runs; `Faithful`: held values and faithful outputs; `Values`: numbers under an interpretation; `Places`: valid places,
+-- slots and their owners; `Live`: live vregs; `Debug`: debug points and labels; `Fits`: instructions that fit.
+-- `Laws` has lemmas on these. `Interpreters` and `Alike`: the theorem over two plain interpreters, for authors of code generators.
+-- `Sound` serves the proofs of the laws.
+-- Depends on regalloc2_function: functions, machines, outputs, well-formed functions. The allocator isn't mentioned.
+pub mod Runs
+pub mod Faithful
 pub mod Values
+pub mod Places
+pub mod Live
+pub mod Debug
+pub mod Fits
+pub mod Laws
+pub mod Interpreters
+pub mod Alike
+pub mod Sound

@@ -1,20 +1,28 @@
--- The vregs that are live at a block's beginning, and the places that hold their values there.
-use Rattle.std.specs.Prelude.{ℕ, ◌≡◌, ◌<◌, true, false, List, length, Option, Some, IsSome, Contains}
-use Rattle.regalloc2_names.specs.Register.{VirtualRegister}
+-- The vregs that are live where a path comes to an instruction, the places that hold their values, and the edges out of branches with
+-- definitions.
+use Rattle.std.specs.Prelude.{ℕ, ◌<◌, Bool, false, ◌||◌, List, [], ◌∷◌, length, slice_index, ◌≡◌, true, IsSome, Contains}
+use Rattle.regalloc2_names.specs.Register.{VirtualRegister, is_vreg}
+use Rattle.regalloc2_names.specs.Operand.{OperandValue, is_def, is_reading}
 use Rattle.regalloc2_names.specs.Place.{Place}
-use Rattle.regalloc2_function.specs.FunctionValue.{FunctionValue, block_at, inst_at}
-use Rattle.regalloc2_function.specs.Machine.{MachineValue}
+use Rattle.regalloc2_function.specs.FunctionValue.{FunctionValue, block_at, op_at, inst_at, last_of}
 use Rattle.regalloc2_function.specs.OutputValue.{OutputValue}
-use Rattle.regalloc2_function.specs.Path.{Way, Onward, ToSuccessor, Location, first_of, end_of, next_of, IsPath, HasWay}
-use Rattle.regalloc2_function.specs.SourceRun.{arguments_at, source_before, IsWrittenFirst}
-use Rattle.regalloc2_names.specs.Operand.{is_reading}
-use Rattle.regalloc2_function.specs.AllocatedRun.{cells_before}
-use Rattle.regalloc2_function.specs.Held.{IsReached}
-use Rattle.regalloc2_function.specs.WellFormed.{IsWellFormed}
-use Rattle.regalloc2_function.specs.FunctionValue.{op_at}
-use Rattle.regalloc2_semantics.specs.Carry.{Undefined}
-use Rattle.regalloc2_semantics.specs.BlockByPoints.{block_walked, Rising, EndsQuiet}
-use Rattle.regalloc2_semantics.specs.Blocks.{names, target_at, BlockCarriesOn}
+use Rattle.regalloc2_semantics.specs.Runs.{Way, Onward, ToSuccessor, Location, end_of, next_of, HasWay, arguments_at, source_before, cells_before}
+
+-- whether a list names a vreg
+unfoldable pub names : VirtualRegister → List VirtualRegister → Bool
+names v [] = false
+names v (p ∷ ps) = is_vreg p v || names v ps
+
+-- the block has an edge at a position; and the block that the edge leads to
+abbrev pub HasEdge : FunctionValue → ℕ → ℕ → Type 0
+HasEdge f b k = k < length (block_at f b).succs
+
+abbrev pub target_at : FunctionValue → ℕ → ℕ → ℕ
+target_at f b k = slice_index (block_at f b).succs k
+
+-- no operand defines the vreg
+abbrev pub Undefined : List OperandValue → VirtualRegister → Type 0
+Undefined operands v = (j : ℕ) → j < length operands → is_def (op_at operands j).kind ≡ true → (op_at operands j).vreg ≡ v → ⊥
 
 -- the edge or fall-through (`Way`) gives v no new value: it leads to no block with v as a parameter
 abbrev pub IsAside : FunctionValue → VirtualRegister → Location → Way → Type 0
@@ -38,14 +46,20 @@ HasEntered f ws = (end_of f ws).inst ≡ (block_at f (end_of f ws).block).range.
 abbrev pub HoldsValueAt : FunctionValue → OutputValue → List Way → Place → VirtualRegister → Type 0
 HoldsValueAt f out ws p v = IsSome (source_before f ws v) × (cells_before f out ws p ≡ source_before f ws v)
 
--- whenever a path enters a block, the place of each vreg that is live there holds its value
-abbrev pub LiveStandInPlaces : FunctionValue → OutputValue → (ℕ → VirtualRegister → Option Place) → Type 0
-LiveStandInPlaces f out stand = (ws : List Way) → IsPath f ws → HasEntered f ws → (v : VirtualRegister) (p : Place) → IsLive f v (end_of f ws) →
-    stand (end_of f ws).block v ≡ Some p → HoldsValueAt f out ws p v
+-- the operand of an index defines the number n
+pub record DefinesNumber (operands : List OperandValue) (n k : ℕ) : Type 0 where
+  pub operand : k < length operands
+  pub definition : is_def (op_at operands k).kind ≡ true
+  pub number : (op_at operands k).vreg.number ≡ n
 
--- live vregs stand in their places if every vreg is definitely assigned, and every reachable block carries values from their places at its beginning to
--- their places at the next block's beginning, with listings built from the program points of the moves
-abbrev pub LiveStandWhereBlocksCarryOn : Type 0
-LiveStandWhereBlocksCarryOn = (env : MachineValue) (f : FunctionValue) (out : OutputValue) (stand : ℕ → VirtualRegister → Option Place) →
-    IsWellFormed env f → IsWrittenFirst f → Rising out.edits → ((b : ℕ) → b < length f.blocks → EndsQuiet f out b) →
-    ((b : ℕ) → IsReached f (first_of f b) → BlockCarriesOn f stand b (block_walked f out b)) → LiveStandInPlaces f out stand
+-- a block ends in a branch with a definition
+abbrev pub EndsInDefinitions : FunctionValue → ℕ → Type 0
+EndsInDefinitions f b = ((inst_at f (last_of (block_at f b))).is_branch ≡ true)
+    × ((n k : ℕ) × DefinesNumber (inst_at f (last_of (block_at f b))).operands n k)
+
+-- the block b is entered by the edge at a position out of a block that ends in a branch with a definition
+pub record IsEdgeInto (f : FunctionValue) (b from position : ℕ) : Type 0 where
+  pub block : from < length f.blocks
+  pub edge : HasEdge f from position
+  pub target : target_at f from position ≡ b
+  pub definitions : EndsInDefinitions f from

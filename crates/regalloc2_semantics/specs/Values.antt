@@ -1,5 +1,43 @@
--- Two interpreters of a function: one keeps a number for each vreg, the other a number for each place.
--- Read first: `Interpreters` (`source_run`, `place_run`), then `FaithfulRunAlike` in `Alike`.
--- Depends on regalloc2_function: paths, outputs, faithful outputs. What instructions compute is left open.
-pub mod Interpreters
-pub mod Alike
+-- The values that uses read, for any interpretation (`Meaning`) of the instructions.
+-- This project's own: what the instructions compute is left open.
+use Rattle.std.specs.Prelude.{ℕ, ◌≡◌, ◌+◌, nat_eq, if◌then◌else◌, List, [], ◌∷◌, map, length, Option}
+use Rattle.std.specs.Option.{option_map}
+use Rattle.regalloc2_names.specs.Operand.{OperandValue, is_reading}
+use Rattle.regalloc2_function.specs.FunctionValue.{FunctionValue}
+use Rattle.regalloc2_function.specs.OutputValue.{OutputValue}
+use Rattle.regalloc2_semantics.specs.Runs.{Way, IsPath, end_of, last_inst, Stamp, source_read, allocated_read}
+
+-- An interpretation gives the number that an instruction writes: from the instruction, its step, what was read at each step so far, the last step first, and
+-- the index of the operand that is written.
+abbrev pub Meaning : Type 0
+Meaning = ℕ → ℕ → List (List (Option ℕ)) → ℕ → ℕ
+
+-- what the reading uses of a list of operands read, from index k on
+unfoldable pub reads_from : (ℕ → OperandValue → Option Stamp) → ℕ → List OperandValue → List (Option Stamp)
+reads_from read k [] = []
+reads_from read k (o ∷ os) = if is_reading o then read k o ∷ reads_from read (k + 1) os else reads_from read (k + 1) os
+
+-- what the last step of a path reads, in each of the two runs
+abbrev pub source_reads : FunctionValue → List Way → List (Option Stamp)
+source_reads f ws = reads_from (λ k o. source_read f ws o) 0 (last_inst f ws).operands
+
+abbrev pub allocated_reads : FunctionValue → OutputValue → List Way → List (Option Stamp)
+allocated_reads f out ws = reads_from (allocated_read f out ws) 0 (last_inst f ws).operands
+
+-- the numbers that were read at each step of a path, the last step first, and the number of each write of an earlier step
+pub record Numbers : Type 0 where
+  pub history : List (List (Option ℕ))
+  pub written : Stamp → ℕ
+
+-- the numbers of a path whose steps read the given writes
+unfoldable pub numbers : FunctionValue → Meaning → (List Way → List (Option Stamp)) → List Way → Numbers
+numbers f meaning reads [] = record { history = map (option_map (λ s. 0)) (reads []) ∷ []; written = λ s. 0 }
+numbers f meaning reads (w ∷ ws) =
+    let before : Numbers = numbers f meaning reads ws in
+    let written : Stamp → ℕ = λ s. if nat_eq s.step (length ws) then meaning (end_of f ws).inst (length ws) before.history s.operand else before.written s in
+    record { history = map (option_map written) (reads (w ∷ ws)) ∷ before.history; written = written }
+
+-- on every path, both runs read the same numbers at each step
+abbrev pub SameNumbers : FunctionValue → OutputValue → Type 0
+SameNumbers f out = (meaning : Meaning) (ws : List Way) → IsPath f ws →
+    (numbers f meaning (allocated_reads f out) ws).history ≡ (numbers f meaning (source_reads f) ws).history

@@ -1,13 +1,16 @@
-//! What a listing carries for one vreg, what follows for every path, and two interpreters over it.
+//! What the theorem on the allocator speaks of, and its laws.
 //!
-//! Definitions and lemmas. Each function is a lemma function: its contract is a lemma.
+//! `specs/` has the definitions, in reading order: paths, both runs, faithful outputs, numbers under an
+//! interpretation, places and slots, live vregs, debug points. Each function is a lemma function: its contract is a
+//! lemma.
 #![tactic(auto)]
 
 ghost use Rattle.regalloc2_semantics.specs.Laws.{AgreeingReadsFindEarlier, ReadsAgreeWhereNumbersDo, WellFormedReadEarlier};
 
-use regalloc2_function::{agrees_where_numbers_do, finds_earlier_writes};
-
+mod laws;
 pub mod values;
+
+pub use laws::{agrees_where_numbers_do, finds_earlier_writes, reads_the_same_numbers};
 
 /// Lemma: in a well-formed function each use that finds a write finds a write of an earlier step.
 /// Both runs therefore read numbers that an interpretation gives. If every use finds a write, and

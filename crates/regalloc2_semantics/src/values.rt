@@ -4,7 +4,7 @@
 //! Authors of code generators use the lemma function of this module, and then need neither the names
 //! of writes nor paths.
 
-ghost use Rattle.regalloc2_semantics.specs.Values.Alike.{FaithfulRunAlike, WellFormedRunAlike};
+ghost use Rattle.regalloc2_semantics.specs.Alike.{FaithfulRunAlike, WellFormedRunAlike};
 
 use crate::reads_earlier_where_well_formed;
 

@@ -2,9 +2,8 @@
 use Rattle.std.proofs.Common.{◌≡◌, true, ℕ, ◌+◌, ◌<◌, List, [], ◌∷◌, ◌++◌, ◌||◌, length, map, take, get_or, sym, subst, refl}
 use Rattle.std.specs.Prelude.{◌↔◌, Contains}
 use Rattle.std.proofs.lemmas.List.{take_more, map-append}
-use Rattle.regalloc2_names.specs.Register.{Register, is_register}
+use Rattle.regalloc2_names.specs.Register.{Register, is_register, has_register}
 use Rattle.regalloc2_names.specs.RegisterBits.{register_of_bits}
-use Rattle.regalloc2_names.specs.RegisterSet.{has_register}
 use Rattle.regalloc2_names.specs.declared.sets.PRegSet.{PRegSet}
 use Rattle.regalloc2_names.specs.Collected.{collected}
 

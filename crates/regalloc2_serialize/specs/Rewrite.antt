@@ -2,7 +2,7 @@
 -- they aren't made.
 -- Read first: `IsRenumbered` in `Renumbered`, `HasSplitEdges` in `SplitEdges`. `Laid`: functions of partial blocks;
 -- `Rewritten`: what both share.
--- Depends on blocks and paths of regalloc2_function, and on `TableFunction`.
+-- Depends on blocks of regalloc2_function, paths of regalloc2_semantics, and on `TableFunction`.
 pub mod Laid
 pub mod Renumbered
 pub mod RewriteText

@@ -7,9 +7,9 @@ use Rattle.std.proofs.lemmas.List.Sorted.{All-permutation}
 use Rattle.regalloc2_function.specs.FunctionValue.{FunctionValue, Label}
 use Rattle.regalloc2_function.specs.Machine.{MachineValue}
 use Rattle.regalloc2_function.specs.OutputValue.{OutputValue, DebugLocation}
-use Rattle.regalloc2_function.specs.DebugPoints.{AreLocationsOf, AreDebugLocations, IsKept}
-use Rattle.regalloc2_function.specs.DebugPoints.AreLocationsOf.{none, kept, left_out}
-use Rattle.regalloc2_function.specs.Fitting.{IsProperPlace}
+use Rattle.regalloc2_semantics.specs.Debug.{AreLocationsOf, AreDebugLocations, IsKept}
+use Rattle.regalloc2_semantics.specs.Debug.AreLocationsOf.{none, kept, left_out}
+use Rattle.regalloc2_semantics.specs.Places.{IsProperPlace}
 
 module _ (f : FunctionValue) (env : MachineValue) (out : OutputValue) where
   -- the place is valid for the label's vreg

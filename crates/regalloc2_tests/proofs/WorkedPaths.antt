@@ -5,16 +5,13 @@ use Rattle.regalloc2_names.specs.declared.OperandConstraint.TheVariants.{Reg}
 use Rattle.regalloc2_names.specs.declared.OperandKind.TheVariants.{Def, Use}
 use Rattle.regalloc2_names.specs.declared.OperandPos.TheVariants.{Early, Late}
 use Rattle.regalloc2_names.specs.declared.RegClass.TheVariants.{Int}
-use Rattle.regalloc2_names.specs.Register.{VirtualRegister}
-use Rattle.regalloc2_names.specs.RegisterSet.{has_register}
+use Rattle.regalloc2_names.specs.Register.{VirtualRegister, has_register}
 use Rattle.regalloc2_names.specs.Operand.{OperandValue}
-use Rattle.regalloc2_names.specs.Place.{Place, InRegister, InSlot}
-use Rattle.regalloc2_names.specs.Point.{before, after}
+use Rattle.regalloc2_names.specs.Place.{Place, InRegister, InSlot, before, after}
 use Rattle.regalloc2_function.specs.FunctionValue.{FunctionValue, BlockValue, InstValue}
 use Rattle.regalloc2_function.specs.OutputValue.{OutputValue, MoveValue}
-use Rattle.regalloc2_function.specs.Path.{Way, Onward, ToSuccessor}
-use Rattle.regalloc2_function.specs.SourceRun.{Stamp, source_before, after_defs, passed, over_edge, source_read}
-use Rattle.regalloc2_function.specs.AllocatedRun.{cells_before, stored, after_moves, after_early_defs, after_writes, after_clobbers, allocated_read}
+use Rattle.regalloc2_semantics.specs.Runs.{Way, Onward, ToSuccessor, Stamp, source_before, after_defs, passed, over_edge, source_read, cells_before, stored}
+use Rattle.regalloc2_semantics.specs.Runs.{after_moves, after_early_defs, after_writes, after_clobbers, allocated_read}
 
 abbrev pub v : ℕ → VirtualRegister
 v n = record { number = n; class = Int }

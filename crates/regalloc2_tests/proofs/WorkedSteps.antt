@@ -8,15 +8,13 @@ use Rattle.regalloc2_names.specs.declared.OperandKind.TheVariants.{Def, Use}
 use Rattle.regalloc2_names.specs.declared.OperandPos.{OperandPos}
 use Rattle.regalloc2_names.specs.declared.OperandPos.TheVariants.{Early, Late}
 use Rattle.regalloc2_names.specs.declared.RegClass.TheVariants.{Float}
-use Rattle.regalloc2_names.specs.RegisterSet.{has_register}
+use Rattle.regalloc2_names.specs.Register.{has_register}
 use Rattle.regalloc2_names.specs.Operand.{OperandValue}
-use Rattle.regalloc2_names.specs.Place.{Place}
-use Rattle.regalloc2_names.specs.Point.{before, after}
+use Rattle.regalloc2_names.specs.Place.{Place, before, after}
 use Rattle.regalloc2_function.specs.FunctionValue.{FunctionValue, InstValue}
 use Rattle.regalloc2_function.specs.OutputValue.{OutputValue, MoveValue, moves_before}
-use Rattle.regalloc2_function.specs.Path.{Onward, ToSuccessor}
-use Rattle.regalloc2_function.specs.SourceRun.{source_before, after_defs, passed, over_edge}
-use Rattle.regalloc2_function.specs.AllocatedRun.{cells_before, stored, after_moves, after_early_defs, after_writes, after_clobbers, allocated_read}
+use Rattle.regalloc2_semantics.specs.Runs.{Onward, ToSuccessor, source_before, after_defs, passed, over_edge, cells_before, stored, after_moves}
+use Rattle.regalloc2_semantics.specs.Runs.{after_early_defs, after_writes, after_clobbers, allocated_read}
 use Rattle.regalloc2_tests.proofs.WorkedPaths.{v, op, block, with_blocks, p, move, at_step}
 
 abbrev any : ℕ → OperandKind → OperandPos → OperandValue

@@ -9,16 +9,15 @@ use Rattle.regalloc2_names.specs.declared.OperandPos.TheVariants.{Early, Late}
 use Rattle.regalloc2_names.specs.declared.RegClass.{RegClass}
 use Rattle.regalloc2_names.specs.declared.RegClass.TheVariants.{Int, Float, Vector}
 use Rattle.regalloc2_names.specs.Operand.{OperandValue, is_fixed_nonallocatable}
-use Rattle.regalloc2_names.specs.Register.{Register}
-use Rattle.regalloc2_names.specs.RegisterSet.{has_register}
-use Rattle.regalloc2_names.specs.Point.{after}
-use Rattle.regalloc2_function.specs.FunctionValue.{FunctionValue, InstValue, Label}
-use Rattle.regalloc2_function.specs.Machine.{MachineValue, empty_set, is_allocatable, IsFixedStackSlot}
-use Rattle.regalloc2_function.specs.WellFormed.{EachOperand}
-use Rattle.regalloc2_function.specs.DebugPoints.{ReadsAt, PassesAt, UsesAt, IsLastUse, IsLastPoint, IsKept}
-use Rattle.regalloc2_function.specs.DebugPoints.IsFirstPoint.{of_definition as first_of_definition}
-use Rattle.regalloc2_function.specs.DebugPoints.IsLastPoint.{of_late_use, of_early_use, of_argument, of_definition}
-use Rattle.regalloc2_function.specs.Fitting.{Fits, HoldsEarly, HoldsLate, IsReused, NamesClass, need_of, allocatable_count, count_below, spare_of}
+use Rattle.regalloc2_names.specs.Register.{Register, has_register}
+use Rattle.regalloc2_names.specs.Place.{after}
+use Rattle.regalloc2_function.specs.FunctionValue.{FunctionValue, InstValue, Label, EachOperand}
+use Rattle.regalloc2_function.specs.Machine.{MachineValue, empty_set, is_allocatable, IsFixedStackSlot, allocatable_count, count_below}
+use Rattle.regalloc2_semantics.specs.Debug.{ReadsAt, PassesAt, UsesAt, IsLastUse, IsLastPoint, IsKept}
+use Rattle.regalloc2_semantics.specs.Debug.IsFirstPoint.{of_definition as first_of_definition}
+use Rattle.regalloc2_semantics.specs.Debug.IsLastPoint.{of_late_use, of_early_use, of_argument, of_definition}
+use Rattle.regalloc2_semantics.specs.Fits.{Fits, HoldsEarly, HoldsLate, IsReused, need_of, spare_of}
+use Rattle.regalloc2_function.specs.Fitting.{NamesClass}
 use Rattle.regalloc2_tests.proofs.WorkedPaths.{v, op, block, with_blocks, def_reg, use_reg}
 
 -- an instruction that defines v0, and one that reads it early

@@ -124,8 +124,12 @@ fn place_of(answer: Option<Answer>) -> usize
 /// Counts in `counts` the results for changed copies of `text`.
 fn count(alloc: Global, random: &mut Random, words: &str, text: &str, counts: &mut Counts) {
     for _ in 0..COPIES {
-        let answer = changed(alloc, random, text.as_bytes())
-            .and_then(|text| ask(alloc, &Refusing::counting(alloc), words, text.as_slice()));
+        let answer = changed(alloc, random, text.as_bytes()).and_then(|text| ask(
+            alloc,
+            &Refusing::counting(alloc),
+            words,
+            text.as_slice(),
+        ));
         let place = place_of(answer);
         counts[place] = counts[place].saturating_add(1);
     }

@@ -128,10 +128,7 @@ fn write_program(alloc: Global, out: &mut Report) {
         "cut texts that aren't refused",
         &program::accepted_cuts(alloc),
     );
-    out.row(
-        "bytes that aren't refused",
-        &program::accepted_bytes(alloc),
-    );
+    out.row("bytes that aren't refused", &program::accepted_bytes(alloc));
     out.row(
         "failed reads that aren't refused",
         &program::unreported_failed_reads(alloc),

@@ -26,10 +26,6 @@ fn report_of(alloc: Global, stored: (&str, &str)) -> Result<Report, AllocError> 
 }
 
 /// Writes all rows. `stored` is a function and an output, each as JSON.
-pub fn write_all<W: Write>(
-    alloc: Global,
-    stored: (&str, &str),
-    out: &mut W,
-) -> io::Result<()> {
+pub fn write_all<W: Write>(alloc: Global, stored: (&str, &str), out: &mut W) -> io::Result<()> {
     report_of(alloc, stored)?.print(out)
 }

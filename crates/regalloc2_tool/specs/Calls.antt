@@ -7,9 +7,9 @@ use Rattle.std.specs.declared.alloc.Global.{Global}
 use Rattle.regalloc2_function.specs.FunctionValue.{FunctionValue}
 use Rattle.regalloc2_function.specs.Machine.{MachineValue}
 use Rattle.regalloc2_function.specs.OutputValue.{OutputValue, IsInOrder}
-use Rattle.regalloc2_function.specs.Faithful.{IsFaithful}
+use Rattle.regalloc2_semantics.specs.Faithful.{IsFaithful}
 use Rattle.regalloc2_function.specs.Fitting.{MachineFits}
-use Rattle.regalloc2_function.specs.SourceRun.{IsWrittenFirst}
+use Rattle.regalloc2_semantics.specs.Runs.{IsWrittenFirst}
 use Rattle.regalloc2_function.specs.Stored.{NamesValues, output_of_stored}
 use Rattle.regalloc2_function.specs.WellFormed.{IsFramed, IsWellFormed}
 use Rattle.regalloc2_function.specs.declared.serialize.StoredOutput.{StoredOutput}

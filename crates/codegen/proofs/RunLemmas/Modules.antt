@@ -5,7 +5,7 @@ use Rattle.std.proofs.lemmas.Option.{slice_get-map}
 use Rattle.std.specs.Option.{option_map}
 use Rattle.std.specs.Prelude.{slice_get, slice_index}
 use Rattle.regalloc2_names.specs.Register.{VirtualRegister}
-use Rattle.regalloc2_function.specs.Path.{first_of}
+use Rattle.regalloc2_semantics.specs.Runs.{first_of}
 use Rattle.codegen_machine.specs.Calls.{FunctionCode, Stack, StackState, stack_run, stack_step}
 use Rattle.codegen_machine.specs.Frames.{CallValue, ModuleState, SuspendedFrame, frame_called, frame_entered, module_run, module_step, suspended}
 use Rattle.codegen_machine.specs.Modules.{procedures_of}

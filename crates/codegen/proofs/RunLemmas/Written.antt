@@ -3,7 +3,7 @@ use Rattle.std.proofs.Common.{ℕ, zero, suc, ◌≡◌, ◌+◌, ◌<◌, List,
 use Rattle.std.proofs.Math.Path.{fun_ext}
 use Rattle.std.specs.HashMap.{HashMap, IsEmpty}
 use Rattle.regalloc2_names.specs.Register.{VirtualRegister}
-use Rattle.regalloc2_semantics.specs.Values.Interpreters.{number_set, passed_on}
+use Rattle.regalloc2_semantics.specs.Interpreters.{number_set, passed_on}
 use Rattle.codegen.specs.Run.States.{numbers_by_vreg}
 
 -- after k arguments are passed, one more

@@ -1,7 +1,7 @@
 -- Runs whose numbers are 0 at the start, except for the given arguments and memory.
 use Rattle.std.specs.Prelude.{ℕ, ◌≡◌, List, codes, slice_index, None, Some}
 use Rattle.std.specs.Fmt.{decimal}
-use Rattle.regalloc2_function.specs.Path.{first_of}
+use Rattle.regalloc2_semantics.specs.Runs.{first_of}
 use Rattle.codegen_operation.specs.Numbers.{RunOutcome, Running as runs, Returned as returned, Trapped as traps, Overflowed as overflows, Stuck as sticks, further}
 use Rattle.codegen_machine.specs.Meaning.{ProcedureState}
 use Rattle.codegen_machine.specs.Seen.{function_of_procedure}

@@ -1,10 +1,9 @@
 //! The interpreter of a function, step by step.
 
 ghost use Rattle.std.specs.Prelude.{◌≡◌, ◌<◌, ◌^◌, ◌+◌, IfOk, OnOk, Some, if◌then◌else◌, length, map};
-ghost use Rattle.regalloc2_semantics.specs.Values.Interpreters.{number_set, passed_on};
+ghost use Rattle.regalloc2_semantics.specs.Interpreters.{number_set, passed_on};
 ghost use Rattle.regalloc2_function.specs.FunctionValue.{block_at};
-ghost use Rattle.regalloc2_function.specs.Path.{first_of};
-ghost use Rattle.regalloc2_function.specs.SourceRun.{arguments_at};
+ghost use Rattle.regalloc2_semantics.specs.Runs.{first_of, arguments_at};
 ghost use Rattle.codegen_operation.specs.Numbers.{condition_holds, divided_at, division_traps, is_within, number_at, widened, with_number, Trapped};
 ghost use Rattle.codegen_machine.specs.Meaning.{along, count_number, done, onward, right_number, stored, procedure_run, procedure_step};
 ghost use Rattle.codegen_machine.specs.Seen.{function_of_procedure, operations};

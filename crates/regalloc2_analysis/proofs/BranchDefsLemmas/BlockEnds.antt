@@ -2,14 +2,14 @@
 use Rattle.std.proofs.Common.{ℕ, zero, suc, ◌≡◌, ◌-◌, ◌<◌, ◌≤◌, inl, inr, Bool, true, false, List, length, refl, sym, ap, ◌∙◌, subst, arith}
 use Rattle.std.specs.Prelude.{slice_index_or, IsTrue, ◌↔◌}
 use Rattle.std.proofs.lemmas.Bool.{cases_lt, false≢true}
-use Rattle.regalloc2_function.specs.FunctionValue.{FunctionValue, block_at, inst_at, no_operand}
-use Rattle.regalloc2_function.specs.WellFormed.{BlocksFollow, last_of}
+use Rattle.regalloc2_function.specs.FunctionValue.{FunctionValue, block_at, inst_at, no_operand, last_of, op_at}
+use Rattle.regalloc2_function.specs.WellFormed.{BlocksFollow}
 use Rattle.std.proofs.lemmas.List.{get_or_read}
 use Rattle.regalloc2_names.specs.Operand.{OperandValue}
-use Rattle.regalloc2_function.specs.FunctionValue.{op_at}
-use Rattle.regalloc2_semantics.proofs.SingleDef.{IsDefOperand}
-use Rattle.regalloc2_semantics.proofs.Order.{ends_within}
-use Rattle.regalloc2_analysis.specs.BranchDefs.BranchDefs.{DefinesNumber, EndsInDefinitions, HasDefinitions, IsSite, MayHaveTables}
+use Rattle.regalloc2_carry.proofs.SingleDef.{IsDefOperand}
+use Rattle.regalloc2_carry.proofs.Order.{ends_within}
+use Rattle.regalloc2_semantics.specs.Live.{DefinesNumber, EndsInDefinitions}
+use Rattle.regalloc2_analysis.specs.BranchDefs.BranchDefs.{HasDefinitions, IsSite, MayHaveTables}
 
 -- what is read at an index is the operand of that index
 pub read_operand : (ops : List OperandValue) (k : ℕ) (o : OperandValue) → k < length ops → o ≡ slice_index_or ops k o → o ≡ op_at ops k

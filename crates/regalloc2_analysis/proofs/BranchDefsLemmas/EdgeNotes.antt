@@ -9,19 +9,14 @@ use Rattle.std.proofs.Math.Seq.{drop-append_seam}
 use Rattle.std.proofs.lemmas.Grind.{common_steps}
 use Rattle.regalloc2_names.specs.declared.sets.PRegSet.{PRegSet}
 use Rattle.regalloc2_names.specs.Operand.{OperandValue, is_def}
-use Rattle.regalloc2_names.specs.Register.{Register, is_register}
-use Rattle.regalloc2_names.specs.RegisterSet.{has_register}
+use Rattle.regalloc2_names.specs.Register.{Register, is_register, has_register}
 use Rattle.regalloc2_names.specs.Same.{is_register-true, is_register-same}
-use Rattle.regalloc2_function.specs.FunctionValue.{FunctionValue, block_at, inst_at}
-use Rattle.regalloc2_function.specs.WellFormed.{last_of}
-use Rattle.regalloc2_function.specs.FunctionValue.{op_at}
-use Rattle.regalloc2_semantics.specs.Blocks.{target_at}
-use Rattle.regalloc2_semantics.proofs.SingleDef.{IsDefOperand, one_made}
-use Rattle.regalloc2_semantics.proofs.SingleDef.Made.{by_operand}
-use Rattle.regalloc2_analysis.specs.BranchDefs.BranchDefs.{AreStoredOperands, EndsInDefinitions, IsEdgeInto, IsHeld, IsUsedElsewhere, MayHaveTables}
-use Rattle.regalloc2_analysis.specs.BranchDefs.BranchDefs.{fixed_definition}
-use Rattle.regalloc2_analysis.specs.BranchDefs.Notes.{AreUsed, IsMarkedDefinition, ListsStored}
-use Rattle.regalloc2_analysis.specs.BranchDefs.Notes.{NotesEdges}
+use Rattle.regalloc2_function.specs.FunctionValue.{FunctionValue, block_at, inst_at, last_of, op_at}
+use Rattle.regalloc2_semantics.specs.Live.{target_at, EndsInDefinitions, IsEdgeInto}
+use Rattle.regalloc2_carry.proofs.SingleDef.{IsDefOperand, one_made}
+use Rattle.regalloc2_carry.proofs.SingleDef.Made.{by_operand}
+use Rattle.regalloc2_analysis.specs.BranchDefs.BranchDefs.{AreStoredOperands, IsHeld, IsUsedElsewhere, MayHaveTables, fixed_definition}
+use Rattle.regalloc2_analysis.specs.BranchDefs.Notes.{AreUsed, IsMarkedDefinition, ListsStored, NotesEdges}
 use Rattle.regalloc2_analysis.specs.BranchDefs.Tables.{AreEdges, IsEdgeOf}
 use Rattle.regalloc2_analysis.specs.declared.branch_defs.EdgeInto.{EdgeInto}
 use Rattle.regalloc2_analysis.proofs.BranchDefsLemmas.UseNotes.{used_made}

@@ -2,14 +2,13 @@
 use Rattle.std.proofs.Common.{ℕ, ◌<◌, ◌∙◌, inl, inr, refl, arith}
 use Rattle.std.proofs.lemmas.List.{get_or_default}
 use Rattle.regalloc2_names.specs.Operand.{OperandValue}
-use Rattle.regalloc2_names.specs.Point.{before, after}
+use Rattle.regalloc2_names.specs.Place.{before, after}
 use Rattle.regalloc2_names.specs.Register.{VirtualRegister, no_vreg}
-use Rattle.regalloc2_function.specs.FunctionValue.{FunctionValue, block_at, inst_at, no_operand}
+use Rattle.regalloc2_function.specs.FunctionValue.{FunctionValue, block_at, inst_at, no_operand, op_at}
 use Rattle.regalloc2_function.specs.WellFormed.{DefinedOnce}
-use Rattle.regalloc2_function.specs.TableLength.{CoversDefinitions}
-use Rattle.regalloc2_function.specs.FunctionValue.{op_at}
-use Rattle.regalloc2_semantics.proofs.SingleDef.{IsDefOperand, Made, made_small}
-use Rattle.regalloc2_semantics.proofs.SingleDef.Made.{by_operand}
+use Rattle.regalloc2_function.specs.Inside.TableLength.{CoversDefinitions}
+use Rattle.regalloc2_carry.proofs.SingleDef.{IsDefOperand, Made, made_small}
+use Rattle.regalloc2_carry.proofs.SingleDef.Made.{by_operand}
 
 -- what is made has an entry
 pub made_room : (f : FunctionValue) → DefinedOnce f → (n : ℕ) → CoversDefinitions f n → (v : VirtualRegister) → Made f v → v.number < n

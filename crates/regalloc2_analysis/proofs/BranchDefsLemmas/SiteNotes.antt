@@ -1,15 +1,14 @@
 -- The operands of branches are noted one after another.
-use Rattle.std.proofs.Common.{ℕ, ◌≡◌, ◌+◌, ◌<◌, ◌⊎◌, inl, inr, true, false, List, length, sym, ap, ◌∙◌, subst, arith, set, length-set}
-use Rattle.std.proofs.Common.{get_or-set_same}
+use Rattle.std.proofs.Common.{ℕ, ◌≡◌, ◌+◌, ◌<◌, ◌⊎◌, inl, inr, true, false, List, length, sym, ap, ◌∙◌, subst, arith, set, length-set, get_or-set_same}
 use Rattle.std.specs.Prelude.{Option, None, Some, slice_index_or, if◌then◌else◌}
 use Rattle.std.proofs.lemmas.Bool.{cases_eq, cases_lt, cases_Bool, false≢true}
 use Rattle.std.proofs.lemmas.List.{get_or_past, get_or-set_other}
 use Rattle.regalloc2_index.proofs.Numbers.{below_or_last}
 use Rattle.regalloc2_names.specs.Operand.{OperandValue, is_def}
-use Rattle.regalloc2_function.specs.FunctionValue.{FunctionValue, block_at, inst_at, op_at}
-use Rattle.regalloc2_function.specs.WellFormed.{last_of}
-use Rattle.regalloc2_function.specs.TableLength.{CoversDefinitions}
-use Rattle.regalloc2_analysis.specs.BranchDefs.BranchDefs.{DefinesNumber, IsSite, MayHaveTables}
+use Rattle.regalloc2_function.specs.FunctionValue.{FunctionValue, block_at, inst_at, op_at, last_of}
+use Rattle.regalloc2_function.specs.Inside.TableLength.{CoversDefinitions}
+use Rattle.regalloc2_semantics.specs.Live.{DefinesNumber}
+use Rattle.regalloc2_analysis.specs.BranchDefs.BranchDefs.{IsSite, MayHaveTables}
 use Rattle.regalloc2_analysis.specs.BranchDefs.Notes.{NotesBranch, NotesSites}
 use Rattle.regalloc2_analysis.specs.BranchDefs.Tables.{AreDefSites}
 use Rattle.regalloc2_analysis.specs.declared.branch_defs.DefSite.{DefSite}

@@ -7,17 +7,15 @@ use Rattle.regalloc2_names.specs.declared.OperandPos.{OperandPos}
 use Rattle.regalloc2_names.specs.declared.OperandPos.TheVariants.{Early, Late}
 use Rattle.regalloc2_names.specs.Operand.{OperandValue, is_def, is_reading}
 use Rattle.regalloc2_names.specs.Register.{VirtualRegister}
-use Rattle.regalloc2_function.specs.FunctionValue.{FunctionValue, block_at, inst_at, no_operand}
-use Rattle.regalloc2_function.specs.DebugPoints.{DefinesAt, PassesAt, ReadsAt, UsesAt}
-use Rattle.regalloc2_function.specs.WellFormed.{last_of}
-use Rattle.regalloc2_function.specs.FunctionValue.{op_at}
-use Rattle.regalloc2_semantics.proofs.SingleDef.{Made, is_made, made_before, one_made, one_operand, reads_defined}
-use Rattle.regalloc2_semantics.proofs.SingleDef.{IsDefOperand}
-use Rattle.regalloc2_semantics.proofs.SingleDef.Made.{by_operand}
-use Rattle.regalloc2_semantics.proofs.Order.{passed_made}
-use Rattle.regalloc2_function.specs.TableLength.{CoversDefinitions}
-use Rattle.regalloc2_function.specs.MarkedNumbers.{Marks}
-use Rattle.regalloc2_analysis.specs.BranchDefs.BranchDefs.{DefinesNumber, IsSite, IsUsedElsewhere, MayHaveTables}
+use Rattle.regalloc2_function.specs.FunctionValue.{FunctionValue, block_at, inst_at, no_operand, last_of, op_at}
+use Rattle.regalloc2_semantics.specs.Debug.{DefinesAt, PassesAt, ReadsAt, UsesAt}
+use Rattle.regalloc2_carry.proofs.SingleDef.{Made, is_made, made_before, one_made, one_operand, reads_defined, IsDefOperand}
+use Rattle.regalloc2_carry.proofs.SingleDef.Made.{by_operand}
+use Rattle.regalloc2_carry.proofs.Order.{passed_made}
+use Rattle.regalloc2_function.specs.Inside.TableLength.{CoversDefinitions}
+use Rattle.regalloc2_function.specs.Inside.MarkedNumbers.{Marks}
+use Rattle.regalloc2_semantics.specs.Live.{DefinesNumber}
+use Rattle.regalloc2_analysis.specs.BranchDefs.BranchDefs.{IsSite, IsUsedElsewhere, MayHaveTables}
 use Rattle.regalloc2_analysis.specs.BranchDefs.Notes.{AreUsed, IsSiteAt, PassesAmong, PassesIn, PassesOut, ReadsAmong, ReadsIn}
 use Rattle.regalloc2_analysis.specs.BranchDefs.Tables.{AreDefSites}
 use Rattle.regalloc2_analysis.specs.declared.branch_defs.DefSite.{DefSite}

@@ -6,21 +6,21 @@ use Rattle.std.specs.Prelude.{Contains, MatchOption, Option, None, Some, nat_eq}
 use Rattle.regalloc2_names.specs.declared.OperandPos.{OperandPos}
 use Rattle.regalloc2_names.specs.declared.OperandPos.TheVariants.{Early, Late}
 use Rattle.regalloc2_names.specs.Register.{VirtualRegister}
-use Rattle.regalloc2_names.specs.Point.{before, after}
-use Rattle.regalloc2_function.specs.FunctionValue.{FunctionValue, block_at, inst_at}
-use Rattle.regalloc2_function.specs.DebugPoints.{DefinesAt, IsFirstPoint, IsLastPoint, IsLastUse, PassesAt, ReadsAt, UsesAt}
-use Rattle.regalloc2_function.specs.DebugPoints.IsFirstPoint.{of_definition as begins_at_definition, of_parameter}
-use Rattle.regalloc2_function.specs.DebugPoints.IsLastPoint.{of_late_use, of_early_use, of_argument, of_definition as ends_at_definition}
-use Rattle.regalloc2_function.specs.FunctionValue.{op_at}
-use Rattle.regalloc2_semantics.proofs.SingleDef.{Made, not_both, one_operand, one_param}
+use Rattle.regalloc2_names.specs.Place.{before, after}
+use Rattle.regalloc2_function.specs.FunctionValue.{FunctionValue, block_at, inst_at, op_at}
+use Rattle.regalloc2_semantics.specs.Debug.{DefinesAt, IsFirstPoint, IsLastPoint, IsLastUse, PassesAt, ReadsAt, UsesAt}
+use Rattle.regalloc2_semantics.specs.Debug.IsFirstPoint.{of_definition as begins_at_definition, of_parameter}
+use Rattle.regalloc2_semantics.specs.Debug.IsLastPoint.{of_late_use, of_early_use, of_argument, of_definition as ends_at_definition}
+use Rattle.regalloc2_carry.proofs.SingleDef.{Made, not_both, one_operand, one_param}
 use Rattle.regalloc2_analysis.specs.declared.live_ranges.InstOperand.{InstOperand}
 use Rattle.regalloc2_analysis.specs.declared.live_ranges.ends.RangeEnd.{RangeEnd}
 use Rattle.regalloc2_analysis.specs.LiveRanges.LiveRanges.{IsDefiner, IsFirstReader, IsLiveRange, IsSSA, IsShownBy}
 use Rattle.regalloc2_analysis.specs.LiveRanges.LiveRanges.IsShownBy.{by_late_use, by_early_use, by_argument, by_definition}
 use Rattle.regalloc2_analysis.specs.LiveRanges.LastUses.{EndsFrom, EndsUse, ReadsFirst, Unread, UsesNumber, end_behind}
 use Rattle.regalloc2_analysis.specs.LiveRanges.LastUses.EndsUse.{late, early, passed}
-use Rattle.regalloc2_analysis.proofs.LiveRangesLemmas.UsesInSSA.{definer_defines, IsDefOperand-from_DefinesAt, is_reader, made_by_definition, made_by_parameter, passes_it}
-use Rattle.regalloc2_analysis.proofs.LiveRangesLemmas.UsesInSSA.{read_number, reader_reads, takes_number, use_after, use_within, used_number}
+use Rattle.regalloc2_analysis.proofs.LiveRangesLemmas.UsesInSSA.{definer_defines, IsDefOperand-from_DefinesAt, is_reader, made_by_definition}
+use Rattle.regalloc2_analysis.proofs.LiveRangesLemmas.UsesInSSA.{made_by_parameter, passes_it, read_number, reader_reads, takes_number, use_after, use_within}
+use Rattle.regalloc2_analysis.proofs.LiveRangesLemmas.UsesInSSA.{used_number}
 
 one_last : (f : FunctionValue) (v : VirtualRegister) (i j : ℕ) → IsLastUse f v i → IsLastUse f v j → i ≡ j
 one_last f v i j a b = let x : i ≤ j = b.1 i a.0 in let y : j ≤ i = a.1 j b.0 in omega (arith, x, y)

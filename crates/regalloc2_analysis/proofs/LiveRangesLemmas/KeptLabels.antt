@@ -1,25 +1,23 @@
 -- The labels that are kept, one by one, and as debug locations.
-use Rattle.std.proofs.Common.{ℕ, suc, ◌≡◌, ◌+◌, ◌*◌, ◌/◌, true, take, ◌<◌, ◌≤◌, inl, inr, List, [], ◌∷◌, ◌++◌, length, map, refl, sym, ap, ◌∙◌, subst}
-use Rattle.std.proofs.Common.{arith, append-nil}
-use Rattle.std.specs.Prelude.{Option, Some, nat_eq, slice_index_or}
+use Rattle.std.proofs.Common.{ℕ, suc, ◌≡◌, ◌+◌, ◌*◌, ◌/◌, true, take, ◌<◌, ◌≤◌, inl, inr, List, [], ◌∷◌, ◌++◌, length, map, refl, sym, ap, ◌∙◌, subst, arith}
+use Rattle.std.proofs.Common.{append-nil}
+use Rattle.std.specs.Prelude.{Option, Some, nat_eq, slice_index_or, All}
 use Rattle.std.specs.List.{Any}
-use Rattle.std.specs.Prelude.{All}
 use Rattle.std.proofs.lemmas.List.Elements.{All-cons, All-nil, All-weaker}
 use Rattle.std.proofs.lemmas.Bool.{lt-ltb}
 use Rattle.std.proofs.lemmas.Bool.Decides.{Decides-eqb}
 use Rattle.std.proofs.lemmas.List.{map-append, take_more}
-use Rattle.regalloc2_names.specs.Place.{Place}
-use Rattle.regalloc2_names.specs.Point.{inst_of_point}
+use Rattle.regalloc2_names.specs.Place.{Place, inst_of_point}
 use Rattle.regalloc2_names.specs.Register.{VirtualRegister, class_code}
 use Rattle.regalloc2_names.specs.Same.{same_class}
 use Rattle.regalloc2_names.specs.declared.RegClass.{RegClass}
 use Rattle.regalloc2_function.specs.FunctionValue.{FunctionValue, IsLimited, Label}
 use Rattle.regalloc2_function.specs.OutputValue.{DebugLocation}
-use Rattle.regalloc2_function.specs.DebugPoints.{AreLocationsOf, IsFirstPoint, IsKept, IsLastPoint, UsesAt}
-use Rattle.regalloc2_function.specs.DebugPoints.AreLocationsOf.{none as no_more, kept as located, left_out as omitted}
-use Rattle.regalloc2_function.specs.DebugPoints.IsFirstPoint.{of_definition as begins_at_definition, of_parameter}
-use Rattle.regalloc2_function.specs.DebugPoints.IsLastPoint.{of_late_use, of_early_use, of_argument, of_definition as ends_at_definition}
-use Rattle.regalloc2_semantics.proofs.Order.{ends_within}
+use Rattle.regalloc2_semantics.specs.Debug.{AreLocationsOf, IsFirstPoint, IsKept, IsLastPoint, UsesAt}
+use Rattle.regalloc2_semantics.specs.Debug.AreLocationsOf.{none as no_more, kept as located, left_out as omitted}
+use Rattle.regalloc2_semantics.specs.Debug.IsFirstPoint.{of_definition as begins_at_definition, of_parameter}
+use Rattle.regalloc2_semantics.specs.Debug.IsLastPoint.{of_late_use, of_early_use, of_argument, of_definition as ends_at_definition}
+use Rattle.regalloc2_carry.proofs.Order.{ends_within}
 use Rattle.regalloc2_analysis.specs.declared.live_ranges.KeptLabel.{KeptLabel}
 use Rattle.regalloc2_analysis.specs.declared.live_ranges.LiveRange.{LiveRange}
 use Rattle.regalloc2_analysis.specs.LiveRanges.LiveRanges.{AreKeptLabels, AreLiveRanges, IsKeptRange, IsLabelled, IsSSA, IsShownBy, range_at}

@@ -5,10 +5,10 @@ use Rattle.std.specs.List.{Any}
 use Rattle.std.proofs.lemmas.Bool.{cases_eq, eqb-true}
 use Rattle.regalloc2_names.specs.Register.{VirtualRegister}
 use Rattle.regalloc2_function.specs.FunctionValue.{FunctionValue, Label, label_of}
-use Rattle.regalloc2_function.specs.DebugPoints.{IsFirstPoint}
-use Rattle.regalloc2_function.specs.DebugPoints.IsFirstPoint.{of_definition, of_parameter}
-use Rattle.regalloc2_function.specs.TableLength.{CoversDefinitions}
-use Rattle.regalloc2_function.specs.MarkedNumbers.{Marks}
+use Rattle.regalloc2_semantics.specs.Debug.{IsFirstPoint}
+use Rattle.regalloc2_semantics.specs.Debug.IsFirstPoint.{of_definition, of_parameter}
+use Rattle.regalloc2_function.specs.Inside.TableLength.{CoversDefinitions}
+use Rattle.regalloc2_function.specs.Inside.MarkedNumbers.{Marks}
 use Rattle.regalloc2_analysis.specs.declared.live_ranges.LiveRange.{LiveRange}
 use Rattle.regalloc2_analysis.specs.LiveRanges.LiveRanges.{AreLabelsMarked, AreLiveRanges, IsLabelled, IsSSA, IsWanted}
 use Rattle.regalloc2_analysis.specs.LiveRanges.Marks.{NamedAmong}

@@ -6,17 +6,16 @@ use Rattle.std.proofs.lemmas.List.{get_or_default}
 use Rattle.regalloc2_names.specs.declared.OperandPos.{OperandPos}
 use Rattle.regalloc2_names.specs.Register.{VirtualRegister, no_vreg}
 use Rattle.regalloc2_names.specs.Operand.{OperandValue, is_def, is_reading}
-use Rattle.regalloc2_names.specs.Point.{before, after}
-use Rattle.regalloc2_function.specs.FunctionValue.{FunctionValue, block_at, inst_at, no_operand}
+use Rattle.regalloc2_names.specs.Place.{before, after}
+use Rattle.regalloc2_function.specs.FunctionValue.{FunctionValue, block_at, inst_at, no_operand, last_of, op_at}
 use Rattle.regalloc2_function.specs.Machine.{MachineValue}
-use Rattle.regalloc2_function.specs.WellFormed.{IsDefinedBy, IsWellFormed, last_of}
-use Rattle.regalloc2_function.specs.DebugPoints.{DefinesAt, PassesAt, ReadsAt, UsesAt}
-use Rattle.regalloc2_function.specs.TableLength.{CoversDefinitions}
-use Rattle.regalloc2_function.specs.FunctionValue.{op_at}
-use Rattle.regalloc2_semantics.proofs.SingleDef.{IsDefOperand, Made, TakesAt, is_made, made_before, made_behind, made_small, not_both, one_made}
-use Rattle.regalloc2_semantics.proofs.SingleDef.{one_param, reads_defined}
-use Rattle.regalloc2_semantics.proofs.SingleDef.Made.{by_operand, by_param}
-use Rattle.regalloc2_semantics.proofs.Order.{ends_within, passes_later, reads_later}
+use Rattle.regalloc2_function.specs.WellFormed.{IsDefinedBy, IsWellFormed}
+use Rattle.regalloc2_semantics.specs.Debug.{DefinesAt, PassesAt, ReadsAt, UsesAt}
+use Rattle.regalloc2_function.specs.Inside.TableLength.{CoversDefinitions}
+use Rattle.regalloc2_carry.proofs.SingleDef.{IsDefOperand, Made, TakesAt, is_made, made_before, made_behind, made_small, not_both, one_made, one_param}
+use Rattle.regalloc2_carry.proofs.SingleDef.{reads_defined}
+use Rattle.regalloc2_carry.proofs.SingleDef.Made.{by_operand, by_param}
+use Rattle.regalloc2_carry.proofs.Order.{ends_within, passes_later, reads_later}
 use Rattle.regalloc2_analysis.specs.declared.live_ranges.InstOperand.{InstOperand}
 use Rattle.regalloc2_analysis.specs.LiveRanges.LiveRanges.{IsDefiner, IsReader, IsSSA}
 use Rattle.regalloc2_analysis.specs.LiveRanges.LastUses.{HasNumber, PassesNumber, ReadsNumber, UsesNumber}

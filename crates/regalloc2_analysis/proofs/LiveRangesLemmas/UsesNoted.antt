@@ -9,14 +9,13 @@ use Rattle.regalloc2_names.specs.declared.OperandPos.TheVariants.{Early, Late}
 use Rattle.regalloc2_names.specs.Register.{VirtualRegister}
 use Rattle.regalloc2_names.specs.Operand.{OperandValue, is_position, is_reading, reads_at}
 use Rattle.regalloc2_names.proofs.EqualNames.{is_position-true, is_position-same}
-use Rattle.regalloc2_function.specs.FunctionValue.{FunctionValue, block_at, inst_at}
-use Rattle.regalloc2_function.specs.SourceRun.{arguments_at}
+use Rattle.regalloc2_function.specs.FunctionValue.{FunctionValue, block_at, inst_at, op_at}
+use Rattle.regalloc2_semantics.specs.Runs.{arguments_at}
 use Rattle.regalloc2_function.specs.WellFormed.{BlocksFollow}
-use Rattle.regalloc2_function.specs.FunctionValue.{op_at}
-use Rattle.regalloc2_semantics.proofs.Order.{stands_later}
+use Rattle.regalloc2_carry.proofs.Order.{stands_later}
 use Rattle.regalloc2_analysis.specs.declared.live_ranges.ends.RangeEnd.{RangeEnd}
-use Rattle.regalloc2_analysis.specs.LiveRanges.LastUses.{EndsFrom, EndsUse, HasNumber, HasPassed, NotesArguments, NotesRangeEnd, NotesPassed, NotesReads, NotesUses}
-use Rattle.regalloc2_analysis.specs.LiveRanges.LastUses.{PassesNumber, ReadsFirst, ReadsNumber, UsesNumber, end_at, end_of_argument, end_of_reader}
+use Rattle.regalloc2_analysis.specs.LiveRanges.LastUses.{EndsFrom, EndsUse, HasNumber, HasPassed, NotesArguments, NotesRangeEnd, NotesPassed, NotesReads}
+use Rattle.regalloc2_analysis.specs.LiveRanges.LastUses.{NotesUses, PassesNumber, ReadsFirst, ReadsNumber, UsesNumber, end_at, end_of_argument, end_of_reader}
 use Rattle.regalloc2_analysis.specs.LiveRanges.LastUses.{read_end}
 use Rattle.regalloc2_analysis.specs.LiveRanges.LastUses.UsesNumber.{reads, passes}
 use Rattle.regalloc2_analysis.specs.LiveRanges.LastUses.EndsUse.{late, early, passed}

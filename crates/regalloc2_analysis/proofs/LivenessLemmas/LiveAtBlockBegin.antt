@@ -1,18 +1,17 @@
 -- What a walk over a block finds is needed at its beginning.
-use Rattle.std.proofs.Common.{ℕ, zero, suc, ◌≡◌, ◌+◌, ◌-◌, ◌<◌, ◌≤◌, ◌⊎◌, Bool, true, false, List, [], length, refl, sym, ap, ◌∙◌, subst, arith, inl}
-use Rattle.std.proofs.Common.{inr, nat_eq, eqb-true}
+use Rattle.std.proofs.Common.{ℕ, zero, suc, ◌≡◌, ◌+◌, ◌-◌, ◌<◌, ◌≤◌, ◌⊎◌, Bool, true, false, List, [], length, refl, sym, ap, ◌∙◌, subst, arith, inl, inr}
+use Rattle.std.proofs.Common.{nat_eq, eqb-true}
 use Rattle.std.specs.Prelude.{◌&&◌, ◌||◌, not, Contains}
 use Rattle.std.proofs.lemmas.Bool.{cases_Bool, and_parts, ne_eqb, not-true, or_cases, or_parts, or_right}
 use Rattle.regalloc2_index.proofs.Numbers.{below_or_last, nat_eq-self}
 use Rattle.regalloc2_names.specs.Register.{VirtualRegister}
 use Rattle.regalloc2_names.specs.Operand.{OperandValue}
 use Rattle.regalloc2_function.specs.FunctionValue.{FunctionValue, block_at, inst_at}
-use Rattle.regalloc2_function.specs.Path.{Onward, first_of}
-use Rattle.regalloc2_function.specs.SourceRun.{arguments_at}
-use Rattle.regalloc2_semantics.specs.Blocks.{IsUnwritten, names}
-use Rattle.regalloc2_semantics.specs.Carry.{Undefined}
-use Rattle.regalloc2_semantics.specs.Listing.{defines}
-use Rattle.regalloc2_semantics.proofs.UnwrittenPlaces.{defines_none}
+use Rattle.regalloc2_semantics.specs.Runs.{Onward, first_of, arguments_at}
+use Rattle.regalloc2_carry.specs.Blocks.{IsUnwritten}
+use Rattle.regalloc2_semantics.specs.Live.{names, Undefined}
+use Rattle.regalloc2_carry.specs.Listing.{defines}
+use Rattle.regalloc2_carry.proofs.UnwrittenPlaces.{defines_none}
 use Rattle.regalloc2_analysis.specs.Liveness.LiveIn.{IsRead, IsNeeded, read, passed_on, later, IsUnwrittenTo}
 use Rattle.regalloc2_analysis.specs.Liveness.BlockVRegPairs.{Pair, lists, BlockSets, holds, Gains, Grows}
 use Rattle.regalloc2_analysis.specs.Liveness.BlockWalk.{asks_for_vreg, IsBlockWalkedTo, PassesNeeds, IsBlockWalked, AreWrites, AreAsked, AreParameters}

@@ -8,13 +8,11 @@ use Rattle.regalloc2_names.specs.declared.OperandPos.TheVariants.{Early, Late}
 use Rattle.regalloc2_names.specs.Register.{VirtualRegister}
 use Rattle.regalloc2_names.specs.Operand.{OperandValue, is_def, is_position, is_reading, reads_at}
 use Rattle.regalloc2_names.proofs.EqualNames.{is_position-true}
-use Rattle.regalloc2_function.specs.FunctionValue.{FunctionValue, block_at, inst_at, no_operand}
-use Rattle.regalloc2_function.specs.Path.{Location, first_of}
-use Rattle.regalloc2_function.specs.SourceRun.{arguments_at}
+use Rattle.regalloc2_function.specs.FunctionValue.{FunctionValue, block_at, inst_at, no_operand, op_at}
+use Rattle.regalloc2_semantics.specs.Runs.{Location, first_of, arguments_at}
 use Rattle.regalloc2_function.specs.WellFormed.{IsFramed}
-use Rattle.regalloc2_semantics.specs.Blocks.{IsUnwritten, names, target_at}
-use Rattle.regalloc2_semantics.specs.Carry.{Undefined}
-use Rattle.regalloc2_function.specs.FunctionValue.{op_at}
+use Rattle.regalloc2_carry.specs.Blocks.{IsUnwritten}
+use Rattle.regalloc2_semantics.specs.Live.{names, target_at, Undefined}
 use Rattle.regalloc2_analysis.specs.Liveness.LiveIn.{IsReadAt, IsNeeded, read, passed_on, IsUnwrittenTo}
 use Rattle.regalloc2_analysis.specs.Liveness.Search.{LeadsBack}
 use Rattle.regalloc2_analysis.proofs.LivenessLemmas.LiveAtBlockBegin.{needed_first, unwritten_more}

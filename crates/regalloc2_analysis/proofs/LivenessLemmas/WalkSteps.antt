@@ -1,6 +1,5 @@
 -- Walks over operands, instructions and blocks.
-use Rattle.std.proofs.Common.{ℕ, zero, suc, ◌≡◌, ◌+◌, ◌<◌, Bool, true, false, List, [], ◌∷◌, length, get_or, take, refl, sym, ap}
-use Rattle.std.proofs.Common.{◌∙◌, subst, arith, inl, inr}
+use Rattle.std.proofs.Common.{ℕ, zero, suc, ◌≡◌, ◌+◌, ◌<◌, Bool, true, false, List, [], ◌∷◌, length, get_or, take, refl, sym, ap, ◌∙◌, subst, arith, inl, inr}
 use Rattle.std.specs.Prelude.{◌&&◌, ◌||◌, not, Contains}
 use Rattle.std.proofs.lemmas.List.Folds.{list_any_more, list_any_at}
 use Rattle.std.proofs.lemmas.Bool.{and_parts, not-true, or_cases, or_parts, or_right}
@@ -11,10 +10,9 @@ use Rattle.regalloc2_names.specs.declared.OperandPos.TheVariants.{Early, Late}
 use Rattle.regalloc2_names.specs.Register.{VirtualRegister, is_vreg}
 use Rattle.regalloc2_names.specs.Operand.{OperandValue, is_def, is_position, is_reading, reads_at}
 use Rattle.regalloc2_names.proofs.EqualNames.{is_position-true, is_position-same, is_vreg-true, is_vreg-same}
-use Rattle.regalloc2_semantics.specs.Blocks.{names}
-use Rattle.regalloc2_semantics.specs.Carry.{Undefined}
-use Rattle.regalloc2_semantics.specs.Listing.{defines}
-use Rattle.regalloc2_semantics.proofs.UnwrittenPlaces.{defines_none}
+use Rattle.regalloc2_semantics.specs.Live.{names, Undefined}
+use Rattle.regalloc2_carry.specs.Listing.{defines}
+use Rattle.regalloc2_carry.proofs.UnwrittenPlaces.{defines_none}
 use Rattle.regalloc2_analysis.specs.Liveness.LiveIn.{IsReadAt, IsRead}
 use Rattle.regalloc2_analysis.specs.Liveness.BlockVRegPairs.{Pair, BlockSets, holds, Gains, Grows}
 use Rattle.regalloc2_analysis.specs.Liveness.BlockWalk.{reads, asks_for_vreg}

@@ -1,16 +1,15 @@
 -- The live ranges of vregs as a debugger can be shown them, and the labels that are kept.
--- The points are as in regalloc2_function/specs/DebugPoints.antt; here is which operand's place shows the value.
+-- The points are as in regalloc2_semantics/specs/Debug.antt; here is which operand's place shows the value.
 use Rattle.std.specs.Prelude.{ℕ, ◌≡◌, ◌<◌, ◌↔◌, List, [], ◌∷◌, length, slice_index_or, Bool, true, false, Option, None, Some}
 use Rattle.std.specs.List.{Any}
 use Rattle.regalloc2_names.specs.declared.OperandPos.{OperandPos}
 use Rattle.regalloc2_names.specs.declared.OperandPos.TheVariants.{Early, Late}
 use Rattle.regalloc2_names.specs.Register.{VirtualRegister}
-use Rattle.regalloc2_function.specs.FunctionValue.{FunctionValue, Label, inst_at}
+use Rattle.regalloc2_function.specs.FunctionValue.{FunctionValue, Label, inst_at, op_at}
 use Rattle.regalloc2_names.specs.Operand.{is_def, is_reading}
 use Rattle.regalloc2_function.specs.WellFormed.{BlocksFollow, DefinedOnce, UsesAreDefined}
-use Rattle.regalloc2_function.specs.DebugPoints.{IsFirstPoint, IsKept, IsLastPoint, IsLastUse, ReadsAt, UsesAt}
-use Rattle.regalloc2_function.specs.TableLength.{CoversDefinitions}
-use Rattle.regalloc2_function.specs.FunctionValue.{op_at}
+use Rattle.regalloc2_semantics.specs.Debug.{IsFirstPoint, IsKept, IsLastPoint, IsLastUse, ReadsAt, UsesAt}
+use Rattle.regalloc2_function.specs.Inside.TableLength.{CoversDefinitions}
 use Rattle.regalloc2_analysis.specs.declared.live_ranges.InstOperand.{InstOperand}
 use Rattle.regalloc2_analysis.specs.declared.live_ranges.LiveRange.{LiveRange}
 use Rattle.regalloc2_analysis.specs.declared.live_ranges.KeptLabel.{KeptLabel}

@@ -2,10 +2,9 @@
 use Rattle.std.specs.Prelude.{ℕ, ◌≡◌, ◌≢◌, ◌<◌, ◌≤◌, ◌⊎◌, List, length, slice_index_or, Contains, Option, None, Some, nat_eq, if◌then◌else◌}
 use Rattle.regalloc2_names.specs.declared.OperandPos.{OperandPos}
 use Rattle.regalloc2_names.specs.Register.{VirtualRegister}
-use Rattle.regalloc2_function.specs.FunctionValue.{FunctionValue, block_at, inst_at}
-use Rattle.regalloc2_function.specs.DebugPoints.{DefinesAt, UsesAt}
-use Rattle.regalloc2_function.specs.TableLength.{CoversDefinitions}
-use Rattle.regalloc2_function.specs.FunctionValue.{op_at}
+use Rattle.regalloc2_function.specs.FunctionValue.{FunctionValue, block_at, inst_at, op_at}
+use Rattle.regalloc2_semantics.specs.Debug.{DefinesAt, UsesAt}
+use Rattle.regalloc2_function.specs.Inside.TableLength.{CoversDefinitions}
 use Rattle.regalloc2_analysis.specs.declared.live_ranges.ends.RangeEnd.{RangeEnd}
 use Rattle.regalloc2_analysis.specs.declared.live_ranges.LiveRange.{LiveRange}
 use Rattle.regalloc2_analysis.specs.LiveRanges.LiveRanges.{IsLiveRange, range_at}

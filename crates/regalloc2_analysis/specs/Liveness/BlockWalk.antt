@@ -6,10 +6,10 @@ use Rattle.regalloc2_names.specs.declared.OperandPos.TheVariants.{Early, Late}
 use Rattle.regalloc2_names.specs.Register.{VirtualRegister, is_vreg}
 use Rattle.regalloc2_names.specs.Operand.{OperandValue, reads_at}
 use Rattle.regalloc2_function.specs.FunctionValue.{FunctionValue, block_at, inst_at}
-use Rattle.regalloc2_function.specs.Path.{first_of}
-use Rattle.regalloc2_function.specs.SourceRun.{arguments_at}
-use Rattle.regalloc2_semantics.specs.Blocks.{IsUnwritten, names}
-use Rattle.regalloc2_semantics.specs.Listing.{defines}
+use Rattle.regalloc2_semantics.specs.Runs.{first_of, arguments_at}
+use Rattle.regalloc2_carry.specs.Blocks.{IsUnwritten}
+use Rattle.regalloc2_semantics.specs.Live.{names}
+use Rattle.regalloc2_carry.specs.Listing.{defines}
 use Rattle.regalloc2_analysis.specs.Liveness.LiveIn.{IsRead, IsNeeded, IsUnwrittenTo}
 use Rattle.regalloc2_analysis.specs.Liveness.BlockVRegPairs.{Pair, lists, BlockSets, holds}
 

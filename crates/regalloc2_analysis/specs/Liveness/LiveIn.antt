@@ -4,12 +4,9 @@ use Rattle.regalloc2_names.specs.declared.OperandPos.{OperandPos}
 use Rattle.regalloc2_names.specs.declared.OperandPos.TheVariants.{Early, Late}
 use Rattle.regalloc2_names.specs.Register.{VirtualRegister}
 use Rattle.regalloc2_names.specs.Operand.{OperandValue, is_reading}
-use Rattle.regalloc2_function.specs.FunctionValue.{FunctionValue, block_at, inst_at}
-use Rattle.regalloc2_function.specs.Path.{Way, ToSuccessor, Location, next_of, first_of, HasWay}
-use Rattle.regalloc2_function.specs.SourceRun.{arguments_at}
-use Rattle.regalloc2_semantics.specs.Carry.{Undefined}
-use Rattle.regalloc2_function.specs.FunctionValue.{op_at}
-use Rattle.regalloc2_semantics.specs.Live.{IsAside}
+use Rattle.regalloc2_function.specs.FunctionValue.{FunctionValue, block_at, inst_at, op_at}
+use Rattle.regalloc2_semantics.specs.Runs.{Way, ToSuccessor, Location, next_of, first_of, HasWay, arguments_at}
+use Rattle.regalloc2_semantics.specs.Live.{Undefined, IsAside}
 
 -- an operand reads v at a position
 abbrev pub IsReadAt : OperandPos → VirtualRegister → List OperandValue → Type 0

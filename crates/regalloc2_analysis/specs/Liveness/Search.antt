@@ -2,7 +2,7 @@
 use Rattle.std.specs.Prelude.{ℕ, ◌<◌, length}
 use Rattle.regalloc2_names.specs.Register.{VirtualRegister}
 use Rattle.regalloc2_function.specs.FunctionValue.{FunctionValue}
-use Rattle.regalloc2_function.specs.Path.{first_of}
+use Rattle.regalloc2_semantics.specs.Runs.{first_of}
 use Rattle.regalloc2_analysis.specs.Liveness.LiveIn.{IsNeeded}
 
 -- a block; if it needs the vreg at its beginning, so does the entry

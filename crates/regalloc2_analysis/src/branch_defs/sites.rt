@@ -2,7 +2,7 @@
 
 ghost use Rattle.std.specs.Prelude.{◌≡◌, ◌<◌, ◌↔◌, ℕ, if◌then◌else◌, slice_set, slice_index_or, length, None, Some, IsTrue, IfOk};
 ghost use Rattle.regalloc2_names.specs.Operand.{is_def};
-ghost use Rattle.regalloc2_function.specs.TableLength.{CoversDefinitions};
+ghost use Rattle.regalloc2_function.specs.Inside.TableLength.{CoversDefinitions};
 ghost use Rattle.regalloc2_analysis.specs.BranchDefs.BranchDefs.{MayHaveTables};
 ghost use Rattle.regalloc2_analysis.specs.BranchDefs.Notes.{NotesBranch, NotesSites, IsSiteAt};
 ghost use Rattle.regalloc2_analysis.specs.BranchDefs.Tables.{AreDefSites};

@@ -3,8 +3,8 @@
 ghost use Rattle.std.specs.Prelude.{◌≡◌, ◌<◌, ◌+◌, true, false, ℕ, length, slice_index_or, IfOk};
 ghost use Rattle.regalloc2_names.specs.Operand.{is_reading};
 ghost use Rattle.regalloc2_function.specs.FunctionValue.{block_at};
-ghost use Rattle.regalloc2_function.specs.TableLength.{CoversDefinitions};
-ghost use Rattle.regalloc2_function.specs.MarkedNumbers.{Marks};
+ghost use Rattle.regalloc2_function.specs.Inside.TableLength.{CoversDefinitions};
+ghost use Rattle.regalloc2_function.specs.Inside.MarkedNumbers.{Marks};
 ghost use Rattle.regalloc2_analysis.specs.BranchDefs.BranchDefs.{MayHaveTables};
 ghost use Rattle.regalloc2_analysis.specs.BranchDefs.Notes.{AreUsed, IsSiteAt, PassesAmong, PassesIn, PassesOut, ReadsAmong, ReadsIn};
 ghost use Rattle.regalloc2_analysis.specs.BranchDefs.Tables.{AreDefSites};

@@ -2,7 +2,7 @@
 
 ghost use Rattle.std.specs.Prelude.{◌≡◌, ◌≢◌, ◌+◌, ◌<◌, ◌≤◌, ℕ, length, Some};
 ghost use Rattle.std.specs.Option.{option_or};
-ghost use Rattle.regalloc2_names.specs.Point.{inst_limit};
+ghost use Rattle.regalloc2_names.specs.Place.{inst_limit};
 ghost use Rattle.regalloc2_function.specs.FunctionValue.{block_at};
 ghost use Rattle.regalloc2_function.specs.WellFormed.{BlocksFollow};
 ghost use Rattle.regalloc2_analysis.specs.LiveRanges.LastUses.{NotesArguments, NotesPassed, NotesReads, NotesUses, end_at};

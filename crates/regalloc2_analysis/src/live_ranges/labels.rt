@@ -2,7 +2,7 @@
 
 ghost use Rattle.std.specs.Prelude.{◌≡◌, ℕ, [], length, IfErr, IfOk, IsOk, MatchOption};
 ghost use Rattle.regalloc2_function.specs.FunctionValue.{label_of};
-ghost use Rattle.regalloc2_function.specs.DebugPoints.{IsKept};
+ghost use Rattle.regalloc2_semantics.specs.Debug.{IsKept};
 ghost use Rattle.regalloc2_analysis.specs.LiveRanges.LiveRanges.{AreKeptLabels, AreLabelsMarked, AreLiveRanges, IsKeptRange, IsLabelled, IsSSA, IsWanted};
 ghost use Rattle.regalloc2_analysis.specs.LiveRanges.Entries.{spread};
 ghost use Rattle.regalloc2_analysis.specs.LiveRanges.WalkInvariant.{ListsAdding};

@@ -4,9 +4,9 @@ ghost use Rattle.std.specs.Prelude.{◌≡◌, ◌≢◌, ◌<◌, ◌&&◌, ℕ
 ghost use Rattle.regalloc2_names.specs.Register.{VirtualRegister};
 ghost use Rattle.regalloc2_function.specs.FunctionValue.{block_at};
 ghost use Rattle.regalloc2_names.specs.Operand.{is_def};
-ghost use Rattle.regalloc2_names.specs.Point.{inst_limit};
-ghost use Rattle.regalloc2_function.specs.DebugPoints.{DefinesAt, UsesAt};
-ghost use Rattle.regalloc2_function.specs.TableLength.{CoversDefinitions};
+ghost use Rattle.regalloc2_names.specs.Place.{inst_limit};
+ghost use Rattle.regalloc2_semantics.specs.Debug.{DefinesAt, UsesAt};
+ghost use Rattle.regalloc2_function.specs.Inside.TableLength.{CoversDefinitions};
 ghost use Rattle.regalloc2_analysis.specs.LiveRanges.LastUses.{end_at, end_behind};
 ghost use Rattle.regalloc2_analysis.specs.LiveRanges.LiveRanges.{IsSSA, IsWanted, range_at};
 ghost use Rattle.regalloc2_analysis.specs.LiveRanges.Entries.{AreEntryIndexes, spread};

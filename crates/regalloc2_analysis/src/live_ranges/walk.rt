@@ -2,7 +2,7 @@
 
 ghost use Rattle.std.specs.Prelude.{◌≡◌, ◌+◌, ◌-◌, ◌<◌, ◌≤◌, ◌↔◌, length, replicate, slice_index_or, IfErr, IfOk, IsTrue, None};
 ghost use Rattle.regalloc2_function.specs.FunctionValue.{block_at};
-ghost use Rattle.regalloc2_function.specs.TableLength.{CoversDefinitions};
+ghost use Rattle.regalloc2_function.specs.Inside.TableLength.{CoversDefinitions};
 ghost use Rattle.regalloc2_analysis.specs.LiveRanges.LiveRanges.{AreLiveRanges, IsSSA, IsWanted};
 ghost use Rattle.regalloc2_analysis.specs.LiveRanges.Entries.{AreEntryIndexes, spread};
 ghost use Rattle.regalloc2_analysis.specs.LiveRanges.WalkInvariant.{AreRangesWalked, ListsAdding};

@@ -2,8 +2,8 @@
 //! vregs, and the walk passes over instructions that name none of these.
 
 ghost use Rattle.std.specs.Prelude.{ℕ, ◌≡◌, ◌<◌, ◌↔◌, false, length, slice_index_or, IsTrue, IfOk};
-ghost use Rattle.regalloc2_function.specs.TableLength.{CoversDefinitions};
-ghost use Rattle.regalloc2_function.specs.MarkedNumbers.{Marks};
+ghost use Rattle.regalloc2_function.specs.Inside.TableLength.{CoversDefinitions};
+ghost use Rattle.regalloc2_function.specs.Inside.MarkedNumbers.{Marks};
 ghost use Rattle.regalloc2_function.specs.FunctionValue.{op_at};
 ghost use Rattle.regalloc2_analysis.specs.LiveRanges.LiveRanges.{AreLabelsMarked, IsLabelled, IsWanted};
 ghost use Rattle.regalloc2_analysis.specs.LiveRanges.Marks.{NamedAmong};

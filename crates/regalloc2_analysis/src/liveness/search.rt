@@ -3,12 +3,11 @@
 
 ghost use Rattle.std.specs.Prelude.{◌≡◌, ◌<◌, ◌↔◌, ℕ, All, Any, length, true, Contains, IfOk, IfSome, IsTrue, OnOk};
 ghost use Rattle.regalloc2_function.specs.FunctionValue.{FunctionValue, block_at};
-ghost use Rattle.regalloc2_function.specs.Path.{first_of};
-ghost use Rattle.regalloc2_function.specs.SourceRun.{arguments_at};
+ghost use Rattle.regalloc2_semantics.specs.Runs.{first_of, arguments_at};
 ghost use Rattle.regalloc2_function.specs.WellFormed.{IsFramed};
 ghost use Rattle.regalloc2_names.specs.Operand.{is_def, reads_at};
 ghost use Rattle.regalloc2_names.specs.Register.{VirtualRegister};
-ghost use Rattle.regalloc2_semantics.specs.Blocks.{IsUnwritten};
+ghost use Rattle.regalloc2_carry.specs.Blocks.{IsUnwritten};
 ghost use Rattle.regalloc2_analysis.specs.Liveness.LiveIn.{IsNeeded};
 ghost use Rattle.regalloc2_analysis.specs.Liveness.Search.{LeadsBack};
 

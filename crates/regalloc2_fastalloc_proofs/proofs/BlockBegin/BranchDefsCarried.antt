@@ -5,22 +5,22 @@ use Rattle.std.proofs.lemmas.Bool.{cases_Bool}
 use Rattle.regalloc2_names.specs.declared.OperandConstraint.TheVariants.{FixedReg}
 use Rattle.regalloc2_names.specs.Register.{Register, VirtualRegister, no_vreg}
 use Rattle.regalloc2_names.specs.Operand.{OperandValue, is_def, fixed_register}
-use Rattle.regalloc2_names.specs.Place.{Place, NoPlace, InSlot, is_memory}
-use Rattle.regalloc2_names.specs.Point.{before}
-use Rattle.regalloc2_function.specs.FunctionValue.{FunctionValue, block_at, inst_at, op_at}
-use Rattle.regalloc2_function.specs.SourceRun.{arguments_at}
-use Rattle.regalloc2_function.specs.WellFormed.{DefinedOnce, last_of}
-use Rattle.regalloc2_semantics.specs.Listing.{Item}
-use Rattle.regalloc2_semantics.specs.Carry.{Carries}
-use Rattle.regalloc2_semantics.specs.BlockByPoints.{at_point, walked, listed}
-use Rattle.regalloc2_semantics.specs.Blocks.{target_at, StandsBefore, ComesIn}
-use Rattle.regalloc2_semantics.specs.Stores.{Store, store_moves, IsOneOf, Avoids}
+use Rattle.regalloc2_names.specs.Place.{Place, NoPlace, InSlot, is_memory, before}
+use Rattle.regalloc2_function.specs.FunctionValue.{FunctionValue, block_at, inst_at, op_at, last_of}
+use Rattle.regalloc2_semantics.specs.Runs.{arguments_at}
+use Rattle.regalloc2_function.specs.WellFormed.{DefinedOnce}
+use Rattle.regalloc2_carry.specs.Listing.{Item}
+use Rattle.regalloc2_carry.specs.Carry.{Carries}
+use Rattle.regalloc2_carry.specs.BlockByPoints.{at_point, walked, listed}
+use Rattle.regalloc2_semantics.specs.Live.{target_at, DefinesNumber, IsEdgeInto}
+use Rattle.regalloc2_carry.specs.Blocks.{StandsBefore, ComesIn}
+use Rattle.regalloc2_carry.specs.Stores.{Store, store_moves, IsOneOf, Avoids}
 use Rattle.regalloc2_semantics.proofs.Cells.{cases_vreg}
-use Rattle.regalloc2_semantics.proofs.CarryRules.{carries_weaken}
-use Rattle.regalloc2_semantics.proofs.SingleDef.{IsDefOperand, Made, one_made, one_operand, one_param, not_both}
-use Rattle.regalloc2_semantics.proofs.SingleDef.Made.{by_operand}
-use Rattle.regalloc2_semantics.proofs.StoresInFront.{carries_stores, in_order}
-use Rattle.regalloc2_analysis.specs.BranchDefs.BranchDefs.{DefinesNumber, IsEdgeInto, IsUsedElsewhere, fixed_definition}
+use Rattle.regalloc2_carry.proofs.CarryRules.{carries_weaken}
+use Rattle.regalloc2_carry.proofs.SingleDef.{IsDefOperand, Made, one_made, one_operand, one_param, not_both}
+use Rattle.regalloc2_carry.proofs.SingleDef.Made.{by_operand}
+use Rattle.regalloc2_carry.proofs.StoresInFront.{carries_stores, in_order}
+use Rattle.regalloc2_analysis.specs.BranchDefs.BranchDefs.{IsUsedElsewhere, fixed_definition}
 use Rattle.regalloc2_analysis.proofs.BranchDefsLemmas.EdgeNotes.{fixed_defines}
 use Rattle.regalloc2_fastalloc_state.specs.StateParts.{slot_name}
 use Rattle.regalloc2_fastalloc_proofs.specs.InstSteps.{StateValue}

@@ -3,20 +3,19 @@ use Rattle.std.proofs.Common.{ℕ, suc, ◌≡◌, ◌⊎◌, inl, inr, Bool, tr
 use Rattle.std.specs.Prelude.{Option, None, Some, ◌&&◌, is_some}
 use Rattle.std.proofs.lemmas.Bool.{and_right, and_from, and_parts}
 use Rattle.regalloc2_names.specs.Register.{Register, VirtualRegister}
-use Rattle.regalloc2_names.specs.Place.{Place, NoPlace, InRegister, InSlot, is_place}
-use Rattle.regalloc2_names.specs.Point.{before}
+use Rattle.regalloc2_names.specs.Place.{Place, NoPlace, InRegister, InSlot, is_place, before}
 use Rattle.regalloc2_function.specs.FunctionValue.{InstValue}
 use Rattle.regalloc2_function.specs.OutputValue.{MoveValue}
-use Rattle.regalloc2_semantics.specs.Listing.{Item, exec_item}
-use Rattle.regalloc2_semantics.specs.Listing.Item.{Move}
-use Rattle.regalloc2_semantics.specs.Carry.{Carries}
-use Rattle.regalloc2_semantics.specs.BlockByPoints.{at_point, walked, before_part, listed}
-use Rattle.regalloc2_semantics.specs.OperandsPlaced.{Need, located, in_slot, made}
+use Rattle.regalloc2_carry.specs.Listing.{Item, exec_item}
+use Rattle.regalloc2_carry.specs.Listing.Item.{Move}
+use Rattle.regalloc2_carry.specs.Carry.{Carries}
+use Rattle.regalloc2_carry.specs.BlockByPoints.{at_point, walked, before_part, listed}
+use Rattle.regalloc2_carry.specs.OperandsPlaced.{Need, located, in_slot, made}
 use Rattle.regalloc2_semantics.proofs.Cells.{is_place-true, is_place-same, is_place-other}
-use Rattle.regalloc2_semantics.proofs.CarryRules.{carries_weaken, carries_move}
-use Rattle.regalloc2_semantics.proofs.MoveInFront.{walked-more, before_part-push}
-use Rattle.regalloc2_semantics.proofs.PushedMoves.{listed-push}
-use Rattle.regalloc2_semantics.proofs.BlockBackward.{Relied}
+use Rattle.regalloc2_carry.proofs.CarryRules.{carries_weaken, carries_move}
+use Rattle.regalloc2_carry.proofs.MoveInFront.{walked-more, before_part-push}
+use Rattle.regalloc2_carry.proofs.PushedMoves.{listed-push}
+use Rattle.regalloc2_carry.proofs.BlockBackward.{Relied}
 use Rattle.regalloc2_fastalloc_proofs.specs.InstSteps.{StateValue}
 use Rattle.regalloc2_fastalloc_proofs.specs.BlockStart.{ReloadsAtBegin}
 use Rattle.regalloc2_fastalloc_proofs.proofs.Safety.StepsKeepState.{place_in, slot_in}

@@ -4,8 +4,7 @@ use Rattle.std.proofs.Common.{ℕ, ◌≡◌, ◌≢◌, ◌<◌, List, Bool, tr
 use Rattle.std.specs.Prelude.{Option, None, Some, not, ◌&&◌, ◌||◌}
 use Rattle.std.proofs.lemmas.Bool.{cases_eq, and_right}
 use Rattle.regalloc2_names.specs.declared.sets.PRegSet.{PRegSet}
-use Rattle.regalloc2_names.specs.Register.{Register, VirtualRegister, is_register}
-use Rattle.regalloc2_names.specs.RegisterSet.{has_register}
+use Rattle.regalloc2_names.specs.Register.{Register, VirtualRegister, is_register, has_register}
 use Rattle.regalloc2_names.specs.Operand.{OperandValue, is_def, is_late}
 use Rattle.regalloc2_names.specs.Place.{Place, NoPlace, InRegister, InSlot}
 use Rattle.regalloc2_function.specs.OutputValue.{MoveValue}
@@ -21,8 +20,8 @@ use Rattle.regalloc2_function.specs.FunctionValue.{op_at}
 use Rattle.regalloc2_fastalloc_proofs.specs.InstSteps.{StateValue, empty, cleared, EvictsOtherVRegs, own, others, SelectsPlace, ClaimsPlace, in_slot}
 use Rattle.regalloc2_fastalloc_proofs.specs.InstSteps.{in_register, AllocsOperand, AddsMoveIf, sent, unsent, FreesAlloc, NeedsFixedReg}
 use Rattle.regalloc2_fastalloc_proofs.specs.InstSteps.SelectsPlace.{stays, fixed, slot, free}
-use Rattle.regalloc2_semantics.proofs.Plain.{no_some}
-use Rattle.regalloc2_semantics.proofs.Forms.{same_register}
+use Rattle.regalloc2_carry.proofs.Plain.{no_some}
+use Rattle.regalloc2_carry.proofs.Forms.{same_register}
 use Rattle.regalloc2_fastalloc_proofs.proofs.Operands.AllocsSoFar.{at_place}
 use Rattle.regalloc2_fastalloc_proofs.proofs.Changes.OneChange.{uses_rest}
 use Rattle.regalloc2_fastalloc_proofs.proofs.Operands.SelectedPlace.{meets_requirement_there}

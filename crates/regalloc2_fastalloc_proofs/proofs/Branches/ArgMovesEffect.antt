@@ -3,17 +3,15 @@ use Rattle.std.proofs.Common.{ℕ, zero, suc, ◌≡◌, ◌≢◌, ◌<◌, ◌
 use Rattle.std.specs.Prelude.{Option, None, Some, Contains, slice_index_or}
 use Rattle.std.proofs.lemmas.Bool.{or_left, or_right}
 use Rattle.regalloc2_names.specs.declared.RegClass.{RegClass}
-use Rattle.regalloc2_names.specs.Register.{Register, VirtualRegister, class_code, is_vreg}
-use Rattle.regalloc2_names.specs.RegisterSet.{has_register}
+use Rattle.regalloc2_names.specs.Register.{Register, VirtualRegister, class_code, is_vreg, has_register}
 use Rattle.regalloc2_names.specs.Place.{Place, NoPlace, InRegister, InSlot}
 use Rattle.regalloc2_function.specs.FunctionValue.{FunctionValue}
 use Rattle.regalloc2_function.specs.OutputValue.{MoveValue}
-use Rattle.regalloc2_function.specs.SourceRun.{arguments_at}
-use Rattle.regalloc2_function.specs.AllocatedRun.{Cells, after_moves}
-use Rattle.regalloc2_semantics.specs.Blocks.{names, HasEdge}
+use Rattle.regalloc2_semantics.specs.Runs.{arguments_at, Cells, after_moves}
+use Rattle.regalloc2_semantics.specs.Live.{names, HasEdge}
 use Rattle.regalloc2_semantics.proofs.Cells.{is_vreg-same}
-use Rattle.regalloc2_semantics.proofs.Slots.{PassedTo}
-use Rattle.regalloc2_semantics.proofs.BlockBackward.{Relied}
+use Rattle.regalloc2_carry.proofs.Slots.{PassedTo}
+use Rattle.regalloc2_carry.proofs.BlockBackward.{Relied}
 use Rattle.regalloc2_fastalloc_proofs.specs.BranchSteps.{IsScratchRegFor, ClassMove, of_class, IsOwnDef}
 use Rattle.regalloc2_fastalloc_proofs.specs.Safety.{IsWhole}
 use Rattle.regalloc2_fastalloc_proofs.proofs.Safety.StepsKeepState.{place_in}

@@ -2,17 +2,16 @@
 use Rattle.std.proofs.Common.{ℕ, suc, ◌≡◌, ◌≢◌, Bool, true, false, cond, List, [], ◌∷◌, ◌++◌, refl, sym, ap, ◌∙◌, arith}
 use Rattle.std.specs.List.{All}
 use Rattle.std.proofs.lemmas.List.{append_assoc, append-nil}
-use Rattle.regalloc2_names.specs.Place.{Place, NoPlace, InRegister, InSlot, is_place}
-use Rattle.regalloc2_names.specs.Point.{before, after}
+use Rattle.regalloc2_names.specs.Place.{Place, NoPlace, InRegister, InSlot, is_place, before, after}
 use Rattle.regalloc2_function.specs.FunctionValue.{InstValue}
 use Rattle.regalloc2_function.specs.OutputValue.{MoveValue}
-use Rattle.regalloc2_function.specs.AllocatedRun.{Cells, stored, after_moves}
-use Rattle.regalloc2_semantics.specs.Listing.{Item, exec_item, with_moves}
-use Rattle.regalloc2_semantics.specs.BlockByPoints.{at_point, walked, listed}
+use Rattle.regalloc2_semantics.specs.Runs.{Cells, stored, after_moves}
+use Rattle.regalloc2_carry.specs.Listing.{Item, exec_item, with_moves}
+use Rattle.regalloc2_carry.specs.BlockByPoints.{at_point, walked, listed}
 use Rattle.regalloc2_semantics.proofs.Cells.{is_place-other}
-use Rattle.regalloc2_semantics.proofs.Points.{at_point-here, at_point-other, with_moves-append}
-use Rattle.regalloc2_semantics.proofs.PushedMoves.{listed-push}
-use Rattle.regalloc2_semantics.proofs.ListingParts.{walked-one}
+use Rattle.regalloc2_carry.proofs.Points.{at_point-here, at_point-other, with_moves-append}
+use Rattle.regalloc2_carry.proofs.PushedMoves.{listed-push}
+use Rattle.regalloc2_carry.proofs.ListingParts.{walked-one}
 use Rattle.regalloc2_parts.specs.AtOnce.{ends_of, own_names, in_turn, moved, in_turn-any}
 use Rattle.regalloc2_fastalloc_state.specs.ScratchPool.{Moves, pushed}
 

@@ -5,12 +5,13 @@ use Rattle.regalloc2_names.specs.declared.OperandConstraint.TheVariants.{FixedRe
 use Rattle.regalloc2_names.specs.Register.{Register, VirtualRegister, no_vreg}
 use Rattle.regalloc2_names.specs.Operand.{is_def}
 use Rattle.regalloc2_names.specs.Place.{Place, NoPlace, InRegister, InSlot}
-use Rattle.regalloc2_function.specs.FunctionValue.{FunctionValue, block_at, op_at}
+use Rattle.regalloc2_function.specs.FunctionValue.{FunctionValue, block_at, op_at, last_of}
 use Rattle.regalloc2_function.specs.OutputValue.{place_at}
-use Rattle.regalloc2_function.specs.SourceRun.{arguments_at}
-use Rattle.regalloc2_function.specs.WellFormed.{DefinedOnce, last_of}
-use Rattle.regalloc2_semantics.proofs.SingleDef.{IsDefOperand, one_operand}
-use Rattle.regalloc2_analysis.specs.BranchDefs.BranchDefs.{DefinesNumber, IsUsedElsewhere, IsEdgeInto}
+use Rattle.regalloc2_semantics.specs.Runs.{arguments_at}
+use Rattle.regalloc2_function.specs.WellFormed.{DefinedOnce}
+use Rattle.regalloc2_carry.proofs.SingleDef.{IsDefOperand, one_operand}
+use Rattle.regalloc2_semantics.specs.Live.{DefinesNumber, IsEdgeInto}
+use Rattle.regalloc2_analysis.specs.BranchDefs.BranchDefs.{IsUsedElsewhere}
 use Rattle.regalloc2_fastalloc_proofs.specs.BranchSteps.{IsOwnDef}
 use Rattle.regalloc2_fastalloc_proofs.specs.StoreSteps.{branch_operands}
 use Rattle.regalloc2_fastalloc_proofs.proofs.BlockEnd.DefsInSlots.{IsAnyOrStack}

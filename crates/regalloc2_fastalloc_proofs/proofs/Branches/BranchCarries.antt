@@ -5,24 +5,22 @@ use Rattle.std.proofs.lemmas.Bool.{cases_Bool, cases_eq}
 use Rattle.regalloc2_names.specs.declared.sets.PRegSet.{PRegSet}
 use Rattle.regalloc2_names.specs.declared.RegClass.{RegClass}
 use Rattle.regalloc2_names.specs.declared.RegClass.TheVariants.{Int, Float, Vector}
-use Rattle.regalloc2_names.specs.Register.{Register, VirtualRegister, class_code}
-use Rattle.regalloc2_names.specs.RegisterSet.{has_register}
-use Rattle.regalloc2_names.specs.Place.{Place, NoPlace, InRegister, InSlot}
-use Rattle.regalloc2_names.specs.Point.{before, after}
+use Rattle.regalloc2_names.specs.Register.{Register, VirtualRegister, class_code, has_register}
+use Rattle.regalloc2_names.specs.Place.{Place, NoPlace, InRegister, InSlot, before, after}
 use Rattle.regalloc2_function.specs.FunctionValue.{FunctionValue, block_at, inst_at, op_at}
 use Rattle.regalloc2_function.specs.OutputValue.{MoveValue, place_at}
-use Rattle.regalloc2_function.specs.SourceRun.{arguments_at}
+use Rattle.regalloc2_semantics.specs.Runs.{arguments_at, Cells, after_moves}
 use Rattle.regalloc2_names.specs.Operand.{is_def}
-use Rattle.regalloc2_function.specs.AllocatedRun.{Cells, after_moves}
-use Rattle.regalloc2_semantics.specs.Listing.{Item, with_moves, writes}
-use Rattle.regalloc2_semantics.specs.Carry.{Carries, Spares, Undefined, Untouched}
-use Rattle.regalloc2_semantics.specs.BlockByPoints.{at_point, walked, listed}
-use Rattle.regalloc2_semantics.specs.Blocks.{names, HasEdge, IsUnwritten, IsUsedIn, StandsAfter}
-use Rattle.regalloc2_semantics.proofs.CarryRules.{carries_weaken}
-use Rattle.regalloc2_semantics.proofs.UnwrittenPlaces.{unwritten_walked, untouched_walked}
-use Rattle.regalloc2_semantics.proofs.NotRead.{ReadsOthersOnly, Silent, silent_walked, carries_silent}
-use Rattle.regalloc2_semantics.proofs.Slots.{PassedTo, pass_arguments}
-use Rattle.regalloc2_semantics.proofs.BlockBackward.{Relied}
+use Rattle.regalloc2_carry.specs.Listing.{Item, with_moves, writes}
+use Rattle.regalloc2_carry.specs.Carry.{Carries, Spares, Untouched}
+use Rattle.regalloc2_semantics.specs.Live.{Undefined, names, HasEdge}
+use Rattle.regalloc2_carry.specs.BlockByPoints.{at_point, walked, listed}
+use Rattle.regalloc2_carry.specs.Blocks.{IsUnwritten, IsUsedIn, StandsAfter}
+use Rattle.regalloc2_carry.proofs.CarryRules.{carries_weaken}
+use Rattle.regalloc2_carry.proofs.UnwrittenPlaces.{unwritten_walked, untouched_walked}
+use Rattle.regalloc2_carry.proofs.NotRead.{ReadsOthersOnly, Silent, silent_walked, carries_silent}
+use Rattle.regalloc2_carry.proofs.Slots.{PassedTo, pass_arguments}
+use Rattle.regalloc2_carry.proofs.BlockBackward.{Relied}
 use Rattle.regalloc2_fastalloc_state.specs.declared.inst_regs.InstRegs.{InstRegs}
 use Rattle.regalloc2_fastalloc_state.specs.StateParts.{VRegAllocsValue, IsSlotOrNone, alloc_of, vreg_of_preg}
 use Rattle.regalloc2_fastalloc_proofs.specs.InstSteps.{StateValue, AllocsInst, ends_block}
@@ -44,14 +42,14 @@ use Rattle.regalloc2_fastalloc_proofs.proofs.Walk.BlockObligations.{defined_from
 use Rattle.regalloc2_fastalloc_proofs.proofs.BlockEnd.LastInst.{OwedOwn, owed_there}
 use Rattle.regalloc2_fastalloc_proofs.proofs.BlockBegin.ReloadAtBegin.{IsReload}
 use Rattle.regalloc2_fastalloc_proofs.proofs.Branches.ArgMovesPushed.{walked_made}
-use Rattle.regalloc2_fastalloc_proofs.proofs.Branches.ArgMovesByClass.{Stepped, class_moves_done, all_moves, all_at, all_other, all_places, all_slots, all_grow}
+use Rattle.regalloc2_fastalloc_proofs.proofs.Branches.ArgMovesByClass.{Stepped, class_moves_done, all_moves, all_at, all_other, all_places, all_slots}
+use Rattle.regalloc2_fastalloc_proofs.proofs.Branches.ArgMovesByClass.{all_grow, ClassSteps, steps_of}
 use Rattle.regalloc2_fastalloc_proofs.proofs.Branches.EdgeArgsGathered.{passes_at, argument_at, params_on}
 use Rattle.regalloc2_fastalloc_proofs.proofs.BlockEnd.BranchAlone.{IsHeldHere, IsUseMove, Branched, branch_moves_uses_only, no_move_added_to, none_below}
 use Rattle.regalloc2_fastalloc_proofs.proofs.BlockEnd.BranchEndsBlock.{LastBranch, ToCome, to_come-back, reads_own, own_moves}
 use Rattle.regalloc2_fastalloc_proofs.proofs.Branches.ArgMovesEffect.{ArgMoves, names_at, relied_kept, passed_moved}
 use Rattle.regalloc2_fastalloc_proofs.proofs.Branches.BranchInParts.{settled_carries, Parted, branch_in_parts}
 use Rattle.regalloc2_fastalloc_proofs.proofs.Inst.ProperInsts.{ProperCode}
-use Rattle.regalloc2_fastalloc_proofs.proofs.Branches.ArgMovesByClass.{ClassSteps, steps_of}
 use Rattle.regalloc2_fastalloc_proofs.proofs.Changes.InstChanges.{allocs_inst_changes, any_operand}
 
 -- tables that differ in moves and in temporary slots

@@ -3,16 +3,15 @@ use Rattle.std.proofs.Common.{ℕ, ◌≡◌, inl, inr, Bool, true, false, List,
 use Rattle.std.specs.Prelude.{Option, Some, not, ◌&&◌}
 use Rattle.std.proofs.lemmas.Bool.{and_parts, and_right, and_from, not-true}
 use Rattle.regalloc2_names.specs.Register.{Register, VirtualRegister}
-use Rattle.regalloc2_names.specs.Place.{Place, InRegister}
-use Rattle.regalloc2_names.specs.Point.{before}
+use Rattle.regalloc2_names.specs.Place.{Place, InRegister, before}
 use Rattle.regalloc2_function.specs.FunctionValue.{FunctionValue, InstValue, inst_at}
-use Rattle.regalloc2_semantics.specs.Listing.{Item, exec_item}
-use Rattle.regalloc2_semantics.specs.Carry.{Carries}
-use Rattle.regalloc2_semantics.specs.BlockByPoints.{at_point, walked, before_part, listed}
-use Rattle.regalloc2_semantics.specs.OperandsPlaced.{Need, located, in_slot, made}
-use Rattle.regalloc2_semantics.proofs.CarryRules.{carries_weaken}
-use Rattle.regalloc2_semantics.proofs.MoveInFront.{walked-more}
-use Rattle.regalloc2_semantics.proofs.BlockBackward.{Relied}
+use Rattle.regalloc2_carry.specs.Listing.{Item, exec_item}
+use Rattle.regalloc2_carry.specs.Carry.{Carries}
+use Rattle.regalloc2_carry.specs.BlockByPoints.{at_point, walked, before_part, listed}
+use Rattle.regalloc2_carry.specs.OperandsPlaced.{Need, located, in_slot, made}
+use Rattle.regalloc2_carry.proofs.CarryRules.{carries_weaken}
+use Rattle.regalloc2_carry.proofs.MoveInFront.{walked-more}
+use Rattle.regalloc2_carry.proofs.BlockBackward.{Relied}
 use Rattle.regalloc2_fastalloc_state.specs.declared.inst_regs.InstRegs.{InstRegs}
 use Rattle.regalloc2_fastalloc_proofs.specs.InstSteps.{StateValue}
 use Rattle.regalloc2_fastalloc_proofs.specs.BranchSteps.{ClassMove, GathersMoves}

@@ -5,28 +5,26 @@ use Rattle.std.proofs.lemmas.Bool.{cases_Bool, or_cases}
 use Rattle.std.proofs.lemmas.List.Elements.{All-get_or}
 use Rattle.regalloc2_names.specs.declared.OperandKind.{OperandKind}
 use Rattle.regalloc2_names.specs.declared.OperandKind.TheVariants.{Def, Use}
-use Rattle.regalloc2_names.specs.Register.{VirtualRegister, is_vreg}
-use Rattle.regalloc2_names.specs.RegisterSet.{has_register}
-use Rattle.regalloc2_names.specs.Place.{Place, NoPlace, InRegister, InSlot}
-use Rattle.regalloc2_names.specs.Point.{before, after}
-use Rattle.regalloc2_function.specs.FunctionValue.{FunctionValue, IsLimited, block_at, inst_at, no_inst, no_operand, op_at}
+use Rattle.regalloc2_names.specs.Register.{VirtualRegister, is_vreg, has_register}
+use Rattle.regalloc2_names.specs.Place.{Place, NoPlace, InRegister, InSlot, before, after}
+use Rattle.regalloc2_function.specs.FunctionValue.{FunctionValue, IsLimited, block_at, inst_at, no_inst, no_operand, op_at, last_of}
 use Rattle.regalloc2_function.specs.Machine.{MachineValue}
 use Rattle.regalloc2_function.specs.OutputValue.{place_at}
-use Rattle.regalloc2_function.specs.SourceRun.{arguments_at}
+use Rattle.regalloc2_semantics.specs.Runs.{arguments_at}
 use Rattle.regalloc2_names.specs.Operand.{is_def}
-use Rattle.regalloc2_function.specs.WellFormed.{IsWellFormed, FixedAvoidClobbers, last_of}
-use Rattle.regalloc2_semantics.specs.Listing.{Item}
-use Rattle.regalloc2_semantics.specs.Carry.{Carries, is_clobbered}
-use Rattle.regalloc2_semantics.specs.BlockByPoints.{at_point, walked, listed}
-use Rattle.regalloc2_semantics.specs.Blocks.{names, HasEdge, target_at, IsUsed, ExcusedAreSilent, StandsAfter, GoesOut}
+use Rattle.regalloc2_function.specs.WellFormed.{IsWellFormed, FixedAvoidClobbers}
+use Rattle.regalloc2_carry.specs.Listing.{Item}
+use Rattle.regalloc2_carry.specs.Carry.{Carries, is_clobbered}
+use Rattle.regalloc2_carry.specs.BlockByPoints.{at_point, walked, listed}
+use Rattle.regalloc2_semantics.specs.Live.{names, HasEdge, target_at, DefinesNumber, IsEdgeInto}
+use Rattle.regalloc2_carry.specs.Blocks.{IsUsed, ExcusedAreSilent, StandsAfter, GoesOut}
 use Rattle.regalloc2_semantics.proofs.Cells.{is_vreg-true}
-use Rattle.regalloc2_semantics.proofs.CarryRules.{carries_weaken}
-use Rattle.regalloc2_semantics.proofs.BlockBackward.{Relied}
-use Rattle.regalloc2_semantics.proofs.Points.{at_point-none, all_from-less}
-use Rattle.regalloc2_semantics.proofs.SingleDef.{IsDefOperand, Made, one_made, one_operand, one_param, not_both, reads_defined}
-use Rattle.regalloc2_semantics.proofs.SingleDef.Made.{by_operand}
-use Rattle.regalloc2_semantics.proofs.Order.{ends_within, reads_later}
-use Rattle.regalloc2_analysis.specs.BranchDefs.BranchDefs.{DefinesNumber, IsEdgeInto}
+use Rattle.regalloc2_carry.proofs.CarryRules.{carries_weaken}
+use Rattle.regalloc2_carry.proofs.BlockBackward.{Relied}
+use Rattle.regalloc2_carry.proofs.Points.{at_point-none, all_from-less}
+use Rattle.regalloc2_carry.proofs.SingleDef.{IsDefOperand, Made, one_made, one_operand, one_param, not_both, reads_defined}
+use Rattle.regalloc2_carry.proofs.SingleDef.Made.{by_operand}
+use Rattle.regalloc2_carry.proofs.Order.{ends_within, reads_later}
 use Rattle.regalloc2_fastalloc_state.specs.Validate.NoLimits.{AreTaken}
 use Rattle.regalloc2_fastalloc_proofs.specs.InstSteps.{StateValue, ends_block}
 use Rattle.regalloc2_fastalloc_proofs.specs.BranchSteps.{IsOwnDef}

@@ -3,18 +3,17 @@ use Rattle.std.proofs.Common.{ℕ, ◌≡◌, inl, List, [], ◌∷◌, sym, ap,
 use Rattle.regalloc2_names.specs.declared.sets.PRegSet.{PRegSet}
 use Rattle.regalloc2_names.specs.Register.{VirtualRegister}
 use Rattle.regalloc2_names.specs.Operand.{OperandValue}
-use Rattle.regalloc2_names.specs.Place.{Place}
-use Rattle.regalloc2_names.specs.Point.{before, after}
+use Rattle.regalloc2_names.specs.Place.{Place, before, after}
 use Rattle.regalloc2_function.specs.FunctionValue.{InstValue}
 use Rattle.regalloc2_function.specs.OutputValue.{MoveValue}
-use Rattle.regalloc2_semantics.specs.Listing.{Item, exec_item, with_moves}
-use Rattle.regalloc2_semantics.specs.Listing.Item.{Exec}
-use Rattle.regalloc2_semantics.specs.Carry.{Carries, DefinesVRegAt}
-use Rattle.regalloc2_semantics.specs.BlockByPoints.{walked}
-use Rattle.regalloc2_semantics.proofs.CarryRules.{carries_nil, carries_moves, carries_exec}
-use Rattle.regalloc2_semantics.proofs.ListingParts.{walked-one}
-use Rattle.regalloc2_semantics.proofs.MoveInFront.{with_moves-none}
-use Rattle.regalloc2_semantics.proofs.NotRead.{ReadsOthersOnly}
+use Rattle.regalloc2_carry.specs.Listing.{Item, exec_item, with_moves}
+use Rattle.regalloc2_carry.specs.Listing.Item.{Exec}
+use Rattle.regalloc2_carry.specs.Carry.{Carries, DefinesVRegAt}
+use Rattle.regalloc2_carry.specs.BlockByPoints.{walked}
+use Rattle.regalloc2_carry.proofs.CarryRules.{carries_nil, carries_moves, carries_exec}
+use Rattle.regalloc2_carry.proofs.ListingParts.{walked-one}
+use Rattle.regalloc2_carry.proofs.MoveInFront.{with_moves-none}
+use Rattle.regalloc2_carry.proofs.NotRead.{ReadsOthersOnly}
 
 -- an instruction that defines v in a place, and doesn't read it
 pub made_carries : (v : VirtualRegister) (ms : List MoveValue) (ops : List OperandValue) (places : List Place) (clobbers : PRegSet) (q : Place) →

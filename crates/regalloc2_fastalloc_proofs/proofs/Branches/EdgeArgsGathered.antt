@@ -6,12 +6,12 @@ use Rattle.std.proofs.lemmas.List.Elements.{Contains-append_left, Contains-appen
 use Rattle.regalloc2_names.specs.declared.RegClass.{RegClass}
 use Rattle.regalloc2_names.specs.declared.RegClass.TheVariants.{Int, Float, Vector}
 use Rattle.regalloc2_names.specs.Register.{Register, VirtualRegister, no_vreg}
-use Rattle.regalloc2_names.specs.Place.{Place, InRegister}
-use Rattle.regalloc2_names.specs.Point.{before}
+use Rattle.regalloc2_names.specs.Place.{Place, InRegister, before}
 use Rattle.regalloc2_function.specs.FunctionValue.{FunctionValue, block_at}
-use Rattle.regalloc2_function.specs.SourceRun.{arguments_at}
-use Rattle.regalloc2_semantics.specs.Listing.{Item}
-use Rattle.regalloc2_semantics.specs.Blocks.{target_at, Passes}
+use Rattle.regalloc2_semantics.specs.Runs.{arguments_at}
+use Rattle.regalloc2_carry.specs.Listing.{Item}
+use Rattle.regalloc2_semantics.specs.Live.{target_at}
+use Rattle.regalloc2_carry.specs.Blocks.{Passes}
 use Rattle.regalloc2_fastalloc_state.specs.declared.inst_regs.InstRegs.{InstRegs}
 use Rattle.regalloc2_fastalloc_proofs.specs.InstSteps.{StateValue}
 use Rattle.regalloc2_fastalloc_proofs.specs.BranchSteps.{ClassMove, is_class, of_class, GathersEdgeMoves, none_gathered, one_gathered, own_argument}

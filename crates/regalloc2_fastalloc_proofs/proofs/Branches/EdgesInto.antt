@@ -1,12 +1,11 @@
 -- A block into which a branch with definitions leads is entered by that edge alone.
 use Rattle.std.proofs.Common.{ℕ, ◌≡◌, ◌<◌, inl, inr, [], length, refl, sym, ap, subst, arith}
 use Rattle.std.proofs.lemmas.List.Elements.{All-get_or}
-use Rattle.regalloc2_function.specs.FunctionValue.{FunctionValue, block_at, inst_at}
+use Rattle.regalloc2_function.specs.FunctionValue.{FunctionValue, block_at, inst_at, last_of}
 use Rattle.regalloc2_function.specs.Machine.{MachineValue}
-use Rattle.regalloc2_function.specs.WellFormed.{IsWellFormed, ways_into, last_of}
-use Rattle.regalloc2_semantics.specs.Blocks.{HasEdge, target_at}
+use Rattle.regalloc2_function.specs.WellFormed.{IsWellFormed, ways_into}
+use Rattle.regalloc2_semantics.specs.Live.{HasEdge, target_at, IsEdgeInto}
 use Rattle.regalloc2_semantics.proofs.Soundness.{entered_once}
-use Rattle.regalloc2_analysis.specs.BranchDefs.BranchDefs.{IsEdgeInto}
 use Rattle.regalloc2_fastalloc_proofs.proofs.Branches.WellFormedBranch.{few_or_more}
 use Rattle.regalloc2_fastalloc_proofs.proofs.Branches.WellFormedMayBranch.{one_edge_each}
 

@@ -8,15 +8,14 @@ use Rattle.std.proofs.lemmas.List.Elements.{All-get_or}
 use Rattle.regalloc2_names.specs.Register.{VirtualRegister, no_vreg}
 use Rattle.regalloc2_names.specs.Operand.{is_def}
 use Rattle.regalloc2_names.specs.Place.{Place}
-use Rattle.regalloc2_function.specs.FunctionValue.{FunctionValue, BlockValue, InstValue, block_at, inst_at, no_block, no_inst, op_at}
+use Rattle.regalloc2_function.specs.FunctionValue.{FunctionValue, BlockValue, InstValue, block_at, inst_at, no_block, no_inst, op_at, last_of}
 use Rattle.regalloc2_function.specs.Machine.{MachineValue}
-use Rattle.regalloc2_function.specs.Path.{Location, next_of}
-use Rattle.regalloc2_function.specs.SourceRun.{arguments_at}
-use Rattle.regalloc2_function.specs.WellFormed.{IsWellFormed, last_of}
-use Rattle.regalloc2_semantics.specs.Blocks.{IsUsed, target_at}
-use Rattle.regalloc2_semantics.specs.Live.{IsLive, read_there, passed_there, later}
-use Rattle.regalloc2_semantics.proofs.SingleDef.{IsDefOperand, not_both, one_operand, one_param}
-use Rattle.regalloc2_analysis.specs.BranchDefs.BranchDefs.{DefinesNumber, EndsInDefinitions, IsEdgeInto, IsUsedElsewhere}
+use Rattle.regalloc2_semantics.specs.Runs.{Location, next_of, arguments_at}
+use Rattle.regalloc2_function.specs.WellFormed.{IsWellFormed}
+use Rattle.regalloc2_carry.specs.Blocks.{IsUsed}
+use Rattle.regalloc2_semantics.specs.Live.{target_at, IsLive, read_there, passed_there, later, DefinesNumber, EndsInDefinitions, IsEdgeInto}
+use Rattle.regalloc2_carry.proofs.SingleDef.{IsDefOperand, not_both, one_operand, one_param}
+use Rattle.regalloc2_analysis.specs.BranchDefs.BranchDefs.{IsUsedElsewhere}
 use Rattle.regalloc2_analysis.proofs.BranchDefsLemmas.UsedOrNot.{Decided, below, both, is_so, same_vreg, by_pass, by_read, used_or_not}
 use Rattle.regalloc2_fastalloc_proofs.specs.BranchSteps.{IsOwnDef}
 use Rattle.regalloc2_fastalloc_proofs.specs.StoreSteps.{branch_operands}

@@ -5,11 +5,12 @@ use Rattle.std.proofs.lemmas.List.{get_or-map}
 use Rattle.regalloc2_names.specs.declared.RegClass.TheVariants.{Int}
 use Rattle.regalloc2_names.specs.Register.{VirtualRegister, no_vreg}
 use Rattle.regalloc2_names.specs.Operand.{OperandValue}
-use Rattle.regalloc2_function.specs.FunctionValue.{FunctionValue, block_at, inst_at}
-use Rattle.regalloc2_function.specs.WellFormed.{ways_into, last_of, PredecessorsAgree, NoOperandsIntoJoins, ArgumentsCounted, ArgumentsFit}
-use Rattle.regalloc2_function.specs.SourceRun.{arguments_at}
-use Rattle.regalloc2_semantics.specs.Blocks.{names, HasEdge, target_at, ExcusedAreSilent}
-use Rattle.regalloc2_semantics.proofs.NotRead.{ReadsOthersOnly}
+use Rattle.regalloc2_function.specs.FunctionValue.{FunctionValue, block_at, inst_at, last_of}
+use Rattle.regalloc2_function.specs.WellFormed.{ways_into, PredecessorsAgree, NoOperandsIntoJoins, ArgumentsCounted, ArgumentsFit}
+use Rattle.regalloc2_semantics.specs.Runs.{arguments_at}
+use Rattle.regalloc2_semantics.specs.Live.{names, HasEdge, target_at}
+use Rattle.regalloc2_carry.specs.Blocks.{ExcusedAreSilent}
+use Rattle.regalloc2_carry.proofs.NotRead.{ReadsOthersOnly}
 use Rattle.regalloc2_semantics.proofs.Soundness.{entered_once}
 use Rattle.regalloc2_fastalloc_proofs.proofs.Branches.EdgeArgsGathered.{argument_at, params_on}
 

@@ -5,13 +5,14 @@ use Rattle.std.proofs.lemmas.Bool.{cases_eq}
 use Rattle.std.proofs.lemmas.List.{get_or_default}
 use Rattle.std.proofs.lemmas.List.Sums.{sum_by-cons, count_by-le-length}
 use Rattle.regalloc2_names.specs.Register.{VirtualRegister, no_vreg}
-use Rattle.regalloc2_names.specs.Point.{before, after}
-use Rattle.regalloc2_function.specs.FunctionValue.{FunctionValue, block_at}
+use Rattle.regalloc2_names.specs.Place.{before, after}
+use Rattle.regalloc2_function.specs.FunctionValue.{FunctionValue, block_at, last_of}
 use Rattle.regalloc2_function.specs.Machine.{MachineValue}
-use Rattle.regalloc2_function.specs.SourceRun.{arguments_at}
-use Rattle.regalloc2_function.specs.WellFormed.{IsWellFormed, times_in, ways_into, last_of}
-use Rattle.regalloc2_semantics.specs.Blocks.{HasEdge, target_at, HasSoundBlocks}
-use Rattle.regalloc2_semantics.proofs.SingleDef.{TakesAt, one_param}
+use Rattle.regalloc2_semantics.specs.Runs.{arguments_at}
+use Rattle.regalloc2_function.specs.WellFormed.{IsWellFormed, times_in, ways_into}
+use Rattle.regalloc2_semantics.specs.Live.{HasEdge, target_at}
+use Rattle.regalloc2_semantics.specs.Sound.{HasSoundBlocks}
+use Rattle.regalloc2_carry.proofs.SingleDef.{TakesAt, one_param}
 use Rattle.regalloc2_semantics.proofs.Soundness.{count_at, well_formed_are_sound, find}
 use Rattle.regalloc2_fastalloc_proofs.specs.BranchSteps.{MayBranch, ParametersDiffer}
 use Rattle.regalloc2_fastalloc_proofs.specs.InstSteps.{StateValue}

@@ -5,9 +5,9 @@ use Rattle.std.proofs.lemmas.List.{append-nil, append_assoc}
 use Rattle.regalloc2_names.specs.Place.{Place}
 use Rattle.regalloc2_function.specs.FunctionValue.{FunctionValue, block_at}
 use Rattle.regalloc2_function.specs.OutputValue.{MoveValue}
-use Rattle.regalloc2_semantics.specs.BlockByPoints.{at_point, listed}
-use Rattle.regalloc2_semantics.proofs.Points.{at_point-here}
-use Rattle.regalloc2_semantics.proofs.PushedMoves.{listed-push}
+use Rattle.regalloc2_carry.specs.BlockByPoints.{at_point, listed}
+use Rattle.regalloc2_carry.proofs.Points.{at_point-here}
+use Rattle.regalloc2_carry.proofs.PushedMoves.{listed-push}
 use Rattle.regalloc2_fastalloc_proofs.specs.InstSteps.{StateValue}
 use Rattle.regalloc2_fastalloc_proofs.specs.BlockSteps.{AllocsBlockInsts, AllocsBlocks, BeginsBlock, all_left, one_block}
 use Rattle.regalloc2_fastalloc_proofs.specs.StoreSteps.{pushed_moves}

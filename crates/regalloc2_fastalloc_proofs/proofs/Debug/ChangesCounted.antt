@@ -4,16 +4,15 @@ use Rattle.std.specs.Prelude.{min, slice_index_or}
 use Rattle.std.proofs.lemmas.Bool.{cases_Bool, cases_eq}
 use Rattle.std.proofs.Math.Nat.{min-eq_left, min-eq_right}
 use Rattle.regalloc2_names.specs.Register.{VirtualRegister}
-use Rattle.regalloc2_names.specs.Point.{after}
+use Rattle.regalloc2_names.specs.Place.{after, Place, NoPlace, is_no_place}
 use Rattle.regalloc2_names.specs.Operand.{OperandValue, is_def, is_fixed_nonallocatable, is_late, is_reading}
-use Rattle.regalloc2_names.specs.Place.{Place, NoPlace, is_no_place}
 use Rattle.regalloc2_function.specs.FunctionValue.{FunctionValue, IsLimited, inst_at, op_at}
 use Rattle.regalloc2_function.specs.Machine.{MachineValue}
 use Rattle.regalloc2_function.specs.WellFormed.{IsWellFormed}
 use Rattle.regalloc2_analysis.specs.LiveRanges.LiveRanges.{IsWanted}
 use Rattle.regalloc2_analysis.specs.LiveRanges.WalkInvariant.{AddsNothing}
 use Rattle.regalloc2_analysis.proofs.LiveRangesLemmas.UsesInSSA.{IsDefOperand-from_DefinesAt}
-use Rattle.regalloc2_semantics.proofs.Operands.{reads_use}
+use Rattle.regalloc2_carry.proofs.Operands.{reads_use}
 use Rattle.regalloc2_fastalloc_state.specs.StateParts.{VRegAllocsValue, SetsAlloc, alloc_of, count_after}
 use Rattle.regalloc2_fastalloc_state.specs.declared.inst_regs.InstRegs.{InstRegs}
 use Rattle.regalloc2_fastalloc_state.specs.declared.request.OperandRequest.{OperandRequest}
@@ -27,7 +26,8 @@ use Rattle.regalloc2_fastalloc_proofs.proofs.Operands.WellFormedInsts.{orderly}
 use Rattle.regalloc2_fastalloc_proofs.proofs.Changes.OneChange.{Change, evicted, slot_given, spilled, param_left, def_left, use_located, edits_pushed}
 use Rattle.regalloc2_fastalloc_proofs.proofs.Changes.OneChange.{temps_added, registers_used, Anything, Changes, changes_keep, in_order}
 use Rattle.regalloc2_fastalloc_proofs.proofs.Changes.InstChanges.{free_operand, adds_move_if_changes, allocs_operand_changes, evicts_each_changes}
-use Rattle.regalloc2_fastalloc_proofs.proofs.Changes.InstChanges.{evicts_fixed_changes, moves_uses_changes, processes_operand_changes, processes_operands_at_changes}
+use Rattle.regalloc2_fastalloc_proofs.proofs.Changes.InstChanges.{evicts_fixed_changes, moves_uses_changes, processes_operand_changes}
+use Rattle.regalloc2_fastalloc_proofs.proofs.Changes.InstChanges.{processes_operands_at_changes}
 use Rattle.regalloc2_fastalloc_proofs.proofs.Changes.WalkChanges.{any_passed, allocs_block_insts_changes, allocs_blocks_changes, free_begin, free_inst, processes_branch_changes}
 use Rattle.regalloc2_fastalloc_proofs.proofs.Debug.LocatedVRegsAreUsed.{placed_elsewhere, stays_absent}
 

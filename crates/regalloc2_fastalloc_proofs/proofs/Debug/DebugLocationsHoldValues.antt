@@ -4,15 +4,16 @@ use Rattle.std.specs.Prelude.{Option}
 use Rattle.regalloc2_names.specs.Register.{VirtualRegister}
 use Rattle.regalloc2_names.specs.Place.{Place, NoPlace, InRegister, InSlot}
 use Rattle.regalloc2_function.specs.FunctionValue.{FunctionValue, IsLimited, Label, inst_at, no_operand, op_at}
-use Rattle.regalloc2_function.specs.Fitting.{IsProperPlace, MachineFits}
+use Rattle.regalloc2_semantics.specs.Places.{IsProperPlace}
+use Rattle.regalloc2_function.specs.Fitting.{MachineFits}
 use Rattle.regalloc2_function.specs.Machine.{MachineValue}
 use Rattle.regalloc2_function.specs.OutputValue.{allocs_of, place_at}
-use Rattle.regalloc2_function.specs.SourceRun.{IsWrittenFirst}
+use Rattle.regalloc2_semantics.specs.Runs.{IsWrittenFirst}
 use Rattle.regalloc2_names.specs.Operand.{is_fixed_nonallocatable}
-use Rattle.regalloc2_function.specs.DebugPaths.{HoldsValue}
+use Rattle.regalloc2_semantics.specs.Debug.{HoldsValue}
 use Rattle.regalloc2_function.specs.WellFormed.{IsWellFormed}
 use Rattle.regalloc2_semantics.specs.Laws.{ReadsAgreeOnPaths}
-use Rattle.regalloc2_semantics.proofs.SingleDef.{Made, by_operand}
+use Rattle.regalloc2_carry.proofs.SingleDef.{Made, by_operand}
 use Rattle.regalloc2_analysis.specs.declared.live_ranges.InstOperand.{InstOperand}
 use Rattle.regalloc2_analysis.specs.declared.live_ranges.LiveRange.{LiveRange}
 use Rattle.regalloc2_analysis.specs.LiveRanges.LiveRanges.{IsKeptRange, IsShownBy}

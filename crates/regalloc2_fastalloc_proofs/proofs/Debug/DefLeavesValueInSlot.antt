@@ -6,19 +6,18 @@ use Rattle.std.proofs.lemmas.Bool.{cases_eq}
 use Rattle.std.proofs.lemmas.List.{get_or-set_same, get_or-set_other, length-set}
 use Rattle.regalloc2_names.specs.Register.{Register, VirtualRegister}
 use Rattle.regalloc2_names.specs.Operand.{OperandValue, is_def, is_late}
-use Rattle.regalloc2_names.specs.Place.{Place, NoPlace, InRegister, InSlot}
-use Rattle.regalloc2_names.specs.Point.{after}
+use Rattle.regalloc2_names.specs.Place.{Place, NoPlace, InRegister, InSlot, after}
 use Rattle.regalloc2_function.specs.FunctionValue.{InstValue, op_at}
 use Rattle.regalloc2_function.specs.OutputValue.{MoveValue}
-use Rattle.regalloc2_function.specs.AllocatedRun.{Cells, after_moves}
-use Rattle.regalloc2_semantics.specs.Carry.{Carries}
-use Rattle.regalloc2_semantics.specs.BlockByPoints.{at_point, walked, after_part, listed}
-use Rattle.regalloc2_semantics.specs.Instruction.{Claims}
-use Rattle.regalloc2_semantics.specs.OperandsPlaced.{Counts, Need, made}
-use Rattle.regalloc2_semantics.proofs.MoveInFront.{walked-none}
-use Rattle.regalloc2_semantics.proofs.CarryRules.{carries_nil, carries_moves}
-use Rattle.regalloc2_semantics.proofs.UnwrittenPlaces.{NoMoveTo}
-use Rattle.regalloc2_semantics.proofs.Operands.{reads_use}
+use Rattle.regalloc2_semantics.specs.Runs.{Cells, after_moves}
+use Rattle.regalloc2_carry.specs.Carry.{Carries}
+use Rattle.regalloc2_carry.specs.BlockByPoints.{at_point, walked, after_part, listed}
+use Rattle.regalloc2_carry.specs.Instruction.{Claims}
+use Rattle.regalloc2_carry.specs.OperandsPlaced.{Counts, Need, made}
+use Rattle.regalloc2_carry.proofs.MoveInFront.{walked-none}
+use Rattle.regalloc2_carry.proofs.CarryRules.{carries_nil, carries_moves}
+use Rattle.regalloc2_carry.proofs.UnwrittenPlaces.{NoMoveTo}
+use Rattle.regalloc2_carry.proofs.Operands.{reads_use}
 use Rattle.regalloc2_fastalloc_state.specs.StateParts.{slot_name}
 use Rattle.regalloc2_fastalloc_state.specs.declared.inst_regs.InstRegs.{InstRegs}
 use Rattle.regalloc2_fastalloc_proofs.specs.InstSteps.{StateValue, FreesAlloc, ProcessesOperand, a_register, a_use, a_def, a_reuse, ProcessesOperandsAt}
@@ -34,8 +33,8 @@ use Rattle.regalloc2_fastalloc_proofs.proofs.Slots.StepsKeepSlots.{Grown, grown_
 use Rattle.regalloc2_fastalloc_proofs.proofs.Changes.InstChanges.{free_operand, adds_move_if_changes, processes_operand_changes, frees_alloc_changes}
 use Rattle.regalloc2_fastalloc_proofs.specs.Located.{Absent}
 use Rattle.regalloc2_fastalloc_proofs.proofs.Debug.UnnamedStaysUnlocated.{processes_operand_out, changes_out, whole_absent, defined_absent}
-use Rattle.regalloc2_fastalloc_proofs.proofs.Debug.DefStoresIntoSlot.{Off, allocs_operand_whole, allocs_operand_off, locates_use_off, frees_alloc_off, frees_alloc_into}
-use Rattle.regalloc2_fastalloc_proofs.proofs.Debug.DefStoresIntoSlot.{off_none, moves_of}
+use Rattle.regalloc2_fastalloc_proofs.proofs.Debug.DefStoresIntoSlot.{Off, allocs_operand_whole, allocs_operand_off, locates_use_off, frees_alloc_off}
+use Rattle.regalloc2_fastalloc_proofs.proofs.Debug.DefStoresIntoSlot.{frees_alloc_into, off_none, moves_of}
 use Rattle.regalloc2_fastalloc_proofs.proofs.Operands.BlockTail.{tail_of}
 
 -- A definition of an instruction that doesn't end its block, and its vreg's slot: the known vregs; the instructions and the places of their

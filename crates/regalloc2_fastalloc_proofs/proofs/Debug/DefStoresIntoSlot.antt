@@ -8,14 +8,14 @@ use Rattle.regalloc2_names.specs.Register.{Register, VirtualRegister}
 use Rattle.regalloc2_names.specs.Operand.{OperandValue}
 use Rattle.regalloc2_names.specs.Place.{Place, NoPlace, InRegister, is_place}
 use Rattle.regalloc2_function.specs.OutputValue.{MoveValue}
-use Rattle.regalloc2_function.specs.AllocatedRun.{Cells, after_moves, stored}
-use Rattle.regalloc2_semantics.specs.BlockByPoints.{at_point, listed}
-use Rattle.regalloc2_semantics.specs.Listing.{with_moves}
-use Rattle.regalloc2_semantics.specs.Carry.{Untouched}
+use Rattle.regalloc2_semantics.specs.Runs.{Cells, after_moves, stored}
+use Rattle.regalloc2_carry.specs.BlockByPoints.{at_point, listed}
+use Rattle.regalloc2_carry.specs.Listing.{with_moves}
+use Rattle.regalloc2_carry.specs.Carry.{Untouched}
 use Rattle.regalloc2_semantics.proofs.Cells.{cases_place, stored-same, is_place-same, is_place-other}
-use Rattle.regalloc2_semantics.proofs.Points.{at_point-here, at_point-other}
-use Rattle.regalloc2_semantics.proofs.PushedMoves.{listed-push}
-use Rattle.regalloc2_semantics.proofs.UnwrittenPlaces.{NoMoveTo, moves_kept}
+use Rattle.regalloc2_carry.proofs.Points.{at_point-here, at_point-other}
+use Rattle.regalloc2_carry.proofs.PushedMoves.{listed-push}
+use Rattle.regalloc2_carry.proofs.UnwrittenPlaces.{NoMoveTo, moves_kept}
 use Rattle.regalloc2_fastalloc_state.specs.StateParts.{alloc_of}
 use Rattle.regalloc2_fastalloc_state.specs.declared.inst_regs.InstRegs.{InstRegs}
 use Rattle.regalloc2_fastalloc_state.specs.declared.request.OperandRequest.{OperandRequest}

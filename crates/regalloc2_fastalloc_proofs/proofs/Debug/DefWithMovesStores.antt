@@ -2,20 +2,18 @@
 use Rattle.std.proofs.Common.{ℕ, ◌≡◌, ◌+◌, ◌*◌, ◌<◌, inl, inr, Bool, true, false, List, [], length, refl, sym, ap, ◌∙◌, subst, arith, suc}
 use Rattle.std.specs.Prelude.{None, Some, slice_index_or}
 use Rattle.std.proofs.lemmas.Bool.{cases_Bool}
-use Rattle.regalloc2_names.specs.Register.{Register, VirtualRegister}
-use Rattle.regalloc2_names.specs.RegisterSet.{registers_of}
+use Rattle.regalloc2_names.specs.Register.{Register, VirtualRegister, registers_of}
 use Rattle.regalloc2_names.specs.Operand.{OperandValue, is_def, is_late}
-use Rattle.regalloc2_names.specs.Place.{Place, NoPlace, InRegister, InSlot}
-use Rattle.regalloc2_names.specs.Point.{after}
+use Rattle.regalloc2_names.specs.Place.{Place, NoPlace, InRegister, InSlot, after}
 use Rattle.regalloc2_function.specs.FunctionValue.{inst_at, op_at}
 use Rattle.regalloc2_function.specs.OutputValue.{place_at}
-use Rattle.regalloc2_semantics.specs.Listing.{with_moves}
-use Rattle.regalloc2_semantics.specs.Carry.{Carries, is_clobbered, Untouched}
-use Rattle.regalloc2_semantics.specs.BlockByPoints.{AllFrom, at_point, walked, listed}
-use Rattle.regalloc2_semantics.specs.OperandsPlaced.{Need, located, in_slot, made}
-use Rattle.regalloc2_semantics.proofs.Points.{at_point-none}
-use Rattle.regalloc2_semantics.proofs.CarryRules.{carries_weaken}
-use Rattle.regalloc2_semantics.proofs.UnwrittenPlaces.{NoMoveTo}
+use Rattle.regalloc2_carry.specs.Listing.{with_moves}
+use Rattle.regalloc2_carry.specs.Carry.{Carries, is_clobbered, Untouched}
+use Rattle.regalloc2_carry.specs.BlockByPoints.{AllFrom, at_point, walked, listed}
+use Rattle.regalloc2_carry.specs.OperandsPlaced.{Need, located, in_slot, made}
+use Rattle.regalloc2_carry.proofs.Points.{at_point-none}
+use Rattle.regalloc2_carry.proofs.CarryRules.{carries_weaken}
+use Rattle.regalloc2_carry.proofs.UnwrittenPlaces.{NoMoveTo}
 use Rattle.regalloc2_fastalloc_state.specs.declared.inst_regs.InstRegs.{InstRegs}
 use Rattle.regalloc2_fastalloc_proofs.specs.InstSteps.{StateValue, AllocsInst, ends_block}
 use Rattle.regalloc2_fastalloc_proofs.proofs.Safety.StepsKeepState.{place_in, slot_in}
@@ -32,9 +30,9 @@ use Rattle.regalloc2_fastalloc_proofs.proofs.Inst.OneInstCarries.{IsBetweenInsts
 use Rattle.regalloc2_fastalloc_proofs.specs.Located.{Absent}
 use Rattle.regalloc2_fastalloc_proofs.proofs.Debug.UnnamedStaysUnlocated.{out_then, processes_operands_at_out, changes_out, whole_absent}
 use Rattle.regalloc2_fastalloc_proofs.proofs.Debug.DefStoresIntoSlot.{Off, evicts_fixed_off, evicts_each_off, off_none}
-use Rattle.regalloc2_fastalloc_proofs.proofs.Debug.DefLeavesValueInSlot.{Into, Bare, Full, before_off, pass_into, other_number, slotted}
+use Rattle.regalloc2_fastalloc_proofs.proofs.Debug.DefLeavesValueInSlot.{Into, Bare, Full, before_off, pass_into, other_number, slotted, DefSlot}
+use Rattle.regalloc2_fastalloc_proofs.proofs.Debug.DefLeavesValueInSlot.{asks_nowhere, asks_value}
 use Rattle.regalloc2_fastalloc_proofs.proofs.Operands.BlockTail.{tail_of}
-use Rattle.regalloc2_fastalloc_proofs.proofs.Debug.DefLeavesValueInSlot.{DefSlot, asks_nowhere, asks_value}
 use Rattle.regalloc2_fastalloc_proofs.proofs.Inst.ProperInsts.{ProperCode}
 
 module _ (code : ProperCode) where

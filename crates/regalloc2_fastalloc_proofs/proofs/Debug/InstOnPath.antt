@@ -1,19 +1,16 @@
 -- One instruction of a path, with the moves before it and after it: what its listing carries holds along the path.
 use Rattle.std.proofs.Common.{ℕ, suc, ◌≡◌, ◌+◌, ◌≤◌, List, [], ◌∷◌, length, sym, ap, ◌∙◌, subst}
 use Rattle.regalloc2_names.specs.Register.{VirtualRegister}
-use Rattle.regalloc2_names.specs.Place.{Place}
-use Rattle.regalloc2_names.specs.Point.{before, after}
+use Rattle.regalloc2_names.specs.Place.{Place, before, after}
 use Rattle.regalloc2_function.specs.FunctionValue.{FunctionValue, block_at, inst_at}
 use Rattle.regalloc2_function.specs.OutputValue.{OutputValue, MoveValue, allocs_of, moves_before}
-use Rattle.regalloc2_function.specs.Path.{Way, Onward, end_of}
-use Rattle.regalloc2_function.specs.SourceRun.{source_before, over_edge}
-use Rattle.regalloc2_function.specs.AllocatedRun.{Cells, after_moves, moves_at, cells_before}
-use Rattle.regalloc2_semantics.specs.Listing.{Item, exec_item, with_moves}
-use Rattle.regalloc2_semantics.specs.Carry.{Carries, CarriesFrom}
-use Rattle.regalloc2_semantics.specs.BlockByPoints.{at_point, walked, Rising}
-use Rattle.regalloc2_semantics.proofs.CarryRules.{after_their_moves}
-use Rattle.regalloc2_semantics.proofs.Points.{moves_before-first, moves_before-later}
-use Rattle.regalloc2_semantics.proofs.StoresInFront.{after_both}
+use Rattle.regalloc2_semantics.specs.Runs.{Way, Onward, end_of, source_before, over_edge, Cells, after_moves, moves_at, cells_before}
+use Rattle.regalloc2_carry.specs.Listing.{Item, exec_item, with_moves}
+use Rattle.regalloc2_carry.specs.Carry.{Carries, CarriesFrom}
+use Rattle.regalloc2_carry.specs.BlockByPoints.{at_point, walked, Rising}
+use Rattle.regalloc2_carry.proofs.CarryRules.{after_their_moves}
+use Rattle.regalloc2_carry.proofs.Points.{moves_before-first, moves_before-later}
+use Rattle.regalloc2_carry.proofs.StoresInFront.{after_both}
 
 module _ (f : FunctionValue) (out : OutputValue) (rising : Rising out.edits) where
   abbrev pub moves_on : ℕ → List MoveValue

@@ -3,13 +3,11 @@
 use Rattle.std.proofs.Common.{ℕ, ◌≡◌, ◌≢◌, ◌+◌, ◌<◌, ◌≤◌, ◌⊎◌, inl, inr, List, length, refl, ap, ◌∙◌, subst, arith}
 use Rattle.std.specs.Prelude.{slice_index_or}
 use Rattle.std.proofs.lemmas.Bool.{cases_eq, cases_lt}
-use Rattle.regalloc2_names.specs.Place.{Place, NoPlace}
-use Rattle.regalloc2_names.specs.Point.{before}
-use Rattle.regalloc2_function.specs.FunctionValue.{FunctionValue, block_at, inst_at, op_at}
+use Rattle.regalloc2_names.specs.Place.{Place, NoPlace, before}
+use Rattle.regalloc2_function.specs.FunctionValue.{FunctionValue, block_at, inst_at, op_at, last_of}
 use Rattle.regalloc2_function.specs.OutputValue.{place_at}
-use Rattle.regalloc2_function.specs.WellFormed.{last_of}
-use Rattle.regalloc2_semantics.specs.OperandsPlaced.{Counts}
-use Rattle.regalloc2_semantics.proofs.Order.{ends_within}
+use Rattle.regalloc2_carry.specs.OperandsPlaced.{Counts}
+use Rattle.regalloc2_carry.proofs.Order.{ends_within}
 use Rattle.regalloc2_fastalloc_proofs.specs.InstSteps.{StateValue}
 use Rattle.regalloc2_names.specs.Register.{no_vreg}
 use Rattle.regalloc2_fastalloc_proofs.specs.BlockSteps.{AllocsInstInBlock, AllocsBlockInsts, at_end, one_in, AllocsBlocks, all_left, one_block}
@@ -18,10 +16,10 @@ use Rattle.regalloc2_fastalloc_proofs.proofs.Slots.StepsKeepSlots.{Grown, grown_
 use Rattle.regalloc2_fastalloc_proofs.proofs.Safety.StateKept.{ends_in_branch}
 use Rattle.regalloc2_fastalloc_proofs.proofs.Inst.OneInstCarries.{IsBetweenInsts}
 use Rattle.regalloc2_fastalloc_proofs.proofs.Walk.InstBoundaries.{IsEdge, IsWithin, grown_weaken, walk_between, walk_grown, edge_next, allocs_blocks_between}
+use Rattle.regalloc2_fastalloc_proofs.proofs.Walk.InstBoundaries.{kept_code_of}
 use Rattle.regalloc2_fastalloc_proofs.proofs.Walk.LastInstAndRest.{listed_behind, walk_listed}
 use Rattle.regalloc2_fastalloc_proofs.proofs.Debug.UnnamedStaysUnlocated.{StaysOut, IsUnpassed, IsUnstored, out_then, allocs_inst_in_block_out, begins_block_out}
 use Rattle.regalloc2_fastalloc_proofs.proofs.Walk.FunctionLaws.{PlacedCode}
-use Rattle.regalloc2_fastalloc_proofs.proofs.Walk.InstBoundaries.{kept_code_of}
 use Rattle.regalloc2_fastalloc_proofs.proofs.Changes.WalkChanges.{allocs_inst_in_block_changes, any_inst, begins_block_changes, any_begin}
 
 -- a block begins at the instruction

@@ -5,9 +5,9 @@ use Rattle.regalloc2_names.specs.Register.{VirtualRegister}
 use Rattle.regalloc2_names.specs.Operand.{OperandValue, is_reading}
 use Rattle.regalloc2_names.specs.Place.{Place, NoPlace, InRegister}
 use Rattle.regalloc2_function.specs.FunctionValue.{FunctionValue, block_at, inst_at, op_at}
-use Rattle.regalloc2_function.specs.SourceRun.{arguments_at}
+use Rattle.regalloc2_semantics.specs.Runs.{arguments_at}
 use Rattle.regalloc2_function.specs.WellFormed.{ArgumentsCounted, BlocksEnd, BlocksFollow}
-use Rattle.regalloc2_semantics.proofs.Plain.{no_some}
+use Rattle.regalloc2_carry.proofs.Plain.{no_some}
 use Rattle.regalloc2_analysis.specs.LiveRanges.LastUses.{reads, passes}
 use Rattle.regalloc2_fastalloc_state.specs.StateParts.{SetsAlloc, alloc_of, no_allocs}
 use Rattle.regalloc2_fastalloc_proofs.specs.InstSteps.{StateValue}
@@ -17,8 +17,8 @@ use Rattle.regalloc2_fastalloc_proofs.proofs.Safety.InitialState.{begun_empty}
 use Rattle.regalloc2_fastalloc_proofs.proofs.Safety.StateKept.{ends_in_branch}
 use Rattle.regalloc2_fastalloc_proofs.proofs.Safety.StepsKeepSafe.{settled_holder}
 use Rattle.regalloc2_fastalloc_proofs.proofs.Changes.OneChange.{Act, slot_for, spill_of, end_of, start_of, move, Change, evicted, slot_given, spilled}
-use Rattle.regalloc2_fastalloc_proofs.proofs.Changes.OneChange.{param_left, def_left, use_located, edits_pushed, temps_added, registers_used, Changes, changed}
-use Rattle.regalloc2_fastalloc_proofs.proofs.Changes.OneChange.{changes_keep}
+use Rattle.regalloc2_fastalloc_proofs.proofs.Changes.OneChange.{param_left, def_left, use_located, edits_pushed, temps_added, registers_used, Changes}
+use Rattle.regalloc2_fastalloc_proofs.proofs.Changes.OneChange.{changed, changes_keep}
 use Rattle.regalloc2_fastalloc_proofs.proofs.Changes.InstChanges.{MayBePlaced}
 use Rattle.regalloc2_fastalloc_proofs.proofs.Changes.WalkChanges.{allocs_inst_in_block_changes, begins_block_changes}
 use Rattle.regalloc2_fastalloc_proofs.proofs.Debug.UnnamedStaysUnlocated.{changes_absent}

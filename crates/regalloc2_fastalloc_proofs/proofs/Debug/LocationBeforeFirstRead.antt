@@ -8,8 +8,8 @@ use Rattle.regalloc2_names.specs.declared.OperandConstraint.TheVariants.{Reuse}
 use Rattle.regalloc2_names.specs.Operand.{OperandValue, is_def, is_late, is_reading}
 use Rattle.regalloc2_names.specs.Place.{Place, NoPlace, InRegister}
 use Rattle.regalloc2_function.specs.FunctionValue.{InstValue, op_at}
-use Rattle.regalloc2_semantics.specs.OperandsPlaced.{Counts}
-use Rattle.regalloc2_semantics.proofs.Operands.{reads_use}
+use Rattle.regalloc2_carry.specs.OperandsPlaced.{Counts}
+use Rattle.regalloc2_carry.proofs.Operands.{reads_use}
 use Rattle.regalloc2_fastalloc_state.specs.StateParts.{alloc_of}
 use Rattle.regalloc2_fastalloc_state.specs.declared.inst_regs.InstRegs.{InstRegs}
 use Rattle.regalloc2_fastalloc_proofs.specs.InstSteps.{StateValue, use_request, LocatesUse, ProcessesOperand, a_register, a_use, a_def, a_reuse, ends_block}

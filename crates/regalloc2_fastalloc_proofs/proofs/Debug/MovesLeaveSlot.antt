@@ -1,20 +1,20 @@
 -- The moves before an instruction leave a vreg's slot alone, or the instruction reads it there.
-use Rattle.std.proofs.Common.{ℕ, suc, ◌≡◌, ◌≢◌, ◌+◌, ◌<◌, ◌≤◌, Bool, true, false, List, [], ◌∷◌, length, map, nat_eq, nat_lt, refl, sym, ap, ◌∙◌, ◌⊎◌, inl, inr}
-use Rattle.std.proofs.Common.{subst, arith, eqb-true}
+use Rattle.std.proofs.Common.{ℕ, suc, ◌≡◌, ◌≢◌, ◌+◌, ◌<◌, ◌≤◌, Bool, true, false, List, [], ◌∷◌, length, map, nat_eq, nat_lt, refl, sym, ap, ◌∙◌, ◌⊎◌, inl}
+use Rattle.std.proofs.Common.{inr, subst, arith, eqb-true}
 use Rattle.std.specs.Prelude.{All, filter, ◌&&◌}
 use Rattle.std.proofs.lemmas.Bool.{and_parts, ltb-true, or_cases}
 use Rattle.regalloc2_names.specs.Register.{VirtualRegister}
-use Rattle.regalloc2_names.specs.Place.{Place, InSlot}
-use Rattle.regalloc2_names.specs.Point.{before}
+use Rattle.regalloc2_names.specs.Place.{Place, InSlot, before}
 use Rattle.regalloc2_function.specs.FunctionValue.{FunctionValue, block_at, inst_at, no_operand, op_at}
 use Rattle.regalloc2_function.specs.OutputValue.{OutputValue, MoveValue, allocs_of, is_listed_at}
-use Rattle.regalloc2_function.specs.Path.{Way, Onward, end_of, IsPath}
+use Rattle.regalloc2_semantics.specs.Runs.{Way, Onward, end_of, IsPath}
 use Rattle.regalloc2_function.specs.WellFormed.{BlocksFollow}
-use Rattle.regalloc2_semantics.specs.Listing.{with_moves}
-use Rattle.regalloc2_semantics.specs.Carry.{Spares, Undefined, Untouched}
+use Rattle.regalloc2_carry.specs.Listing.{with_moves}
+use Rattle.regalloc2_carry.specs.Carry.{Spares, Untouched}
+use Rattle.regalloc2_semantics.specs.Live.{Undefined}
 use Rattle.regalloc2_semantics.proofs.Cells.{cases_place}
-use Rattle.regalloc2_semantics.proofs.Order.{stands_later}
-use Rattle.regalloc2_semantics.proofs.UnwrittenPlaces.{NoMoveTo}
+use Rattle.regalloc2_carry.proofs.Order.{stands_later}
+use Rattle.regalloc2_carry.proofs.UnwrittenPlaces.{NoMoveTo}
 use Rattle.regalloc2_fastalloc_proofs.specs.Debug.SlotHoldsValue.{ReadsInPlace, IsKeptInSlot}
 use Rattle.regalloc2_fastalloc_proofs.specs.Debug.SlotWrites.{MayWrite, after_definition, before_read, before_branch, at_begin, IsSlotOfValue}
 

@@ -4,24 +4,20 @@ use Rattle.std.specs.Prelude.{None, Some}
 use Rattle.std.proofs.lemmas.Bool.{cases_lt}
 use Rattle.regalloc2_names.specs.Register.{VirtualRegister}
 use Rattle.regalloc2_names.specs.Operand.{OperandValue, is_def}
-use Rattle.regalloc2_names.specs.Place.{Place, NoPlace}
-use Rattle.regalloc2_names.specs.Point.{before}
+use Rattle.regalloc2_names.specs.Place.{Place, NoPlace, before}
 use Rattle.regalloc2_function.specs.FunctionValue.{block_at, inst_at, op_at}
 use Rattle.regalloc2_function.specs.OutputValue.{allocs_of, place_at}
-use Rattle.regalloc2_function.specs.Path.{Way, Onward, ToSuccessor, end_of, IsPath}
-use Rattle.regalloc2_function.specs.SourceRun.{IsWrittenFirst, source_before}
-use Rattle.regalloc2_function.specs.AllocatedRun.{Cells, after_moves}
-use Rattle.regalloc2_function.specs.DebugPaths.{GoesOn, there, further, HoldsValue}
-use Rattle.regalloc2_function.specs.DebugPoints.{UsesAt}
-use Rattle.regalloc2_semantics.specs.Carry.{Carries}
+use Rattle.regalloc2_semantics.specs.Runs.{Way, Onward, ToSuccessor, end_of, IsPath, IsWrittenFirst, source_before, Cells, after_moves}
+use Rattle.regalloc2_semantics.specs.Debug.{GoesOn, there, further, HoldsValue, UsesAt}
+use Rattle.regalloc2_carry.specs.Carry.{Carries}
 use Rattle.regalloc2_semantics.specs.Live.{IsLive, later, HasEntered}
-use Rattle.regalloc2_semantics.specs.Blocks.{IsUnwritten}
-use Rattle.regalloc2_semantics.specs.BlockByPoints.{at_point, walked, listed, Rising}
-use Rattle.regalloc2_semantics.proofs.CarryRules.{carries_weaken}
-use Rattle.regalloc2_semantics.proofs.SingleDef.{Made, one_operand, reads_defined}
-use Rattle.regalloc2_semantics.proofs.SingleDef as defined
-use Rattle.regalloc2_semantics.proofs.LiveIn.{live_is_used}
-use Rattle.regalloc2_semantics.proofs.Order.{ends_within, stands_later, reads_later}
+use Rattle.regalloc2_carry.specs.Blocks.{IsUnwritten}
+use Rattle.regalloc2_carry.specs.BlockByPoints.{at_point, walked, listed, Rising}
+use Rattle.regalloc2_carry.proofs.CarryRules.{carries_weaken}
+use Rattle.regalloc2_carry.proofs.SingleDef.{Made, one_operand, reads_defined}
+use Rattle.regalloc2_carry.proofs.SingleDef as defined
+use Rattle.regalloc2_carry.proofs.LiveIn.{live_is_used}
+use Rattle.regalloc2_carry.proofs.Order.{ends_within, stands_later, reads_later}
 use Rattle.regalloc2_fastalloc_proofs.proofs.Walk.BlocksCarryFromFreshState.{used_slots}
 use Rattle.regalloc2_fastalloc_proofs.proofs.Walk.InstBoundaries.{grown_weaken, grown_pushes}
 use Rattle.regalloc2_fastalloc_proofs.proofs.Inst.OneInstCarries.{Needed}

@@ -8,16 +8,15 @@ use Rattle.regalloc2_names.specs.Operand.{OperandValue}
 use Rattle.regalloc2_names.specs.Place.{Place}
 use Rattle.regalloc2_function.specs.FunctionValue.{FunctionValue, block_at, inst_at, no_operand, op_at}
 use Rattle.regalloc2_function.specs.OutputValue.{OutputValue, allocs_of, place_at}
-use Rattle.regalloc2_function.specs.Path.{Way, Onward, ToSuccessor, end_of}
-use Rattle.regalloc2_function.specs.SourceRun.{Stamp, read_of, arguments_at, source_before, source_after, over_edge}
-use Rattle.regalloc2_function.specs.AllocatedRun.{Cells, after_moves, moves_at, cells_early, cells_late, cells_before}
-use Rattle.regalloc2_function.specs.Faithful.{ReadsAgree}
-use Rattle.regalloc2_semantics.specs.Carry.{Spares, Undefined}
-use Rattle.regalloc2_semantics.specs.Blocks.{target_at}
-use Rattle.regalloc2_semantics.specs.Live.{IsAside}
-use Rattle.regalloc2_semantics.proofs.UnwrittenPlaces.{NoMoveTo, moves_kept}
-use Rattle.regalloc2_semantics.proofs.ParamsOnEdge.{passed-other}
-use Rattle.regalloc2_semantics.proofs.BothRuns.{after_defs-other, early-other, late-spared}
+use Rattle.regalloc2_semantics.specs.Runs.{Way, Onward, ToSuccessor, end_of, Stamp, read_of, arguments_at, source_before, source_after, over_edge, Cells}
+use Rattle.regalloc2_semantics.specs.Runs.{after_moves, moves_at, cells_early, cells_late, cells_before}
+use Rattle.regalloc2_semantics.specs.Faithful.{ReadsAgree}
+use Rattle.regalloc2_carry.specs.Carry.{Spares}
+use Rattle.regalloc2_semantics.specs.Live.{Undefined, target_at, IsAside}
+use Rattle.regalloc2_carry.proofs.UnwrittenPlaces.{NoMoveTo, moves_kept}
+use Rattle.regalloc2_carry.proofs.ParamsOnEdge.{passed-other}
+use Rattle.regalloc2_semantics.proofs.AfterWrites.{after_defs-other}
+use Rattle.regalloc2_carry.proofs.BothRuns.{early-other, late-spared}
 use Rattle.regalloc2_fastalloc_proofs.specs.Debug.SlotHoldsValue.{ReadsInPlace, ShowsAt}
 
 -- a step that doesn't write v keeps v's last write

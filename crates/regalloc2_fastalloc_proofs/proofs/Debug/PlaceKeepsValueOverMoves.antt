@@ -6,22 +6,20 @@ use Rattle.regalloc2_names.specs.declared.OperandKind.TheVariants.{Use}
 use Rattle.regalloc2_names.specs.declared.OperandPos.TheVariants.{Early}
 use Rattle.regalloc2_names.specs.Register.{VirtualRegister}
 use Rattle.regalloc2_names.specs.Operand.{OperandValue, is_def, is_late, is_reading}
-use Rattle.regalloc2_names.specs.Place.{Place, NoPlace}
-use Rattle.regalloc2_names.specs.Point.{before, after}
+use Rattle.regalloc2_names.specs.Place.{Place, NoPlace, before, after}
 use Rattle.regalloc2_function.specs.FunctionValue.{inst_at, op_at}
 use Rattle.regalloc2_function.specs.OutputValue.{MoveValue, place_at}
-use Rattle.regalloc2_function.specs.SourceRun.{Source}
-use Rattle.regalloc2_function.specs.AllocatedRun.{Cells, after_moves}
-use Rattle.regalloc2_semantics.specs.Listing.{Item, with_moves}
-use Rattle.regalloc2_semantics.specs.Listing.Item.{Exec}
-use Rattle.regalloc2_semantics.specs.Carry.{Carries, CarriesFrom, is_clobbered}
-use Rattle.regalloc2_semantics.specs.BlockByPoints.{at_point, walked, after_part, listed}
-use Rattle.regalloc2_semantics.specs.Instruction.{Claims}
-use Rattle.regalloc2_semantics.specs.OperandsPlaced.{Progress, what_of, Counts, Pending, still, slotted, used}
-use Rattle.regalloc2_semantics.proofs.Points.{all_from-less}
-use Rattle.regalloc2_semantics.proofs.MoveInFront.{walked-none, before_part-clean}
-use Rattle.regalloc2_semantics.proofs.CarryRules.{carries_nil, carries_moves, carries_exec, after_their_moves}
-use Rattle.regalloc2_semantics.proofs.BothRuns.{early-other}
+use Rattle.regalloc2_semantics.specs.Runs.{Source, Cells, after_moves}
+use Rattle.regalloc2_carry.specs.Listing.{Item, with_moves}
+use Rattle.regalloc2_carry.specs.Listing.Item.{Exec}
+use Rattle.regalloc2_carry.specs.Carry.{Carries, CarriesFrom, is_clobbered}
+use Rattle.regalloc2_carry.specs.BlockByPoints.{at_point, walked, after_part, listed}
+use Rattle.regalloc2_carry.specs.Instruction.{Claims}
+use Rattle.regalloc2_carry.specs.OperandsPlaced.{Progress, what_of, Counts, Pending, still, slotted, used}
+use Rattle.regalloc2_carry.proofs.Points.{all_from-less}
+use Rattle.regalloc2_carry.proofs.MoveInFront.{walked-none, before_part-clean}
+use Rattle.regalloc2_carry.proofs.CarryRules.{carries_nil, carries_moves, carries_exec, after_their_moves}
+use Rattle.regalloc2_carry.proofs.BothRuns.{early-other}
 use Rattle.regalloc2_fastalloc_proofs.specs.InstSteps.{StateValue, AllocsInst, ends_block}
 use Rattle.regalloc2_fastalloc_proofs.proofs.Safety.StepsKeepState.{place_in, slot_in}
 use Rattle.regalloc2_fastalloc_proofs.proofs.Operands.RecordOverState.{stands_at, slots_at, opt, opt_some, opt_from}

@@ -7,19 +7,18 @@ use Rattle.regalloc2_names.specs.declared.OperandPos.TheVariants.{Early, Late}
 use Rattle.regalloc2_names.specs.Register.{VirtualRegister, no_vreg}
 use Rattle.regalloc2_names.specs.Operand.{OperandValue, is_def, is_late, is_reading}
 use Rattle.regalloc2_names.specs.Place.{Place, NoPlace, InRegister, InSlot}
-use Rattle.regalloc2_function.specs.FunctionValue.{FunctionValue, block_at, inst_at, no_operand, op_at}
+use Rattle.regalloc2_function.specs.FunctionValue.{FunctionValue, block_at, inst_at, no_operand, op_at, last_of}
 use Rattle.regalloc2_function.specs.Fitting.{MachineFits}
 use Rattle.regalloc2_function.specs.OutputValue.{allocs_of, place_at}
-use Rattle.regalloc2_function.specs.Path.{end_of}
-use Rattle.regalloc2_function.specs.SourceRun.{IsWrittenFirst, arguments_at}
-use Rattle.regalloc2_function.specs.DebugPaths.{HoldsValue}
-use Rattle.regalloc2_function.specs.DebugPoints.{DefinesAt, ReadsAt, UsesAt}
-use Rattle.regalloc2_function.specs.WellFormed.{last_of}
-use Rattle.regalloc2_semantics.specs.Blocks.{HasSoundBlocks, IsUnwritten, target_at}
+use Rattle.regalloc2_semantics.specs.Runs.{end_of, IsWrittenFirst, arguments_at}
+use Rattle.regalloc2_semantics.specs.Debug.{HoldsValue, DefinesAt, ReadsAt, UsesAt}
+use Rattle.regalloc2_semantics.specs.Sound.{HasSoundBlocks}
+use Rattle.regalloc2_carry.specs.Blocks.{IsUnwritten}
+use Rattle.regalloc2_semantics.specs.Live.{target_at}
 use Rattle.regalloc2_semantics.specs.Laws.{ReadsAgreeOnPaths}
-use Rattle.regalloc2_semantics.proofs.SingleDef.{Made, by_operand, one_made, one_operand, not_both, reads_defined}
-use Rattle.regalloc2_semantics.proofs.SingleDef as defined
-use Rattle.regalloc2_semantics.proofs.Order.{ends_within, reads_later}
+use Rattle.regalloc2_carry.proofs.SingleDef.{Made, by_operand, one_made, one_operand, not_both, reads_defined}
+use Rattle.regalloc2_carry.proofs.SingleDef as defined
+use Rattle.regalloc2_carry.proofs.Order.{ends_within, reads_later}
 use Rattle.regalloc2_semantics.proofs.Soundness.{well_formed_are_sound}
 use Rattle.regalloc2_analysis.specs.declared.live_ranges.InstOperand.{InstOperand}
 use Rattle.regalloc2_analysis.specs.LiveRanges.LiveRanges.{IsReader, IsShownBy}

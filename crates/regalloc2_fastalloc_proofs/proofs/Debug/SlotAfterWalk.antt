@@ -7,16 +7,13 @@ use Rattle.regalloc2_names.specs.Place.{InSlot}
 use Rattle.regalloc2_function.specs.FunctionValue.{FunctionValue, inst_at}
 use Rattle.regalloc2_function.specs.Machine.{MachineValue}
 use Rattle.regalloc2_function.specs.OutputValue.{OutputValue}
-use Rattle.regalloc2_function.specs.Slots.{StandsInSlot}
-use Rattle.regalloc2_function.specs.Path.{Way, Onward, end_of, IsPath}
-use Rattle.regalloc2_function.specs.SourceRun.{IsWrittenFirst}
-use Rattle.regalloc2_function.specs.DebugPaths.{HoldsValue}
-use Rattle.regalloc2_function.specs.DebugPoints.{DefinesAt}
+use Rattle.regalloc2_semantics.specs.Places.{StandsInSlot}
+use Rattle.regalloc2_semantics.specs.Runs.{Way, Onward, end_of, IsPath, IsWrittenFirst}
+use Rattle.regalloc2_semantics.specs.Debug.{HoldsValue, DefinesAt}
 use Rattle.regalloc2_function.specs.WellFormed.{DefinedOnce, IsWellFormed}
 use Rattle.regalloc2_semantics.specs.Laws.{ReadsAgreeOnPaths}
-use Rattle.regalloc2_semantics.specs.Live.{IsLive, HasEntered}
-use Rattle.regalloc2_semantics.specs.Carry.{Undefined}
-use Rattle.regalloc2_semantics.proofs.SingleDef.{Made, one_made}
+use Rattle.regalloc2_semantics.specs.Live.{IsLive, HasEntered, Undefined}
+use Rattle.regalloc2_carry.proofs.SingleDef.{Made, one_made}
 use Rattle.regalloc2_fastalloc_state.specs.StateParts.{SlotsHaveOneOwner, slot_name}
 use Rattle.regalloc2_fastalloc_proofs.specs.InstSteps.{StateValue}
 use Rattle.regalloc2_fastalloc_proofs.proofs.Operands.AllocsSoFar.{AreSoundOperands}

@@ -3,28 +3,24 @@ use Rattle.regalloc2_parts.proofs.Resolving.{All-reversed}
 use Rattle.std.proofs.Common.{ℕ, ◌≡◌, ◌≢◌, ◌+◌, ◌<◌, ◌⊎◌, inl, inr, true, false, List, length, refl, sym, ap, ◌∙◌, subst, arith}
 use Rattle.std.specs.Prelude.{All, Option, Some, slice_index_or}
 use Rattle.regalloc2_names.specs.Register.{VirtualRegister, no_vreg}
-use Rattle.regalloc2_names.specs.Place.{Place, NoPlace, InRegister, InSlot, is_memory}
-use Rattle.regalloc2_names.specs.Point.{before}
-use Rattle.regalloc2_function.specs.FunctionValue.{FunctionValue, block_at, inst_at, no_operand, op_at}
+use Rattle.regalloc2_names.specs.Place.{Place, NoPlace, InRegister, InSlot, is_memory, before}
+use Rattle.regalloc2_function.specs.FunctionValue.{FunctionValue, block_at, inst_at, no_operand, op_at, last_of}
 use Rattle.regalloc2_function.specs.Fitting.{MachineFits}
 use Rattle.regalloc2_function.specs.Machine.{MachineValue}
 use Rattle.regalloc2_function.specs.OutputValue.{OutputValue, MoveValue, allocs_of, moves_before}
-use Rattle.regalloc2_function.specs.Path.{Way, end_of, IsPath}
-use Rattle.regalloc2_function.specs.SourceRun.{Stamp, IsWrittenFirst, source_before}
-use Rattle.regalloc2_function.specs.AllocatedRun.{Cells, after_moves, cells_before}
-use Rattle.regalloc2_function.specs.WellFormed.{last_of}
-use Rattle.regalloc2_semantics.specs.BlockByPoints.{at_point, listed}
-use Rattle.regalloc2_semantics.specs.Carry.{Undefined}
+use Rattle.regalloc2_semantics.specs.Runs.{Way, end_of, IsPath, Stamp, IsWrittenFirst, source_before, Cells, after_moves, cells_before}
+use Rattle.regalloc2_carry.specs.BlockByPoints.{at_point, listed}
+use Rattle.regalloc2_semantics.specs.Live.{Undefined, IsLive, HasEntered}
 use Rattle.regalloc2_semantics.specs.Laws.{ReadsAgreeOnPaths}
-use Rattle.regalloc2_semantics.specs.Live.{IsLive, HasEntered, LiveStandInPlaces}
-use Rattle.regalloc2_semantics.specs.Stores.{store_moves}
-use Rattle.regalloc2_semantics.proofs.LiveIn.{live_is_used}
-use Rattle.regalloc2_semantics.proofs.Order.{ends_before}
-use Rattle.regalloc2_semantics.proofs.Paths.{UsedSomewhere}
-use Rattle.regalloc2_semantics.proofs.Points.{moves_before-first}
-use Rattle.regalloc2_semantics.proofs.SingleDef.{Made, one_made}
-use Rattle.regalloc2_semantics.proofs.StoresInFront.{stores_there, stores_else, in_order, after_both}
-use Rattle.regalloc2_semantics.proofs.UnwrittenPlaces.{NoMoveTo, moves_kept}
+use Rattle.regalloc2_carry.specs.Live.{LiveStandInPlaces}
+use Rattle.regalloc2_carry.specs.Stores.{store_moves}
+use Rattle.regalloc2_carry.proofs.LiveIn.{live_is_used}
+use Rattle.regalloc2_carry.proofs.Order.{ends_before}
+use Rattle.regalloc2_carry.proofs.Paths.{UsedSomewhere}
+use Rattle.regalloc2_carry.proofs.Points.{moves_before-first}
+use Rattle.regalloc2_carry.proofs.SingleDef.{Made, one_made}
+use Rattle.regalloc2_carry.proofs.StoresInFront.{stores_there, stores_else, in_order, after_both}
+use Rattle.regalloc2_carry.proofs.UnwrittenPlaces.{NoMoveTo, moves_kept}
 use Rattle.regalloc2_analysis.specs.BranchDefs.BranchDefs.{IsUsedElsewhere}
 use Rattle.regalloc2_fastalloc_state.specs.StateParts.{SlotsHaveOneOwner, slot_name}
 use Rattle.regalloc2_fastalloc_proofs.specs.InstSteps.{StateValue}

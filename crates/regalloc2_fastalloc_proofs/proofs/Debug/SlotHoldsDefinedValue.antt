@@ -4,30 +4,28 @@ use Rattle.std.specs.Prelude.{slice_index_or}
 use Rattle.std.proofs.lemmas.List.{get_or_default}
 use Rattle.regalloc2_names.specs.Register.{VirtualRegister, no_vreg}
 use Rattle.regalloc2_names.specs.Operand.{OperandValue, is_def}
-use Rattle.regalloc2_names.specs.Place.{Place, InSlot}
-use Rattle.regalloc2_names.specs.Point.{before}
-use Rattle.regalloc2_function.specs.FunctionValue.{FunctionValue, IsLimited, block_at, inst_at, no_operand, op_at}
+use Rattle.regalloc2_names.specs.Place.{Place, InSlot, before}
+use Rattle.regalloc2_function.specs.FunctionValue.{FunctionValue, IsLimited, block_at, inst_at, no_operand, op_at, last_of}
 use Rattle.regalloc2_function.specs.Machine.{MachineValue}
 use Rattle.regalloc2_function.specs.OutputValue.{MoveValue, allocs_of}
-use Rattle.regalloc2_function.specs.Path.{Way, Onward, ToSuccessor, end_of, IsPath}
-use Rattle.regalloc2_function.specs.SourceRun.{IsWrittenFirst, arguments_at, source_before}
-use Rattle.regalloc2_function.specs.AllocatedRun.{Cells, cells_before}
-use Rattle.regalloc2_function.specs.DebugPoints.{DefinesAt}
-use Rattle.regalloc2_function.specs.WellFormed.{IsWellFormed, last_of}
-use Rattle.regalloc2_semantics.specs.Listing.{Item, exec_item}
-use Rattle.regalloc2_semantics.specs.Listing.Item.{Move}
-use Rattle.regalloc2_semantics.proofs.CarryRules.{carries_moves}
-use Rattle.regalloc2_semantics.proofs.PushedMoves.{before_part-more, walked-pushed}
-use Rattle.regalloc2_semantics.proofs.MoveInFront.{walked-more, with_moves-more, with_moves-none}
-use Rattle.regalloc2_semantics.specs.Carry.{Carries, Undefined}
-use Rattle.regalloc2_semantics.specs.BlockByPoints.{at_point, walked, before_part, Rising, listed}
-use Rattle.regalloc2_semantics.specs.Blocks.{target_at, HasSoundBlocks}
+use Rattle.regalloc2_semantics.specs.Runs.{Way, Onward, ToSuccessor, end_of, IsPath, IsWrittenFirst, arguments_at, source_before, Cells, cells_before}
+use Rattle.regalloc2_semantics.specs.Debug.{DefinesAt}
+use Rattle.regalloc2_function.specs.WellFormed.{IsWellFormed}
+use Rattle.regalloc2_carry.specs.Listing.{Item, exec_item}
+use Rattle.regalloc2_carry.specs.Listing.Item.{Move}
+use Rattle.regalloc2_carry.proofs.CarryRules.{carries_moves}
+use Rattle.regalloc2_carry.proofs.PushedMoves.{before_part-more, walked-pushed}
+use Rattle.regalloc2_carry.proofs.MoveInFront.{walked-more, with_moves-more, with_moves-none}
+use Rattle.regalloc2_carry.specs.Carry.{Carries}
+use Rattle.regalloc2_semantics.specs.Live.{Undefined, target_at}
+use Rattle.regalloc2_carry.specs.BlockByPoints.{at_point, walked, before_part, Rising, listed}
+use Rattle.regalloc2_semantics.specs.Sound.{HasSoundBlocks}
 use Rattle.regalloc2_semantics.specs.Laws.{ReadsAgreeOnPaths}
-use Rattle.regalloc2_semantics.proofs.SingleDef.{Made, one_operand, not_both, reads_defined}
-use Rattle.regalloc2_semantics.proofs.SingleDef as defined
-use Rattle.regalloc2_semantics.proofs.UnwrittenPlaces.{NoMoveTo, moves_kept}
-use Rattle.regalloc2_semantics.proofs.Order.{reads_later, passes_later}
-use Rattle.regalloc2_semantics.proofs.Points.{rising_by, moves_before-first}
+use Rattle.regalloc2_carry.proofs.SingleDef.{Made, one_operand, not_both, reads_defined}
+use Rattle.regalloc2_carry.proofs.SingleDef as defined
+use Rattle.regalloc2_carry.proofs.UnwrittenPlaces.{NoMoveTo, moves_kept}
+use Rattle.regalloc2_carry.proofs.Order.{reads_later, passes_later}
+use Rattle.regalloc2_carry.proofs.Points.{rising_by, moves_before-first}
 use Rattle.regalloc2_semantics.proofs.Soundness.{well_formed_are_sound}
 use Rattle.regalloc2_fastalloc_state.specs.StateParts.{SlotsHaveOneOwner, slot_name}
 use Rattle.regalloc2_fastalloc_proofs.specs.InstSteps.{AllocsInst}

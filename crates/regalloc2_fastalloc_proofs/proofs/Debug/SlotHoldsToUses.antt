@@ -4,13 +4,10 @@ use Rattle.regalloc2_names.specs.Register.{VirtualRegister}
 use Rattle.regalloc2_names.specs.Place.{Place}
 use Rattle.regalloc2_function.specs.FunctionValue.{FunctionValue, inst_at}
 use Rattle.regalloc2_function.specs.OutputValue.{OutputValue}
-use Rattle.regalloc2_function.specs.Path.{Way, Onward, ToSuccessor, end_of, IsPath}
-use Rattle.regalloc2_function.specs.SourceRun.{source_before}
-use Rattle.regalloc2_function.specs.DebugPaths.{IsGiven, GoesOn, there, further, HoldsValue}
-use Rattle.regalloc2_function.specs.DebugPoints.{UsesAt}
-use Rattle.regalloc2_semantics.specs.Carry.{Undefined}
+use Rattle.regalloc2_semantics.specs.Runs.{Way, Onward, ToSuccessor, end_of, IsPath, source_before}
+use Rattle.regalloc2_semantics.specs.Debug.{IsGiven, GoesOn, there, further, HoldsValue, UsesAt}
+use Rattle.regalloc2_semantics.specs.Live.{Undefined, IsLive, later, IsAside}
 use Rattle.regalloc2_semantics.specs.Laws.{ReadsAgreeOnPaths}
-use Rattle.regalloc2_semantics.specs.Live.{IsLive, later, IsAside}
 use Rattle.regalloc2_fastalloc_proofs.specs.Debug.SlotHoldsValue.{IsKeptInSlot, ShowsAt}
 use Rattle.regalloc2_fastalloc_proofs.proofs.Debug.PathStepLeaves.{source_on, cells_on, shows_after}
 

@@ -5,9 +5,9 @@ use Rattle.regalloc2_names.specs.Place.{InSlot}
 use Rattle.regalloc2_function.specs.FunctionValue.{FunctionValue}
 use Rattle.regalloc2_function.specs.Machine.{MachineValue}
 use Rattle.regalloc2_function.specs.OutputValue.{OutputValue}
-use Rattle.regalloc2_function.specs.SourceRun.{IsWrittenFirst}
+use Rattle.regalloc2_semantics.specs.Runs.{IsWrittenFirst}
 use Rattle.regalloc2_function.specs.WellFormed.{IsWellFormed}
-use Rattle.regalloc2_function.specs.DebugPaths.{HoldsValue}
+use Rattle.regalloc2_semantics.specs.Debug.{HoldsValue}
 use Rattle.regalloc2_semantics.specs.Laws.{ReadsAgreeOnPaths}
 use Rattle.regalloc2_fastalloc_proofs.specs.Debug.SlotWrites.{IsSlotOfValue}
 use Rattle.regalloc2_fastalloc_proofs.proofs.Debug.SlotHoldsToUses.{slot_holds}

@@ -5,16 +5,15 @@ use Rattle.regalloc2_names.specs.Register.{VirtualRegister, no_vreg}
 use Rattle.regalloc2_names.specs.Operand.{OperandValue, is_late}
 use Rattle.regalloc2_names.specs.Place.{Place, NoPlace, InRegister}
 use Rattle.regalloc2_function.specs.FunctionValue.{FunctionValue, block_at, inst_at, op_at}
-use Rattle.regalloc2_function.specs.SourceRun.{arguments_at}
-use Rattle.regalloc2_semantics.specs.Blocks.{target_at}
-use Rattle.regalloc2_semantics.specs.OperandsPlaced.{Counts}
+use Rattle.regalloc2_semantics.specs.Runs.{arguments_at}
+use Rattle.regalloc2_semantics.specs.Live.{target_at, IsEdgeInto}
+use Rattle.regalloc2_carry.specs.OperandsPlaced.{Counts}
 use Rattle.regalloc2_fastalloc_state.specs.StateParts.{VRegAllocsValue, SpillSlotsValue, SetsAlloc, GetsSpillSlot, alloc_of, vreg_of_preg, slot_name}
 use Rattle.regalloc2_fastalloc_state.specs.declared.inst_regs.InstRegs.{InstRegs}
 use Rattle.regalloc2_fastalloc_proofs.specs.InstSteps.{StateValue, FreesAlloc, ProcessesOperand, ProcessesOperandsAt}
 use Rattle.regalloc2_fastalloc_proofs.specs.StoreSteps.{IsConcerned}
 use Rattle.regalloc2_fastalloc_proofs.specs.BlockSteps.{AllocsInstInBlock, BeginsBlock}
 use Rattle.regalloc2_fastalloc_proofs.specs.Located.{Absent}
-use Rattle.regalloc2_analysis.specs.BranchDefs.BranchDefs.{IsEdgeInto}
 use Rattle.regalloc2_fastalloc_proofs.proofs.Evictions.PushedAndRemoved.{sets_alloc_empties}
 use Rattle.regalloc2_fastalloc_proofs.specs.Safety.{IsWhole}
 use Rattle.regalloc2_fastalloc_proofs.proofs.Safety.StepsKeepSafe.{settled_holder}

@@ -8,18 +8,15 @@ use Rattle.regalloc2_names.specs.Register.{VirtualRegister, is_vreg}
 use Rattle.regalloc2_names.specs.Operand.{OperandValue, is_reading}
 use Rattle.regalloc2_function.specs.FunctionValue.{FunctionValue, block_at, inst_at, no_operand, op_at}
 use Rattle.regalloc2_function.specs.Machine.{MachineValue}
-use Rattle.regalloc2_function.specs.Path.{Way, Onward, ToSuccessor, end_of, IsPath}
-use Rattle.regalloc2_function.specs.SourceRun.{IsWrittenFirst}
+use Rattle.regalloc2_semantics.specs.Runs.{Way, Onward, ToSuccessor, end_of, IsPath, IsWrittenFirst}
 use Rattle.regalloc2_function.specs.WellFormed.{IsWellFormed}
-use Rattle.regalloc2_function.specs.DebugPaths.{IsGiven}
-use Rattle.regalloc2_function.specs.DebugPoints.{UsesAt, ReadsAt, PassesAt}
-use Rattle.regalloc2_semantics.specs.Carry.{Undefined}
-use Rattle.regalloc2_semantics.specs.Blocks.{names, target_at, HasSoundBlocks}
-use Rattle.regalloc2_semantics.specs.Live.{IsLive, read_there, passed_there, IsAside}
+use Rattle.regalloc2_semantics.specs.Debug.{IsGiven, UsesAt, ReadsAt, PassesAt}
+use Rattle.regalloc2_semantics.specs.Live.{Undefined, names, target_at, IsLive, read_there, passed_there, IsAside}
+use Rattle.regalloc2_semantics.specs.Sound.{HasSoundBlocks}
 use Rattle.regalloc2_semantics.proofs.Cells.{is_vreg-true}
-use Rattle.regalloc2_semantics.proofs.SingleDef.{reads_defined}
-use Rattle.regalloc2_semantics.proofs.Order.{ends_within, stands_later, reads_later}
-use Rattle.regalloc2_semantics.proofs.Paths.{block_within}
+use Rattle.regalloc2_carry.proofs.SingleDef.{reads_defined}
+use Rattle.regalloc2_carry.proofs.Order.{ends_within, stands_later, reads_later}
+use Rattle.regalloc2_carry.proofs.Paths.{block_within}
 use Rattle.regalloc2_semantics.proofs.Soundness.{well_formed_are_sound}
 use Rattle.regalloc2_fastalloc_proofs.proofs.Debug.MovesLeaveSlot.{inside_block}
 use Rattle.regalloc2_fastalloc_proofs.proofs.Debug.SlotHoldsToUses.{StepsArePlain}

@@ -5,19 +5,17 @@ use Rattle.std.specs.Prelude.{None, Some, not, ◌&&◌, ◌||◌, slice_index_o
 use Rattle.std.proofs.lemmas.Bool.{cases_Bool, cases_eq}
 use Rattle.regalloc2_names.specs.declared.RegClass.{RegClass}
 use Rattle.regalloc2_names.specs.declared.OperandConstraint.TheVariants.{FixedReg, Reuse}
-use Rattle.regalloc2_names.specs.Register.{Register, VirtualRegister, class_code}
-use Rattle.regalloc2_names.specs.RegisterSet.{has_register}
+use Rattle.regalloc2_names.specs.Register.{Register, VirtualRegister, class_code, has_register}
 use Rattle.regalloc2_names.specs.Operand.{OperandValue, is_def, is_late, is_fixed_nonallocatable}
-use Rattle.regalloc2_names.specs.Place.{Place, InRegister}
-use Rattle.regalloc2_names.specs.Point.{after}
-use Rattle.regalloc2_semantics.specs.OperandsPlaced.{What, what_of, Share, read_first, written_after, Counts, Clear, Progress, Puts, at_begin}
+use Rattle.regalloc2_names.specs.Place.{Place, InRegister, after}
+use Rattle.regalloc2_carry.specs.OperandsPlaced.{What, what_of, Share, read_first, written_after, Counts, Clear, Progress, Puts, at_begin}
 use Rattle.regalloc2_fastalloc_state.specs.declared.inst_regs.InstRegs.{InstRegs}
 use Rattle.regalloc2_fastalloc_state.specs.declared.positions.Positions.{Positions}
 use Rattle.regalloc2_fastalloc_state.specs.Positions.{positions_of}
 use Rattle.regalloc2_function.specs.FunctionValue.{op_at}
-use Rattle.regalloc2_fastalloc_proofs.specs.InstSteps.{StateValue, SameMachine, AllocsScratchReg, dedicated_scratch, had, found, AddsMove, direct}
-use Rattle.regalloc2_fastalloc_proofs.specs.InstSteps.{through, EvictsPReg, empty, cleared, EvictsOtherVRegs, own, others, NeedsFixedReg}
-use Rattle.regalloc2_fastalloc_proofs.specs.InstSteps.{own as of_its_own, named as of_named, EvictsFixed, none_cleared, not_fixed, of_fixed, of_reuse}
+use Rattle.regalloc2_fastalloc_proofs.specs.InstSteps.{StateValue, SameMachine, AllocsScratchReg, dedicated_scratch, had, found, AddsMove, direct, through}
+use Rattle.regalloc2_fastalloc_proofs.specs.InstSteps.{EvictsPReg, empty, cleared, EvictsOtherVRegs, own, others, NeedsFixedReg, own as of_its_own}
+use Rattle.regalloc2_fastalloc_proofs.specs.InstSteps.{named as of_named, EvictsFixed, none_cleared, not_fixed, of_fixed, of_reuse}
 use Rattle.regalloc2_fastalloc_proofs.proofs.Safety.StepsKeepState.{place_in}
 use Rattle.regalloc2_fastalloc_proofs.proofs.Operands.RecordOverState.{stands_at, Located}
 use Rattle.regalloc2_fastalloc_proofs.proofs.Evictions.EvictVReg.{Kept, kept_all, kept_used}

@@ -3,18 +3,16 @@
 use Rattle.std.proofs.Common.{ℕ, ◌≡◌, ◌≢◌, Bool, true, false, List, refl, sym, ap, ◌∙◌, subst, inl, inr}
 use Rattle.std.specs.Prelude.{None, Some, not}
 use Rattle.std.proofs.lemmas.Bool.{cases_eq}
-use Rattle.regalloc2_names.specs.Register.{Register, VirtualRegister}
-use Rattle.regalloc2_names.specs.RegisterSet.{has_register}
-use Rattle.regalloc2_names.specs.Place.{Place, NoPlace, InRegister, InSlot}
-use Rattle.regalloc2_names.specs.Point.{after}
+use Rattle.regalloc2_names.specs.Register.{Register, VirtualRegister, has_register}
+use Rattle.regalloc2_names.specs.Place.{Place, NoPlace, InRegister, InSlot, after}
 use Rattle.regalloc2_function.specs.OutputValue.{MoveValue}
-use Rattle.regalloc2_semantics.specs.OperandsPlaced.{What, Progress}
+use Rattle.regalloc2_carry.specs.OperandsPlaced.{What, Progress}
 use Rattle.regalloc2_fastalloc_state.specs.declared.inst_regs.InstRegs.{InstRegs}
 use Rattle.regalloc2_fastalloc_proofs.specs.InstSteps.{StateValue, SameMachine, EvictsVReg, nobody, moved}
 use Rattle.regalloc2_fastalloc_proofs.specs.Safety.{IsWhole}
 use Rattle.regalloc2_fastalloc_proofs.proofs.Safety.StepsKeepState.{place_in, slot_in}
-use Rattle.regalloc2_fastalloc_proofs.proofs.Operands.RecordOverState.{stands_at, slots_at, opt_from, Located, OwesPlaces, Shifts, shifts, shift_whole, shift_stands}
-use Rattle.regalloc2_fastalloc_proofs.proofs.Operands.RecordOverState.{shift_owes}
+use Rattle.regalloc2_fastalloc_proofs.proofs.Operands.RecordOverState.{stands_at, slots_at, opt_from, Located, OwesPlaces, Shifts, shifts, shift_whole}
+use Rattle.regalloc2_fastalloc_proofs.proofs.Operands.RecordOverState.{shift_stands, shift_owes}
 use Rattle.regalloc2_fastalloc_proofs.proofs.Operands.BlockTail.{BlockTail}
 
 -- what is held at the two positions: registers that aren't free; slots always are

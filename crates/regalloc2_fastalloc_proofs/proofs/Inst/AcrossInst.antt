@@ -6,18 +6,17 @@ use Rattle.regalloc2_names.specs.declared.RegClass.{RegClass}
 use Rattle.regalloc2_names.specs.declared.sets.PRegSet.{PRegSet}
 use Rattle.regalloc2_names.specs.Register.{Register, VirtualRegister}
 use Rattle.regalloc2_names.specs.Operand.{OperandValue}
-use Rattle.regalloc2_names.specs.Place.{Place, NoPlace, InRegister, InSlot}
-use Rattle.regalloc2_names.specs.Point.{before, after}
-use Rattle.regalloc2_semantics.specs.Listing.Item.{Exec}
-use Rattle.regalloc2_semantics.specs.Carry.{is_clobbered}
-use Rattle.regalloc2_semantics.specs.BlockByPoints.{AllFrom, at_point, walked, after_part, listed}
-use Rattle.regalloc2_semantics.specs.Instruction.{Claims, Knows}
-use Rattle.regalloc2_semantics.specs.OperandsPlaced.{What, what_of, Need, Pending, Progress, Placed, Once, Counts, AreAllPlaced, at_begin}
-use Rattle.regalloc2_semantics.proofs.Points.{all_from-less}
-use Rattle.regalloc2_semantics.proofs.MoveInFront.{after_part-clean}
-use Rattle.regalloc2_semantics.proofs.RecordSteps.{step_new}
-use Rattle.regalloc2_semantics.proofs.InstCarries.{cross_all}
-use Rattle.regalloc2_semantics.proofs.BoundaryToBoundary.{begin_all}
+use Rattle.regalloc2_names.specs.Place.{Place, NoPlace, InRegister, InSlot, before, after}
+use Rattle.regalloc2_carry.specs.Listing.Item.{Exec}
+use Rattle.regalloc2_carry.specs.Carry.{is_clobbered}
+use Rattle.regalloc2_carry.specs.BlockByPoints.{AllFrom, at_point, walked, after_part, listed}
+use Rattle.regalloc2_carry.specs.Instruction.{Claims, Knows}
+use Rattle.regalloc2_carry.specs.OperandsPlaced.{What, what_of, Need, Pending, Progress, Placed, Once, Counts, AreAllPlaced, at_begin}
+use Rattle.regalloc2_carry.proofs.Points.{all_from-less}
+use Rattle.regalloc2_carry.proofs.MoveInFront.{after_part-clean}
+use Rattle.regalloc2_carry.proofs.RecordSteps.{step_new}
+use Rattle.regalloc2_carry.proofs.InstCarries.{cross_all}
+use Rattle.regalloc2_carry.proofs.BoundaryToBoundary.{begin_all}
 use Rattle.regalloc2_fastalloc_proofs.proofs.Operands.ClaimAndUse.{PlacesUse}
 use Rattle.regalloc2_fastalloc_state.specs.StateParts.{SpillSlotsValue, slot_name, units_of, IsSlotOrNone, SetsAlloc}
 use Rattle.regalloc2_fastalloc_proofs.specs.InstSteps.{StateValue}

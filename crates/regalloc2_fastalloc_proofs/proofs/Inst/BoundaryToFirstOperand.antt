@@ -5,18 +5,16 @@ use Rattle.std.proofs.lemmas.Bool.{cases_Bool, or_left, or_right}
 use Rattle.regalloc2_names.specs.declared.RegClass.{RegClass}
 use Rattle.regalloc2_names.specs.declared.RegClass.TheVariants.{Int, Float, Vector}
 use Rattle.regalloc2_names.specs.declared.sets.PRegSet.{PRegSet}
-use Rattle.regalloc2_names.specs.Register.{Register, VirtualRegister, class_code}
-use Rattle.regalloc2_names.specs.RegisterSet.{has_register, registers_of}
+use Rattle.regalloc2_names.specs.Register.{Register, VirtualRegister, class_code, has_register, registers_of}
 use Rattle.regalloc2_names.specs.Listed.{is_listed}
 use Rattle.regalloc2_names.specs.Operand.{OperandValue, is_def, is_late}
-use Rattle.regalloc2_names.specs.Place.{Place, NoPlace, InRegister, InSlot}
-use Rattle.regalloc2_names.specs.Point.{before, after}
+use Rattle.regalloc2_names.specs.Place.{Place, NoPlace, InRegister, InSlot, before, after}
 use Rattle.regalloc2_function.specs.FunctionValue.{InstValue, op_at}
-use Rattle.regalloc2_semantics.specs.Carry.{is_clobbered}
-use Rattle.regalloc2_semantics.specs.Instruction.{Claims}
-use Rattle.regalloc2_semantics.specs.BlockByPoints.{AllFrom, at_point, walked, listed}
-use Rattle.regalloc2_semantics.specs.OperandsPlaced.{What, what_of, Progress, Need}
-use Rattle.regalloc2_semantics.proofs.MoveInFront.{after_part-clean}
+use Rattle.regalloc2_carry.specs.Carry.{is_clobbered}
+use Rattle.regalloc2_carry.specs.Instruction.{Claims}
+use Rattle.regalloc2_carry.specs.BlockByPoints.{AllFrom, at_point, walked, listed}
+use Rattle.regalloc2_carry.specs.OperandsPlaced.{What, what_of, Progress, Need}
+use Rattle.regalloc2_carry.proofs.MoveInFront.{after_part-clean}
 use Rattle.regalloc2_fastalloc_state.specs.declared.inst_regs.InstRegs.{InstRegs}
 use Rattle.regalloc2_fastalloc_state.specs.declared.positions.Positions.{Positions}
 use Rattle.regalloc2_fastalloc_state.specs.Positions.{positions_of}

@@ -6,8 +6,8 @@ use Rattle.regalloc2_names.specs.Place.{Place}
 use Rattle.regalloc2_function.specs.FunctionValue.{FunctionValue, IsLimited, inst_at, no_inst}
 use Rattle.regalloc2_function.specs.Machine.{MachineValue}
 use Rattle.regalloc2_function.specs.WellFormed.{IsWellFormed, FixedAvoidClobbers}
-use Rattle.regalloc2_semantics.specs.Instruction.{Knows}
-use Rattle.regalloc2_semantics.proofs.SingleDef.{Made}
+use Rattle.regalloc2_carry.specs.Instruction.{Knows}
+use Rattle.regalloc2_carry.proofs.SingleDef.{Made}
 use Rattle.regalloc2_fastalloc_proofs.proofs.Operands.RecordOfInst.{Orderly}
 use Rattle.regalloc2_fastalloc_proofs.proofs.Operands.WellFormedInsts as well_formed
 use Rattle.regalloc2_fastalloc_proofs.proofs.Evictions.FixedAvoidClobbers as fixed

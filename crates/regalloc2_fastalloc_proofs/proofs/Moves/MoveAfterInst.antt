@@ -4,19 +4,17 @@ use Rattle.std.proofs.Common.{ℕ, ◌≡◌, ◌≢◌, ◌<◌, Bool, true, fa
 use Rattle.std.specs.Prelude.{Option, None, Some}
 use Rattle.std.proofs.lemmas.Bool.{cases_eq, and_parts}
 use Rattle.regalloc2_names.specs.declared.RegClass.{RegClass}
-use Rattle.regalloc2_names.specs.Register.{Register}
-use Rattle.regalloc2_names.specs.RegisterSet.{has_register}
+use Rattle.regalloc2_names.specs.Register.{Register, has_register}
 use Rattle.regalloc2_names.specs.Operand.{OperandValue}
-use Rattle.regalloc2_names.specs.Place.{Place, NoPlace, InRegister}
-use Rattle.regalloc2_names.specs.Point.{after}
+use Rattle.regalloc2_names.specs.Place.{Place, NoPlace, InRegister, after}
 use Rattle.regalloc2_function.specs.OutputValue.{MoveValue}
-use Rattle.regalloc2_semantics.specs.Listing.{Item}
-use Rattle.regalloc2_semantics.specs.Listing.Item.{Move}
-use Rattle.regalloc2_semantics.specs.Instruction.{Claims}
-use Rattle.regalloc2_semantics.specs.BlockByPoints.{after_part, listed}
-use Rattle.regalloc2_semantics.specs.OperandsPlaced.{what_of, Progress, Held, Counts, Need, located, in_slot, made}
-use Rattle.regalloc2_semantics.proofs.NeedsAcrossMoves.{claims_move, claims_by_two_moves}
-use Rattle.regalloc2_semantics.proofs.PushedMoves.{after_part-more}
+use Rattle.regalloc2_carry.specs.Listing.{Item}
+use Rattle.regalloc2_carry.specs.Listing.Item.{Move}
+use Rattle.regalloc2_carry.specs.Instruction.{Claims}
+use Rattle.regalloc2_carry.specs.BlockByPoints.{after_part, listed}
+use Rattle.regalloc2_carry.specs.OperandsPlaced.{what_of, Progress, Held, Counts, Need, located, in_slot, made}
+use Rattle.regalloc2_carry.proofs.NeedsAcrossMoves.{claims_move, claims_by_two_moves}
+use Rattle.regalloc2_carry.proofs.PushedMoves.{after_part-more}
 use Rattle.regalloc2_fastalloc_state.specs.declared.inst_regs.InstRegs.{InstRegs}
 use Rattle.regalloc2_fastalloc_proofs.specs.InstSteps.{StateValue, AddsMove, direct, through, is_stack_in, a_move}
 use Rattle.regalloc2_fastalloc_proofs.proofs.Safety.StepsKeepState.{place_in, slot_in, slot_no_register}

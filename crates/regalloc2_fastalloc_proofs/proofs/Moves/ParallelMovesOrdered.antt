@@ -1,6 +1,6 @@
 -- Parallel moves of one class, put in an order in which they can be run.
-use Rattle.std.proofs.Common.{ℕ, ◌≡◌, ◌≢◌, ◌+◌, ◌-◌, ◌*◌, ◌<◌, ◌≤◌, Bool, true, false, if◌then◌else◌, [], length, get_or, Option, None, Some}
-use Rattle.std.proofs.Common.{refl, sym, ap, ◌∙◌, subst, inl, inr, ◌⊎◌, ⊎_elim, arith}
+use Rattle.std.proofs.Common.{ℕ, ◌≡◌, ◌≢◌, ◌+◌, ◌-◌, ◌*◌, ◌<◌, ◌≤◌, Bool, true, false, if◌then◌else◌, [], length, get_or, Option, None, Some, refl, sym, ap}
+use Rattle.std.proofs.Common.{◌∙◌, subst, inl, inr, ◌⊎◌, ⊎_elim, arith}
 use Rattle.std.specs.Prelude.{Contains, IfSome, IfNone, ◌&&◌, not, slice_index_or}
 use Rattle.std.specs.Int.{next_multiple_of}
 use Rattle.std.specs.List.{All}
@@ -12,8 +12,7 @@ use Rattle.std.proofs.lemmas.List.Elements.{All-contains}
 use Rattle.regalloc2_index.proofs.Bools.{not_with_itself}
 use Rattle.regalloc2_names.specs.declared.RegClass.{RegClass}
 use Rattle.regalloc2_names.specs.declared.sets.PRegSet.{PRegSet}
-use Rattle.regalloc2_names.specs.RegisterSet.{has_register}
-use Rattle.regalloc2_names.specs.Register.{Register, class_code, is_register}
+use Rattle.regalloc2_names.specs.Register.{has_register, Register, class_code, is_register}
 use Rattle.regalloc2_names.specs.Place.{Place, NoPlace, InRegister, InSlot, is_no_place, is_memory}
 use Rattle.regalloc2_names.proofs.Bits.{class_code-lt}
 use Rattle.regalloc2_parts.specs.AtOnce.{Ends, ends, ends_of, own_names, in_turn, IsOfMoves}
@@ -22,8 +21,7 @@ use Rattle.regalloc2_fastalloc_state.specs.declared.inst_regs.InstRegs.{InstRegs
 use Rattle.regalloc2_parts.specs.declared.scratch_pool.ScratchPair.{ScratchPair}
 use Rattle.regalloc2_parts.specs.declared.scratch_pool.ScratchPool.{ScratchPool}
 use Rattle.regalloc2_fastalloc_state.specs.StateParts.{SpillSlotsValue, AllocatableRegsValue, IsLeastRecentIn, SlotsHaveOneOwner, AddsTempSlots, later_end}
-use Rattle.regalloc2_fastalloc_state.specs.StateParts.{later_slot, units_of, owners}
-use Rattle.regalloc2_fastalloc_state.specs.StateParts.{most_units}
+use Rattle.regalloc2_fastalloc_state.specs.StateParts.{later_slot, units_of, owners, most_units}
 use Rattle.regalloc2_fastalloc_state.specs.OutOfResources.{SlotsExhaustedWith}
 use Rattle.regalloc2_fastalloc_state.specs.InstRegs.{IsAvailableAt}
 use Rattle.regalloc2_fastalloc_state.specs.Positions.{both_positions}
@@ -32,7 +30,7 @@ use Rattle.regalloc2_fastalloc_state.specs.ScratchPool.{Moves, IsOfScratchPair, 
 use Rattle.regalloc2_fastalloc_proofs.specs.BranchSteps.{AreNextTempSlots, MayBeScratch, IsScratchRegFor, RegsAvoidStack, IsSlotBelow, AreBetweenSlots}
 use Rattle.regalloc2_fastalloc_proofs.specs.BranchSteps.{IsScratchPlace, IsScratchUsed, IsOrdered, OrdersMoves}
 use Rattle.regalloc2_semantics.proofs.Cells.{is_register-same}
-use Rattle.regalloc2_semantics.proofs.Plain.{end_near}
+use Rattle.regalloc2_carry.proofs.Plain.{end_near}
 
 -- a slot is named by one of its units
 named_within : (b : Bool) (start size : ℕ) → 0 < size → (start ≤ (if b then start + size - 1 else start))

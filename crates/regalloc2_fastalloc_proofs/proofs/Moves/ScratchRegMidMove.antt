@@ -6,23 +6,22 @@ use Rattle.std.proofs.lemmas.Bool.{cases_eq, ne_eqb}
 use Rattle.std.proofs.lemmas.List.{append_assoc}
 use Rattle.regalloc2_names.specs.declared.RegClass.{RegClass}
 use Rattle.regalloc2_names.specs.Register.{Register, VirtualRegister}
-use Rattle.regalloc2_names.specs.Place.{Place, InRegister}
-use Rattle.regalloc2_names.specs.Point.{after}
+use Rattle.regalloc2_names.specs.Place.{Place, InRegister, after}
 use Rattle.regalloc2_function.specs.OutputValue.{MoveValue}
-use Rattle.regalloc2_semantics.specs.Listing.{Item}
-use Rattle.regalloc2_semantics.specs.Listing.Item.{Move}
-use Rattle.regalloc2_semantics.specs.BlockByPoints.{AllFrom, after_part, listed}
-use Rattle.regalloc2_semantics.specs.Instruction.{Claims}
-use Rattle.regalloc2_semantics.specs.OperandsPlaced.{What, Progress, GoesToSlot, Need, located, in_slot, made, Held}
-use Rattle.regalloc2_semantics.proofs.BoundaryToBoundary.{FreeAt, scratch_idle}
-use Rattle.regalloc2_semantics.proofs.PushedMoves.{after_part-more}
-use Rattle.regalloc2_semantics.proofs.NeedsAcrossMoves.{need_evict, need_slot, claims_weaken}
+use Rattle.regalloc2_carry.specs.Listing.{Item}
+use Rattle.regalloc2_carry.specs.Listing.Item.{Move}
+use Rattle.regalloc2_carry.specs.BlockByPoints.{AllFrom, after_part, listed}
+use Rattle.regalloc2_carry.specs.Instruction.{Claims}
+use Rattle.regalloc2_carry.specs.OperandsPlaced.{What, Progress, GoesToSlot, Need, located, in_slot, made, Held}
+use Rattle.regalloc2_carry.proofs.BoundaryToBoundary.{FreeAt, scratch_idle}
+use Rattle.regalloc2_carry.proofs.PushedMoves.{after_part-more}
+use Rattle.regalloc2_carry.proofs.NeedsAcrossMoves.{need_evict, need_slot, claims_weaken}
 use Rattle.regalloc2_fastalloc_state.specs.declared.inst_regs.InstRegs.{InstRegs}
 use Rattle.regalloc2_fastalloc_proofs.specs.InstSteps.{StateValue, EvictsVReg, nobody, moved, AllocsScratchReg, dedicated_scratch, had, found, a_move}
 use Rattle.regalloc2_fastalloc_proofs.specs.Safety.{IsWhole}
 use Rattle.regalloc2_fastalloc_proofs.proofs.Safety.StepsKeepState.{place_in}
-use Rattle.regalloc2_fastalloc_proofs.proofs.Operands.RecordOverState.{stands_at, slots_at, opt_from, Located, OwesPlaces, Shifts, shifts, shift_whole, shift_stands}
-use Rattle.regalloc2_fastalloc_proofs.proofs.Operands.RecordOverState.{later_push}
+use Rattle.regalloc2_fastalloc_proofs.proofs.Operands.RecordOverState.{stands_at, slots_at, opt_from, Located, OwesPlaces, Shifts, shifts, shift_whole}
+use Rattle.regalloc2_fastalloc_proofs.proofs.Operands.RecordOverState.{shift_stands, later_push}
 use Rattle.regalloc2_fastalloc_proofs.proofs.Evictions.EvictVReg.{held_early, held_late, Kept, kept_all, shift_kept}
 use Rattle.regalloc2_fastalloc_proofs.proofs.Moves.ScratchRegTaken.{IsIdle, IsScratch, of_machine, taken, less_early, less_late, held_keeps, free_unclaimed}
 use Rattle.regalloc2_fastalloc_proofs.proofs.Operands.BlockTail.{BlockTail}

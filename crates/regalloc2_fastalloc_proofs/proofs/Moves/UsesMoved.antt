@@ -5,31 +5,29 @@ use Rattle.std.specs.Prelude.{Option, None, Some, not}
 use Rattle.std.proofs.lemmas.Bool.{and_parts, not-false}
 use Rattle.std.proofs.lemmas.List.{append_assoc}
 use Rattle.regalloc2_names.specs.declared.RegClass.{RegClass}
-use Rattle.regalloc2_names.specs.Register.{Register}
-use Rattle.regalloc2_names.specs.RegisterSet.{has_register}
-use Rattle.regalloc2_names.specs.Place.{Place, InRegister, is_place}
+use Rattle.regalloc2_names.specs.Register.{Register, has_register}
+use Rattle.regalloc2_names.specs.Place.{Place, InRegister, is_place, before}
 use Rattle.regalloc2_names.specs.Operand.{OperandValue, is_def, is_reading}
-use Rattle.regalloc2_names.specs.Point.{before}
 use Rattle.regalloc2_function.specs.OutputValue.{MoveValue}
-use Rattle.regalloc2_semantics.specs.Listing.{Item}
-use Rattle.regalloc2_semantics.specs.Listing.Item.{Move}
-use Rattle.regalloc2_semantics.specs.BlockByPoints.{AllFrom, before_part, listed}
-use Rattle.regalloc2_semantics.specs.Instruction.{Claims}
-use Rattle.regalloc2_semantics.specs.OperandsPlaced.{What, what_of, Progress, IsMoved, AreAllPlaced, Pending, still, slotted, used, Counts, Held}
+use Rattle.regalloc2_carry.specs.Listing.{Item}
+use Rattle.regalloc2_carry.specs.Listing.Item.{Move}
+use Rattle.regalloc2_carry.specs.BlockByPoints.{AllFrom, before_part, listed}
+use Rattle.regalloc2_carry.specs.Instruction.{Claims}
+use Rattle.regalloc2_carry.specs.OperandsPlaced.{What, what_of, Progress, IsMoved, AreAllPlaced, Pending, still, slotted, used, Counts, Held}
 use Rattle.regalloc2_semantics.proofs.Cells.{is_place-true}
-use Rattle.regalloc2_semantics.proofs.PushedMoves.{before_part-more}
-use Rattle.regalloc2_semantics.proofs.SharedPlace.{share_uses}
-use Rattle.regalloc2_semantics.proofs.Operands.{reads_use}
-use Rattle.regalloc2_semantics.proofs.NeedsAcrossMoves.{pend_move, pending_by_two_moves, pend_stay, pend_pass, pend_evict, pend_slot}
-use Rattle.regalloc2_semantics.proofs.BoundaryToBoundary.{FreeAt, scratch_idle}
+use Rattle.regalloc2_carry.proofs.PushedMoves.{before_part-more}
+use Rattle.regalloc2_carry.proofs.SharedPlace.{share_uses}
+use Rattle.regalloc2_carry.proofs.Operands.{reads_use}
+use Rattle.regalloc2_carry.proofs.NeedsAcrossMoves.{pend_move, pending_by_two_moves, pend_stay, pend_pass, pend_evict, pend_slot}
+use Rattle.regalloc2_carry.proofs.BoundaryToBoundary.{FreeAt, scratch_idle}
 use Rattle.regalloc2_fastalloc_state.specs.declared.inst_regs.InstRegs.{InstRegs}
 use Rattle.regalloc2_function.specs.FunctionValue.{op_at}
 use Rattle.regalloc2_fastalloc_proofs.specs.InstSteps.{StateValue, is_stack_in, EvictsVReg, nobody, moved, AllocsScratchReg, dedicated_scratch, had, a_move}
 use Rattle.regalloc2_fastalloc_proofs.specs.InstSteps.{found, direct, through, AddsMoveIf, sent, unsent, MovesUses, none_moved, not_moved, one_moved}
 use Rattle.regalloc2_fastalloc_proofs.specs.Safety.{IsWhole}
 use Rattle.regalloc2_fastalloc_proofs.proofs.Safety.StepsKeepState.{place_in, slot_in, slot_no_register}
-use Rattle.regalloc2_fastalloc_proofs.proofs.Operands.RecordOverState.{stands_at, slots_at, opt, opt_from, Located, Shifts, shifts}
-use Rattle.regalloc2_fastalloc_proofs.proofs.Operands.RecordOverState.{shift_whole, shift_stands, shift_goes, later_push, stands_edits}
+use Rattle.regalloc2_fastalloc_proofs.proofs.Operands.RecordOverState.{stands_at, slots_at, opt, opt_from, Located, Shifts, shifts, shift_whole, shift_stands}
+use Rattle.regalloc2_fastalloc_proofs.proofs.Operands.RecordOverState.{shift_goes, later_push, stands_edits}
 use Rattle.regalloc2_fastalloc_proofs.proofs.Evictions.EvictVReg.{held_early, held_late, Kept, kept_all, kept_edits, shift_kept}
 use Rattle.regalloc2_fastalloc_proofs.proofs.Moves.ScratchRegTaken.{IsIdle, IsScratch, of_machine, taken, less_early, less_late, held_keeps, fit_same}
 use Rattle.regalloc2_fastalloc_proofs.proofs.Moves.ScratchRegTaken.{free_unclaimed, Fit, Spare, spare_same, spare_kept, spare_more, scratch_off}

@@ -4,7 +4,7 @@ use Rattle.std.proofs.Common.{ℕ, ◌≡◌, ◌+◌, ◌<◌, ◌≤◌, Bool,
 use Rattle.std.specs.Prelude.{slice_set}
 use Rattle.regalloc2_names.specs.Operand.{is_late, is_fixed_nonallocatable}
 use Rattle.regalloc2_names.specs.Place.{Place, InRegister}
-use Rattle.regalloc2_semantics.specs.OperandsPlaced.{Counts}
+use Rattle.regalloc2_carry.specs.OperandsPlaced.{Counts}
 use Rattle.regalloc2_fastalloc_state.specs.declared.inst_regs.InstRegs.{InstRegs}
 use Rattle.regalloc2_function.specs.FunctionValue.{op_at}
 use Rattle.regalloc2_fastalloc_proofs.specs.InstSteps.{StateValue, ProcessesOperand, a_register, a_use, a_def, a_reuse, ProcessesOperandsAt, none_placed}

@@ -4,17 +4,15 @@ use Rattle.std.proofs.Common.{ℕ, ◌≡◌, ◌≢◌, ◌<◌, Bool, true, fa
 use Rattle.std.specs.Prelude.{None, Some, not, slice_index_or}
 use Rattle.std.proofs.lemmas.Bool.{cases_Bool, cases_eq, ne_eqb}
 use Rattle.regalloc2_names.specs.declared.RegClass.{RegClass}
-use Rattle.regalloc2_names.specs.Register.{Register, VirtualRegister, class_code}
-use Rattle.regalloc2_names.specs.RegisterSet.{has_register}
+use Rattle.regalloc2_names.specs.Register.{Register, VirtualRegister, class_code, has_register}
 use Rattle.regalloc2_names.specs.Operand.{OperandValue, is_def, is_late}
-use Rattle.regalloc2_names.specs.Place.{Place, InRegister, InSlot}
-use Rattle.regalloc2_names.specs.Point.{after}
-use Rattle.regalloc2_semantics.specs.BlockByPoints.{AllFrom, after_part, listed}
-use Rattle.regalloc2_semantics.specs.OperandsPlaced.{what_of, Counts, Progress, Once, Clear, Puts, Need, located, in_slot as needed, made}
-use Rattle.regalloc2_semantics.specs.Instruction.{Claims}
-use Rattle.regalloc2_semantics.proofs.BoundaryToBoundary.{Covers, FreeAt, free_of}
-use Rattle.regalloc2_semantics.proofs.AllowedPlaces.{clear_free, clear_kept_use, clear_kept_def, evictable}
-use Rattle.regalloc2_semantics.proofs.NeedsAcrossMoves.{claims_weaken}
+use Rattle.regalloc2_names.specs.Place.{Place, InRegister, InSlot, after}
+use Rattle.regalloc2_carry.specs.BlockByPoints.{AllFrom, after_part, listed}
+use Rattle.regalloc2_carry.specs.OperandsPlaced.{what_of, Counts, Progress, Once, Clear, Puts, Need, located, in_slot as needed, made}
+use Rattle.regalloc2_carry.specs.Instruction.{Claims}
+use Rattle.regalloc2_carry.proofs.BoundaryToBoundary.{Covers, FreeAt, free_of}
+use Rattle.regalloc2_carry.proofs.AllowedPlaces.{clear_free, clear_kept_use, clear_kept_def, evictable}
+use Rattle.regalloc2_carry.proofs.NeedsAcrossMoves.{claims_weaken}
 use Rattle.regalloc2_fastalloc_state.specs.declared.inst_regs.InstRegs.{InstRegs}
 use Rattle.regalloc2_fastalloc_state.specs.declared.request.Requirement.{Requirement}
 use Rattle.regalloc2_fastalloc_state.specs.declared.request.Requirement.TheVariants.{AnyPlace, AnyReg, InMemory, InPReg}

@@ -4,9 +4,9 @@ use Rattle.std.specs.Prelude.{Option, Some, not, ◌||◌}
 use Rattle.std.proofs.lemmas.Bool.{cases_Bool, cases_eq}
 use Rattle.regalloc2_names.specs.Register.{Register}
 use Rattle.regalloc2_names.specs.Place.{Place, NoPlace, InRegister, InSlot}
-use Rattle.regalloc2_semantics.specs.OperandsPlaced.{What, uses, Progress, Placed, Once, Clear, Puts, Places}
-use Rattle.regalloc2_semantics.proofs.BoundaryToBoundary.{Covers}
-use Rattle.regalloc2_semantics.proofs.RecordSteps.{step_claim, step_use}
+use Rattle.regalloc2_carry.specs.OperandsPlaced.{What, uses, Progress, Placed, Once, Clear, Puts, Places}
+use Rattle.regalloc2_carry.proofs.BoundaryToBoundary.{Covers}
+use Rattle.regalloc2_carry.proofs.RecordSteps.{step_claim, step_use}
 use Rattle.regalloc2_fastalloc_proofs.specs.InstSteps.{StateValue}
 use Rattle.regalloc2_fastalloc_proofs.proofs.Safety.StepsKeepState.{place_in, slot_in, slot_no_register}
 use Rattle.regalloc2_fastalloc_proofs.proofs.Operands.RecordOverState.{opt, opt_some, opt_from, stands_at, slots_at, slot_below, Located}

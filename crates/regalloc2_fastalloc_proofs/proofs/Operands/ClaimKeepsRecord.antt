@@ -3,12 +3,11 @@ use Rattle.std.proofs.Common.{ℕ, ◌≡◌, ◌≢◌, ◌<◌, Bool, true, fa
 use Rattle.std.specs.Prelude.{None, Some, not, ◌&&◌, slice_index_or}
 use Rattle.std.proofs.lemmas.Bool.{cases_eq}
 use Rattle.regalloc2_names.specs.declared.RegClass.{RegClass}
-use Rattle.regalloc2_names.specs.Register.{Register, class_code, is_register}
-use Rattle.regalloc2_names.specs.RegisterSet.{has_register}
+use Rattle.regalloc2_names.specs.Register.{Register, class_code, is_register, has_register}
 use Rattle.regalloc2_names.specs.Operand.{OperandValue}
 use Rattle.regalloc2_names.specs.Place.{Place, NoPlace, InRegister, InSlot}
-use Rattle.regalloc2_semantics.specs.OperandsPlaced.{what_of, Counts, Progress, Puts}
-use Rattle.regalloc2_semantics.proofs.BoundaryToBoundary.{Covers, IsHeldAsAsked as Keeps, held_more}
+use Rattle.regalloc2_carry.specs.OperandsPlaced.{what_of, Counts, Progress, Puts}
+use Rattle.regalloc2_carry.proofs.BoundaryToBoundary.{Covers, IsHeldAsAsked as Keeps, held_more}
 use Rattle.regalloc2_semantics.proofs.Cells.{is_register-same}
 use Rattle.regalloc2_fastalloc_state.specs.declared.inst_regs.InstRegs.{InstRegs}
 use Rattle.regalloc2_fastalloc_state.specs.declared.positions.Positions.{Positions}

@@ -3,15 +3,13 @@
 use Rattle.std.proofs.Common.{ℕ, ◌≡◌, ◌≢◌, Bool, true, false, List, refl, sym, ap, ◌∙◌, subst, inl, inr, ◌⊎◌, ⊎_elim}
 use Rattle.std.specs.Prelude.{None, Some, not, ◌&&◌}
 use Rattle.std.proofs.lemmas.Bool.{cases_Bool, cases_eq, and_parts, not-true}
-use Rattle.regalloc2_names.specs.Register.{Register, VirtualRegister}
-use Rattle.regalloc2_names.specs.RegisterSet.{has_register}
+use Rattle.regalloc2_names.specs.Register.{Register, VirtualRegister, has_register}
 use Rattle.regalloc2_names.specs.Operand.{OperandValue}
-use Rattle.regalloc2_names.specs.Place.{Place, NoPlace, InRegister, InSlot, is_place}
-use Rattle.regalloc2_names.specs.Point.{after}
-use Rattle.regalloc2_semantics.specs.BlockByPoints.{AllFrom, after_part, listed}
-use Rattle.regalloc2_semantics.specs.OperandsPlaced.{what_of, Counts, Progress, Need, located, in_slot, made}
+use Rattle.regalloc2_names.specs.Place.{Place, NoPlace, InRegister, InSlot, is_place, after}
+use Rattle.regalloc2_carry.specs.BlockByPoints.{AllFrom, after_part, listed}
+use Rattle.regalloc2_carry.specs.OperandsPlaced.{what_of, Counts, Progress, Need, located, in_slot, made}
 use Rattle.regalloc2_semantics.proofs.Cells.{cases_place, is_place-same, is_place-other}
-use Rattle.regalloc2_semantics.proofs.NeedsAcrossMoves.{claims_weaken}
+use Rattle.regalloc2_carry.proofs.NeedsAcrossMoves.{claims_weaken}
 use Rattle.regalloc2_fastalloc_state.specs.declared.inst_regs.InstRegs.{InstRegs}
 use Rattle.regalloc2_fastalloc_state.specs.StateParts.{SpillSlotsValue, slot_name, IsSlotOrNone, SetsAlloc}
 use Rattle.regalloc2_function.specs.FunctionValue.{op_at}

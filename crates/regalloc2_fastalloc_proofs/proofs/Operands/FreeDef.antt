@@ -4,8 +4,8 @@ use Rattle.std.specs.Prelude.{Option, None, Some}
 use Rattle.std.proofs.lemmas.Bool.{cases_Bool, cases_eq}
 use Rattle.regalloc2_names.specs.Register.{VirtualRegister}
 use Rattle.regalloc2_names.specs.Place.{Place, NoPlace, InSlot}
-use Rattle.regalloc2_semantics.specs.OperandsPlaced.{What, Progress, Placed, Once, Places, PlacesDefinition}
-use Rattle.regalloc2_semantics.proofs.RecordSteps.{step_def}
+use Rattle.regalloc2_carry.specs.OperandsPlaced.{What, Progress, Placed, Once, Places, PlacesDefinition}
+use Rattle.regalloc2_carry.proofs.RecordSteps.{step_def}
 use Rattle.regalloc2_fastalloc_state.specs.StateParts.{SpillSlotsValue, slot_name, units_of, IsSlotOrNone, SetsAlloc}
 use Rattle.regalloc2_fastalloc_proofs.specs.InstSteps.{StateValue}
 use Rattle.regalloc2_fastalloc_proofs.specs.Safety.{IsWhole}

@@ -5,9 +5,8 @@ use Rattle.std.proofs.lemmas.Bool.{and_right}
 use Rattle.regalloc2_names.specs.declared.OperandConstraint.{OperandConstraint}
 use Rattle.regalloc2_names.specs.declared.OperandConstraint.TheVariants.{FixedReg, Reuse}
 use Rattle.regalloc2_names.specs.Register.{Register, VirtualRegister}
-use Rattle.regalloc2_names.specs.Place.{Place, NoPlace, InRegister, InSlot}
+use Rattle.regalloc2_names.specs.Place.{Place, NoPlace, InRegister, InSlot, after}
 use Rattle.regalloc2_names.specs.Operand.{OperandValue, fixed_register, nonallocatable_register, is_def, is_fixed, is_fixed_nonallocatable, is_reading}
-use Rattle.regalloc2_names.specs.Point.{after}
 use Rattle.regalloc2_fastalloc_state.specs.declared.inst_regs.InstRegs.{InstRegs}
 use Rattle.regalloc2_fastalloc_state.specs.declared.request.OperandRequest.{OperandRequest}
 use Rattle.regalloc2_function.specs.FunctionValue.{op_at}

@@ -2,16 +2,14 @@
 use Rattle.std.proofs.Common.{ℕ, ◌≡◌, ◌≢◌, Bool, true, false, cond, List, refl, sym, ap, ◌∙◌, subst, inl, inr, ◌⊎◌, ⊎_elim, nat_eq, eq-eqb}
 use Rattle.std.specs.Prelude.{None, ◌&&◌}
 use Rattle.std.proofs.lemmas.Bool.{cases_Bool, cases_eq, eqb-true}
-use Rattle.regalloc2_names.specs.Register.{VirtualRegister}
-use Rattle.regalloc2_names.specs.RegisterSet.{has_register}
+use Rattle.regalloc2_names.specs.Register.{VirtualRegister, has_register}
 use Rattle.regalloc2_names.specs.Operand.{OperandValue, is_def}
-use Rattle.regalloc2_names.specs.Place.{Place, NoPlace, InRegister, InSlot, is_place}
-use Rattle.regalloc2_names.specs.Point.{after}
-use Rattle.regalloc2_semantics.specs.Instruction.{Claims}
-use Rattle.regalloc2_semantics.specs.BlockByPoints.{AllFrom, after_part, listed}
-use Rattle.regalloc2_semantics.specs.OperandsPlaced.{what_of, Counts, Progress, Once, Need, Places, PlacesDefinition}
+use Rattle.regalloc2_names.specs.Place.{Place, NoPlace, InRegister, InSlot, is_place, after}
+use Rattle.regalloc2_carry.specs.Instruction.{Claims}
+use Rattle.regalloc2_carry.specs.BlockByPoints.{AllFrom, after_part, listed}
+use Rattle.regalloc2_carry.specs.OperandsPlaced.{what_of, Counts, Progress, Once, Need, Places, PlacesDefinition}
 use Rattle.regalloc2_semantics.proofs.Cells.{is_place-same, is_place-true}
-use Rattle.regalloc2_semantics.proofs.NeedsAcrossMoves.{need_new}
+use Rattle.regalloc2_carry.proofs.NeedsAcrossMoves.{need_new}
 use Rattle.regalloc2_fastalloc_state.specs.declared.inst_regs.InstRegs.{InstRegs}
 use Rattle.regalloc2_fastalloc_state.specs.StateParts.{SpillSlotsValue, slot_name, SetsAlloc}
 use Rattle.regalloc2_function.specs.FunctionValue.{op_at}

@@ -2,13 +2,12 @@
 use Rattle.std.proofs.Common.{ℕ, ◌≡◌, ◌≢◌, ◌<◌, Bool, true, false, List, length, ◌⊎◌}
 use Rattle.std.specs.Prelude.{slice_index_or}
 use Rattle.regalloc2_names.specs.declared.OperandConstraint.TheVariants.{Reg, FixedReg, Reuse}
-use Rattle.regalloc2_names.specs.Register.{Register}
-use Rattle.regalloc2_names.specs.RegisterSet.{has_register}
+use Rattle.regalloc2_names.specs.Register.{Register, has_register}
 use Rattle.regalloc2_names.specs.Operand.{OperandValue, is_def, is_late, is_reading, is_fixed_nonallocatable}
 use Rattle.regalloc2_names.specs.Place.{Place, NoPlace, InRegister}
-use Rattle.regalloc2_semantics.specs.Instruction.{Claims}
-use Rattle.regalloc2_semantics.specs.BlockByPoints.{after_part, listed}
-use Rattle.regalloc2_semantics.specs.OperandsPlaced.{what_of, Progress, Held, Once, Counts}
+use Rattle.regalloc2_carry.specs.Instruction.{Claims}
+use Rattle.regalloc2_carry.specs.BlockByPoints.{after_part, listed}
+use Rattle.regalloc2_carry.specs.OperandsPlaced.{what_of, Progress, Held, Once, Counts}
 use Rattle.regalloc2_fastalloc_state.specs.declared.inst_regs.InstRegs.{InstRegs}
 use Rattle.regalloc2_function.specs.FunctionValue.{op_at}
 use Rattle.regalloc2_fastalloc_proofs.specs.InstSteps.{StateValue}

@@ -3,17 +3,16 @@ use Rattle.std.proofs.Common.{ℕ, ◌≡◌, ◌≢◌, ◌<◌, ◌≤◌, Boo
 use Rattle.std.specs.Prelude.{Option, None, Some}
 use Rattle.std.proofs.lemmas.Bool.{cases_eq}
 use Rattle.regalloc2_names.specs.Register.{Register, VirtualRegister}
-use Rattle.regalloc2_names.specs.Place.{Place, NoPlace, InRegister, InSlot, is_place}
-use Rattle.regalloc2_names.specs.Point.{after}
+use Rattle.regalloc2_names.specs.Place.{Place, NoPlace, InRegister, InSlot, is_place, after}
 use Rattle.regalloc2_function.specs.OutputValue.{MoveValue}
-use Rattle.regalloc2_semantics.specs.Listing.{Item}
-use Rattle.regalloc2_semantics.specs.Listing.Item.{Move}
-use Rattle.regalloc2_semantics.specs.BlockByPoints.{AllFrom, after_part, listed}
-use Rattle.regalloc2_semantics.specs.Instruction.{Claims}
-use Rattle.regalloc2_semantics.specs.OperandsPlaced.{What, Need, Progress, Placed, GoesToSlot}
-use Rattle.regalloc2_semantics.proofs.PushedMoves.{listed-push, after_part-more}
-use Rattle.regalloc2_semantics.proofs.RecordSteps.{step_slot, step_evict}
-use Rattle.regalloc2_semantics.proofs.NeedsAcrossMoves.{need_evict, need_slot}
+use Rattle.regalloc2_carry.specs.Listing.{Item}
+use Rattle.regalloc2_carry.specs.Listing.Item.{Move}
+use Rattle.regalloc2_carry.specs.BlockByPoints.{AllFrom, after_part, listed}
+use Rattle.regalloc2_carry.specs.Instruction.{Claims}
+use Rattle.regalloc2_carry.specs.OperandsPlaced.{What, Need, Progress, Placed, GoesToSlot}
+use Rattle.regalloc2_carry.proofs.PushedMoves.{listed-push, after_part-more}
+use Rattle.regalloc2_carry.proofs.RecordSteps.{step_slot, step_evict}
+use Rattle.regalloc2_carry.proofs.NeedsAcrossMoves.{need_evict, need_slot}
 use Rattle.regalloc2_fastalloc_state.specs.StateParts.{VRegAllocsValue, SpillSlotsValue, alloc_of, vreg_of_preg, slot_name, IsSlotOrNone, SetsAlloc}
 use Rattle.regalloc2_fastalloc_state.specs.StateParts.{GetsSpillSlot}
 use Rattle.regalloc2_fastalloc_proofs.specs.InstSteps.{StateValue, a_move}

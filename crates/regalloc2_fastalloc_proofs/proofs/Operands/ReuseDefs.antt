@@ -6,23 +6,21 @@ use Rattle.std.proofs.lemmas.Bool.{cases_Bool, cases_eq}
 use Rattle.std.proofs.lemmas.List.{get_or-set_same, get_or-set_other, length-set}
 use Rattle.regalloc2_names.specs.declared.OperandConstraint.TheVariants.{Reg, FixedReg, Reuse}
 use Rattle.regalloc2_names.specs.declared.RegClass.{RegClass}
-use Rattle.regalloc2_names.specs.Register.{Register, VirtualRegister, is_register}
-use Rattle.regalloc2_names.specs.RegisterSet.{has_register}
+use Rattle.regalloc2_names.specs.Register.{Register, VirtualRegister, is_register, has_register}
 use Rattle.regalloc2_names.specs.Operand.{is_def, is_late}
-use Rattle.regalloc2_names.specs.Place.{Place, NoPlace, InRegister, InSlot}
-use Rattle.regalloc2_names.specs.Point.{after}
-use Rattle.regalloc2_semantics.specs.OperandsPlaced.{what_of, Progress, Puts, Counts, Clear}
-use Rattle.regalloc2_semantics.proofs.BoundaryToBoundary.{Covers, FreeAt, free_of}
+use Rattle.regalloc2_names.specs.Place.{Place, NoPlace, InRegister, InSlot, after}
+use Rattle.regalloc2_carry.specs.OperandsPlaced.{what_of, Progress, Puts, Counts, Clear}
+use Rattle.regalloc2_carry.proofs.BoundaryToBoundary.{Covers, FreeAt, free_of}
 use Rattle.regalloc2_semantics.proofs.Cells.{is_register-same}
-use Rattle.regalloc2_semantics.proofs.AllowedPlaces.{clear_free, clear_reuse, reuse_alone}
+use Rattle.regalloc2_carry.proofs.AllowedPlaces.{clear_free, clear_reuse, reuse_alone}
 use Rattle.regalloc2_fastalloc_state.specs.declared.inst_regs.InstRegs.{InstRegs}
 use Rattle.regalloc2_fastalloc_state.specs.declared.positions.Positions.{Positions}
 use Rattle.regalloc2_fastalloc_state.specs.declared.request.Requirement.{Requirement}
 use Rattle.regalloc2_fastalloc_state.specs.declared.request.Requirement.TheVariants.{AnyPlace, AnyReg, InMemory, InPReg}
 use Rattle.regalloc2_fastalloc_state.specs.declared.request.OperandRequest.{OperandRequest}
 use Rattle.regalloc2_function.specs.FunctionValue.{op_at}
-use Rattle.regalloc2_fastalloc_proofs.specs.InstSteps.{StateValue, MeetsRequirement, SelectsPlace, stays, fixed, slot, free, ClaimsPlace, in_slot, AllocsDefOp}
-use Rattle.regalloc2_fastalloc_proofs.specs.InstSteps.{in_register, AddsMoveIf, sent, unsent, FreesAlloc, reuse_requirement_of, reuse_request}
+use Rattle.regalloc2_fastalloc_proofs.specs.InstSteps.{StateValue, MeetsRequirement, SelectsPlace, stays, fixed, slot, free, ClaimsPlace, in_slot}
+use Rattle.regalloc2_fastalloc_proofs.specs.InstSteps.{AllocsDefOp, in_register, AddsMoveIf, sent, unsent, FreesAlloc, reuse_requirement_of, reuse_request}
 use Rattle.regalloc2_fastalloc_proofs.proofs.Safety.StepsKeepState.{place_in}
 use Rattle.regalloc2_fastalloc_proofs.proofs.Operands.RecordOverState.{opt, stands_at, slots_at}
 use Rattle.regalloc2_fastalloc_proofs.proofs.Evictions.EvictVReg.{held_early, held_late}
@@ -32,7 +30,8 @@ use Rattle.regalloc2_fastalloc_proofs.proofs.Operands.RecordOfInst.{progress, Wa
 use Rattle.regalloc2_fastalloc_proofs.proofs.Evictions.EvictKeepsRecord.{adds_move_less}
 use Rattle.regalloc2_fastalloc_proofs.proofs.Operands.ClaimKeepsRecord.{Grips, ready_claim}
 use Rattle.regalloc2_fastalloc_proofs.proofs.Operands.AllocOperand.{Due, owed, fresh, meets_requirement_at, Got, allocs_operand_step, set_at, set_at_same}
-use Rattle.regalloc2_fastalloc_proofs.proofs.Operands.AllocOperand.{set_at_other, puts_one, and_one, and_one_same, and_one_other, and_one_grows, and_one_keeps}
+use Rattle.regalloc2_fastalloc_proofs.proofs.Operands.AllocOperand.{set_at_other, puts_one, and_one, and_one_same, and_one_other, and_one_grows}
+use Rattle.regalloc2_fastalloc_proofs.proofs.Operands.AllocOperand.{and_one_keeps}
 use Rattle.regalloc2_fastalloc_proofs.proofs.Operands.RecordAfterOperand.{def_step, made_one, makes_one}
 use Rattle.regalloc2_fastalloc_proofs.proofs.Operands.UsesAndPlainDefs.{waits_set, fresh_turn, phase_turn, laid_next}
 use Rattle.regalloc2_fastalloc_proofs.proofs.Operands.AllocsSoFar.{asked_as_fixed}

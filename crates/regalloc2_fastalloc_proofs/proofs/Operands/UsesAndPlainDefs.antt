@@ -6,11 +6,10 @@ use Rattle.std.proofs.lemmas.List.{get_or-set_same, get_or-set_other, length-set
 use Rattle.regalloc2_names.specs.declared.OperandConstraint.TheVariants.{FixedReg, Reuse}
 use Rattle.regalloc2_names.specs.Register.{Register, VirtualRegister}
 use Rattle.regalloc2_names.specs.Operand.{OperandValue, is_def, is_late, is_reading, is_fixed_nonallocatable}
-use Rattle.regalloc2_names.specs.Place.{Place, NoPlace, InRegister, InSlot}
-use Rattle.regalloc2_names.specs.Point.{after}
-use Rattle.regalloc2_semantics.specs.OperandsPlaced.{what_of, Progress, Counts}
-use Rattle.regalloc2_semantics.proofs.BoundaryToBoundary.{Covers}
-use Rattle.regalloc2_semantics.proofs.Operands.{reads_use}
+use Rattle.regalloc2_names.specs.Place.{Place, NoPlace, InRegister, InSlot, after}
+use Rattle.regalloc2_carry.specs.OperandsPlaced.{what_of, Progress, Counts}
+use Rattle.regalloc2_carry.proofs.BoundaryToBoundary.{Covers}
+use Rattle.regalloc2_carry.proofs.Operands.{reads_use}
 use Rattle.regalloc2_fastalloc_state.specs.declared.inst_regs.InstRegs.{InstRegs}
 use Rattle.regalloc2_fastalloc_state.specs.declared.request.Requirement.TheVariants.{InPReg}
 use Rattle.regalloc2_function.specs.FunctionValue.{op_at}

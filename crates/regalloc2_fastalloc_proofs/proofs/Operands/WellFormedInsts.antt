@@ -6,8 +6,8 @@ use Rattle.regalloc2_names.specs.Operand.{OperandValue, is_def, is_late, is_fixe
 use Rattle.regalloc2_function.specs.FunctionValue.{FunctionValue, IsLimited, inst_at, no_inst, no_operand, op_at}
 use Rattle.regalloc2_function.specs.Machine.{MachineValue}
 use Rattle.regalloc2_function.specs.WellFormed.{IsWellFormed, ReusesAreSound}
-use Rattle.regalloc2_semantics.specs.Instruction.{Knows}
-use Rattle.regalloc2_semantics.proofs.SingleDef.{Made, ReadsDefined, once_at, knows_at, defined_small, reads_defined}
+use Rattle.regalloc2_carry.specs.Instruction.{Knows}
+use Rattle.regalloc2_carry.proofs.SingleDef.{Made, ReadsDefined, once_at, knows_at, defined_small, reads_defined}
 use Rattle.regalloc2_fastalloc_proofs.proofs.Operands.RecordOfInst.{Orderly}
 use Rattle.regalloc2_fastalloc_proofs.proofs.Safety.OperandAssumptions.{reused_constraint}
 

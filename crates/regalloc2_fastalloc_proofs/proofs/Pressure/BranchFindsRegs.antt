@@ -5,21 +5,19 @@ use Rattle.std.proofs.lemmas.Bool.{cases_Bool}
 use Rattle.std.proofs.lemmas.List.Elements.{All-push}
 use Rattle.regalloc2_names.specs.declared.RegClass.{RegClass}
 use Rattle.regalloc2_names.specs.declared.sets.PRegSet.{PRegSet}
-use Rattle.regalloc2_names.specs.Register.{Register, VirtualRegister, no_vreg}
-use Rattle.regalloc2_names.specs.RegisterSet.{has_register}
-use Rattle.regalloc2_names.specs.Place.{Place}
-use Rattle.regalloc2_names.specs.Point.{before}
+use Rattle.regalloc2_names.specs.Register.{Register, VirtualRegister, no_vreg, has_register}
+use Rattle.regalloc2_names.specs.Place.{Place, before}
 use Rattle.regalloc2_function.specs.FunctionValue.{FunctionValue, block_at}
 use Rattle.regalloc2_function.specs.Machine.{MachineValue, is_allocatable}
-use Rattle.regalloc2_function.specs.SourceRun.{arguments_at}
+use Rattle.regalloc2_semantics.specs.Runs.{arguments_at}
 use Rattle.regalloc2_function.specs.Fitting.{MachineFits, NamesClass}
-use Rattle.regalloc2_semantics.specs.Blocks.{target_at}
+use Rattle.regalloc2_semantics.specs.Live.{target_at}
 use Rattle.regalloc2_fastalloc_state.specs.declared.inst_regs.InstRegs.{InstRegs}
 use Rattle.regalloc2_fastalloc_state.specs.StateParts.{NoneIsFrom}
 use Rattle.regalloc2_fastalloc_proofs.specs.InstSteps.{StateValue, no_register}
 use Rattle.regalloc2_fastalloc_proofs.specs.BranchSteps.{ClassMove, is_class, of_class, SpillsArgument, from_register, in_slot, GathersEdgeMoves}
-use Rattle.regalloc2_fastalloc_proofs.specs.BranchSteps.{none_gathered, one_gathered, own_argument, IsOwnDef, GathersMoves, no_edge, one_edge}
-use Rattle.regalloc2_fastalloc_proofs.specs.BranchSteps.{SpillArgument, GatherEdge, GatherMoves, ProcessBranch, in_gather, in_order}
+use Rattle.regalloc2_fastalloc_proofs.specs.BranchSteps.{none_gathered, one_gathered, own_argument, IsOwnDef, GathersMoves, no_edge, one_edge, SpillArgument}
+use Rattle.regalloc2_fastalloc_proofs.specs.BranchSteps.{GatherEdge, GatherMoves, ProcessBranch, in_gather, in_order}
 use Rattle.regalloc2_fastalloc_proofs.specs.Safety.{AreSafeRegs}
 use Rattle.regalloc2_fastalloc_proofs.proofs.Safety.StepsKeepSafe.{AreKindsApart, StepKept, rules_of}
 use Rattle.regalloc2_fastalloc_proofs.proofs.Safety.BranchKeepsSafe.{AreGatheredMoves, gathers_edge_moves_kept as edge_kept_safe, gathers_moves_kept}

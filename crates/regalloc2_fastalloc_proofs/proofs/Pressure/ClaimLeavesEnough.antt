@@ -5,23 +5,21 @@ use Rattle.std.specs.Prelude.{not, ◌&&◌, Some}
 use Rattle.std.proofs.lemmas.Bool.{cases_Bool, cases_eq, and_parts}
 use Rattle.regalloc2_names.specs.declared.RegClass.{RegClass}
 use Rattle.regalloc2_names.specs.declared.sets.PRegSet.{PRegSet}
-use Rattle.regalloc2_names.specs.Register.{Register, VirtualRegister, class_code}
-use Rattle.regalloc2_names.specs.RegisterSet.{has_register}
+use Rattle.regalloc2_names.specs.Register.{Register, VirtualRegister, class_code, has_register}
 use Rattle.regalloc2_names.specs.Place.{Place, NoPlace, InRegister, is_place}
 use Rattle.regalloc2_semantics.proofs.Cells.{is_place-same}
-use Rattle.regalloc2_function.specs.Fitting.{register_number}
-use Rattle.regalloc2_function.specs.Machine.{MachineValue}
+use Rattle.regalloc2_function.specs.Machine.{register_number, MachineValue}
 use Rattle.regalloc2_fastalloc_state.specs.declared.inst_regs.InstRegs.{InstRegs}
 use Rattle.regalloc2_fastalloc_state.specs.declared.request.Requirement.TheVariants.{AnyReg}
 use Rattle.regalloc2_fastalloc_state.specs.declared.request.OperandRequest.{OperandRequest}
 use Rattle.regalloc2_fastalloc_state.specs.StateParts.{VRegAllocsValue, SetsAlloc, slot_name, vreg_of_preg, alloc_of}
 use Rattle.regalloc2_fastalloc_state.specs.InstRegs.{is_free, free_count}
-use Rattle.regalloc2_fastalloc_proofs.specs.InstSteps.{StateValue, SameMachine, is_stack_in, is_another, scratch_reserve_left}
-use Rattle.regalloc2_fastalloc_proofs.specs.InstSteps.{direct, through, EvictsPReg, empty, AllocsOperand, FreesAlloc, AddsMoveIf}
-use Rattle.regalloc2_fastalloc_proofs.specs.InstSteps.{cleared, EvictsOtherVRegs, own, others, SelectsPlace, ClaimsPlace, in_slot, in_register}
+use Rattle.regalloc2_fastalloc_proofs.specs.InstSteps.{StateValue, SameMachine, is_stack_in, is_another, scratch_reserve_left, direct, through, EvictsPReg}
+use Rattle.regalloc2_fastalloc_proofs.specs.InstSteps.{empty, AllocsOperand, FreesAlloc, AddsMoveIf, cleared, EvictsOtherVRegs, own, others, SelectsPlace}
+use Rattle.regalloc2_fastalloc_proofs.specs.InstSteps.{ClaimsPlace, in_slot, in_register, no_register, AllocOperand, in_pick, in_clear, FreeAlloc}
+use Rattle.regalloc2_fastalloc_proofs.specs.InstSteps.{to_expected, to_slot}
 use Rattle.regalloc2_fastalloc_proofs.specs.InstSteps.SelectsPlace.{stays, fixed, slot, free}
 use Rattle.regalloc2_fastalloc_proofs.specs.Safety.{MayBeLocatedAt, IsEndOfMove, AreSafeRegs}
-use Rattle.regalloc2_fastalloc_proofs.specs.InstSteps.{no_register, AllocOperand, in_pick, in_clear, FreeAlloc, to_expected, to_slot}
 use Rattle.regalloc2_fastalloc_proofs.proofs.Safety.StepsKeepSafe.{AreKindsApart, own_slot_is_end, stand_end, there_stands, adds_move_if_kept, rules_of}
 use Rattle.regalloc2_fastalloc_proofs.proofs.Slots.SlotsGrow.{SlotsStay, same_stay, end_grows, changes_stay}
 use Rattle.regalloc2_fastalloc_proofs.proofs.Moves.ScratchRegTaken.{Fit}

@@ -1,15 +1,14 @@
 -- While operands are allocated, at least as many registers are free as operands wait for one; each takes its own, or one that can be spared.
 use Rattle.regalloc2_parts.proofs.RegisterLaws.{class_codes}
-use Rattle.std.proofs.Common.{ℕ, zero, suc, [], ◌∷◌, ◌≡◌, ◌+◌, ◌-◌, ◌<◌, ◌≤◌, Bool, true, false, List, length, refl, sym, ap, ◌∙◌, subst, arith, inl}
-use Rattle.std.proofs.Common.{inr, ◌⊎◌, get_or-set_same, set}
+use Rattle.std.proofs.Common.{ℕ, zero, suc, [], ◌∷◌, ◌≡◌, ◌+◌, ◌-◌, ◌<◌, ◌≤◌, Bool, true, false, List, length, refl, sym, ap, ◌∙◌, subst, arith, inl, inr}
+use Rattle.std.proofs.Common.{◌⊎◌, get_or-set_same, set}
 use Rattle.std.specs.Prelude.{not, ◌&&◌, slice_index, slice_set}
 use Rattle.std.proofs.lemmas.Bool.{cases_eq, cases_Bool, and_parts, and_left, and_right}
 use Rattle.std.proofs.lemmas.List.{get_or-set_other}
 use Rattle.regalloc2_names.specs.declared.RegClass.{RegClass}
 use Rattle.regalloc2_names.specs.declared.OperandConstraint.TheVariants.{FixedReg, Reuse}
 use Rattle.regalloc2_names.specs.declared.sets.PRegSet.{PRegSet}
-use Rattle.regalloc2_names.specs.Register.{Register, VirtualRegister, class_code, is_register}
-use Rattle.regalloc2_names.specs.RegisterSet.{has_register}
+use Rattle.regalloc2_names.specs.Register.{Register, VirtualRegister, class_code, is_register, has_register}
 use Rattle.regalloc2_names.specs.Operand.{OperandValue, is_fixed_nonallocatable}
 use Rattle.regalloc2_names.specs.Place.{Place, InRegister, InSlot}
 use Rattle.regalloc2_semantics.proofs.Cells.{is_register-same}

@@ -5,21 +5,20 @@ use Rattle.std.proofs.lemmas.Bool.{and_left, and_right}
 use Rattle.regalloc2_names.specs.declared.OperandConstraint.TheVariants.{FixedReg}
 use Rattle.regalloc2_names.specs.declared.RegClass.{RegClass}
 use Rattle.regalloc2_names.specs.declared.sets.PRegSet.{PRegSet}
-use Rattle.regalloc2_names.specs.Register.{Register, VirtualRegister}
-use Rattle.regalloc2_names.specs.RegisterSet.{has_register, registers_of}
+use Rattle.regalloc2_names.specs.Register.{Register, VirtualRegister, has_register, registers_of}
 use Rattle.regalloc2_names.specs.Operand.{OperandValue, is_fixed_nonallocatable}
-use Rattle.regalloc2_names.specs.Place.{Place, NoPlace}
-use Rattle.regalloc2_names.specs.Point.{before, after}
+use Rattle.regalloc2_names.specs.Place.{Place, NoPlace, before, after}
 use Rattle.regalloc2_function.specs.FunctionValue.{FunctionValue, InstValue, no_operand, op_at}
 use Rattle.regalloc2_function.specs.Machine.{MachineValue}
-use Rattle.regalloc2_function.specs.Fitting.{Fits, NamesClass}
+use Rattle.regalloc2_semantics.specs.Fits.{Fits}
+use Rattle.regalloc2_function.specs.Fitting.{NamesClass}
 use Rattle.regalloc2_fastalloc_state.specs.declared.inst_regs.InstRegs.{InstRegs}
 use Rattle.regalloc2_fastalloc_state.specs.InstRegs.{is_free}
 use Rattle.regalloc2_fastalloc_state.specs.Positions.{positions_of}
 use Rattle.regalloc2_fastalloc_proofs.specs.InstSteps.{StateValue, ReservesRegs, RemovesClobbers, own as claims_own, EvictsFixed, ends_block}
-use Rattle.regalloc2_fastalloc_proofs.specs.InstSteps.{ProcessesOperandsAt, MovesUses, PreparesRegs}
-use Rattle.regalloc2_fastalloc_proofs.specs.InstSteps.{no_register, EvictFixed, EvictEach, ProcessOperandsAt, MoveUses, PrepareRegs, in_reserve, in_fixed}
-use Rattle.regalloc2_fastalloc_proofs.specs.InstSteps.{in_clobbers, AllocInst, in_prepare, in_lates, in_earlies, in_moves}
+use Rattle.regalloc2_fastalloc_proofs.specs.InstSteps.{ProcessesOperandsAt, MovesUses, PreparesRegs, no_register, EvictFixed, EvictEach, ProcessOperandsAt}
+use Rattle.regalloc2_fastalloc_proofs.specs.InstSteps.{MoveUses, PrepareRegs, in_reserve, in_fixed, in_clobbers, AllocInst, in_prepare, in_lates, in_earlies}
+use Rattle.regalloc2_fastalloc_proofs.specs.InstSteps.{in_moves}
 use Rattle.regalloc2_fastalloc_proofs.specs.Safety.{AreSafeRegs}
 use Rattle.regalloc2_fastalloc_proofs.proofs.Safety.StepsKeepSafe.{AreKindsApart, safe_turn}
 use Rattle.regalloc2_fastalloc_proofs.proofs.Moves.ScratchRegTaken.{Less, less_then}
@@ -35,8 +34,8 @@ use Rattle.regalloc2_fastalloc_proofs.proofs.Pressure.TablesHaveAllRegs.{HasAll,
 use Rattle.regalloc2_fastalloc_proofs.proofs.Pressure.OneRegTaken.{ample_less}
 use Rattle.regalloc2_fastalloc_proofs.proofs.Pressure.WaitingOperands.{all_wait}
 use Rattle.regalloc2_fastalloc_proofs.proofs.Pressure.FreeRegsCoverWaiting.{Paying, unfree_kept}
-use Rattle.regalloc2_fastalloc_proofs.proofs.Pressure.PassesLeaveEnough.{Late, Early, defs_write, paying_more, late_operands_pay, never_late, early_operands_pay}
-use Rattle.regalloc2_fastalloc_proofs.proofs.Pressure.PassesLeaveEnough.{never_early}
+use Rattle.regalloc2_fastalloc_proofs.proofs.Pressure.PassesLeaveEnough.{Late, Early, defs_write, paying_more, late_operands_pay, never_late}
+use Rattle.regalloc2_fastalloc_proofs.proofs.Pressure.PassesLeaveEnough.{early_operands_pay, never_early}
 use Rattle.regalloc2_fastalloc_proofs.proofs.Pressure.EvictionsLeaveEnough.{LeavesEnough, evictions_ample, never_after, ample_moves_uses, never_move_uses}
 use Rattle.regalloc2_fastalloc_proofs.proofs.Pressure.FittingInstReserves.{never_reserve_regs}
 use Rattle.regalloc2_fastalloc_proofs.proofs.Pressure.EnoughAtStart.{StartsFree, held_ample}

@@ -4,10 +4,9 @@ use Rattle.std.specs.Prelude.{not, ◌&&◌, nat_lt, is_none, if◌then◌else�
 use Rattle.std.proofs.lemmas.Bool.{lt-ltb, false_from_ne_true, and_from, and_parts}
 use Rattle.regalloc2_names.specs.declared.RegClass.{RegClass}
 use Rattle.regalloc2_names.specs.declared.sets.PRegSet.{PRegSet}
-use Rattle.regalloc2_names.specs.Register.{Register, class_code, is_register}
-use Rattle.regalloc2_names.specs.RegisterSet.{has_register}
+use Rattle.regalloc2_names.specs.Register.{Register, class_code, is_register, has_register}
 use Rattle.regalloc2_semantics.proofs.Cells.{is_register-true}
-use Rattle.regalloc2_function.specs.Fitting.{count_below, register_number}
+use Rattle.regalloc2_function.specs.Machine.{count_below, register_number}
 use Rattle.regalloc2_fastalloc_state.specs.declared.inst_regs.InstRegs.{InstRegs}
 use Rattle.regalloc2_fastalloc_state.specs.declared.positions.Positions.{Positions}
 use Rattle.regalloc2_fastalloc_state.specs.StateParts.{needs_scratch_reserve}

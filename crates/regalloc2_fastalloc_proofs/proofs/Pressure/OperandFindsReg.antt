@@ -1,5 +1,5 @@
 -- An operand that is allocated leaves enough registers for the waiting operands, and finds one if it waits itself.
-use Rattle.regalloc2_semantics.proofs.Operands.{reads_use}
+use Rattle.regalloc2_carry.proofs.Operands.{reads_use}
 use Rattle.std.proofs.Common.{ℕ, ◌≡◌, ◌≢◌, ◌+◌, ◌<◌, true, false, List, length, refl, sym, ap, ◌∙◌, subst, inl, inr, ◌⊎◌, arith, get_or-set_same, set}
 use Rattle.std.proofs.lemmas.List.{get_or-set_other}
 use Rattle.std.proofs.Math.ListN.{length-set}
@@ -10,7 +10,7 @@ use Rattle.regalloc2_names.specs.declared.OperandConstraint.TheVariants.{Any, Re
 use Rattle.regalloc2_names.specs.Register.{Register, VirtualRegister, class_code}
 use Rattle.regalloc2_names.specs.Operand.{OperandValue, is_def, is_late, is_reading, is_fixed_nonallocatable}
 use Rattle.regalloc2_names.specs.Place.{Place, NoPlace, InRegister, InSlot}
-use Rattle.regalloc2_function.specs.Fitting.{is_under_reg}
+use Rattle.regalloc2_semantics.specs.Fits.{is_under_reg}
 use Rattle.regalloc2_function.specs.Machine.{MachineValue, IsPlainRegister}
 use Rattle.regalloc2_fastalloc_state.specs.declared.inst_regs.InstRegs.{InstRegs}
 use Rattle.regalloc2_fastalloc_state.specs.declared.request.Requirement.{Requirement}
@@ -19,8 +19,8 @@ use Rattle.regalloc2_function.specs.FunctionValue.{op_at}
 use Rattle.regalloc2_fastalloc_proofs.specs.InstSteps.{StateValue, requirement_of, reuse_requirement_of, use_request}
 use Rattle.regalloc2_fastalloc_proofs.specs.Safety.{IsOfMachine, MayBeLocatedAt}
 use Rattle.regalloc2_fastalloc_proofs.proofs.Safety.OperandKeepsSafe.{AnswersRequirement}
-use Rattle.regalloc2_fastalloc_proofs.proofs.Operands.AllocsSoFar.{at_place, AreSoundOperands, Filled, FixedAreKnown}
-use Rattle.regalloc2_fastalloc_proofs.proofs.Operands.AllocsSoFar.{reads_allocated, asked_fixed, asked_as_fixed, fixed_class}
+use Rattle.regalloc2_fastalloc_proofs.proofs.Operands.AllocsSoFar.{at_place, AreSoundOperands, Filled, FixedAreKnown, reads_allocated, asked_fixed}
+use Rattle.regalloc2_fastalloc_proofs.proofs.Operands.AllocsSoFar.{asked_as_fixed, fixed_class}
 use Rattle.regalloc2_fastalloc_proofs.proofs.Safety.OperandPassesKeepSafe.{a_place_of}
 use Rattle.regalloc2_fastalloc_proofs.specs.Pressure.EnoughRegs.{waits, waiting, AllWrite, AllMay}
 use Rattle.regalloc2_fastalloc_proofs.proofs.Pressure.WaitingOperands.{waits_no_more, waits_as_before, waits_not, waits_elsewhere, waits_placed, waits_here, some_wait}

@@ -7,21 +7,19 @@ use Rattle.std.proofs.lemmas.List.{get_or-set_other}
 use Rattle.std.proofs.Math.ListN.{length-set}
 use Rattle.regalloc2_names.specs.declared.RegClass.{RegClass}
 use Rattle.regalloc2_names.specs.declared.OperandConstraint.TheVariants.{FixedReg, Reuse}
-use Rattle.regalloc2_names.specs.Register.{Register, VirtualRegister, is_register}
-use Rattle.regalloc2_names.specs.RegisterSet.{has_register}
+use Rattle.regalloc2_names.specs.Register.{Register, VirtualRegister, is_register, has_register}
 use Rattle.regalloc2_names.specs.Operand.{OperandValue, is_def, is_reading, is_fixed_nonallocatable}
-use Rattle.regalloc2_names.specs.Place.{Place, NoPlace, InRegister, InSlot}
-use Rattle.regalloc2_names.specs.Point.{after}
-use Rattle.regalloc2_function.specs.Fitting.{is_under_reg}
+use Rattle.regalloc2_names.specs.Place.{Place, NoPlace, InRegister, InSlot, after}
+use Rattle.regalloc2_semantics.specs.Fits.{is_under_reg}
 use Rattle.regalloc2_function.specs.Machine.{MachineValue}
 use Rattle.regalloc2_fastalloc_state.specs.declared.inst_regs.InstRegs.{InstRegs}
 use Rattle.regalloc2_fastalloc_state.specs.declared.request.Requirement.{Requirement}
 use Rattle.regalloc2_fastalloc_state.specs.declared.request.OperandRequest.{OperandRequest}
 use Rattle.regalloc2_fastalloc_state.specs.InstRegs.{is_free, awaited_of}
 use Rattle.regalloc2_function.specs.FunctionValue.{op_at}
-use Rattle.regalloc2_fastalloc_proofs.specs.InstSteps.{StateValue, use_request, def_request, reuse_request, AllocsOperand, ClaimsPlace, in_slot}
-use Rattle.regalloc2_fastalloc_proofs.specs.InstSteps.{in_register, AllocsDefOp, AllocsUse, ProcessesOperand, a_register, a_use, a_def, a_reuse}
-use Rattle.regalloc2_fastalloc_proofs.specs.InstSteps.{no_register, AllocOperand, AllocDefOp, in_get, in_define, ProcessOperand, at_use, at_def, at_reuse}
+use Rattle.regalloc2_fastalloc_proofs.specs.InstSteps.{StateValue, use_request, def_request, reuse_request, AllocsOperand, ClaimsPlace, in_slot, in_register}
+use Rattle.regalloc2_fastalloc_proofs.specs.InstSteps.{AllocsDefOp, AllocsUse, ProcessesOperand, a_register, a_use, a_def, a_reuse, no_register, AllocOperand}
+use Rattle.regalloc2_fastalloc_proofs.specs.InstSteps.{AllocDefOp, in_get, in_define, ProcessOperand, at_use, at_def, at_reuse}
 use Rattle.regalloc2_fastalloc_proofs.proofs.Safety.StepsKeepSafe.{AreKindsApart, rules_of}
 use Rattle.regalloc2_fastalloc_proofs.proofs.Moves.ScratchRegTaken.{Less, less_then}
 use Rattle.regalloc2_fastalloc_proofs.proofs.Evictions.EvictKeepsRecord.{evictions_less}
@@ -34,11 +32,11 @@ use Rattle.regalloc2_fastalloc_proofs.proofs.Safety.StepsKeepMachine.{KeepsMachi
 use Rattle.regalloc2_fastalloc_proofs.proofs.Changes.InstChanges.{allocs_operand_changes, locates_use_changes, frees_alloc_changes}
 use Rattle.regalloc2_fastalloc_proofs.proofs.Pressure.TablesHaveAllRegs.{HasAll, all_kept}
 use Rattle.regalloc2_fastalloc_proofs.proofs.Pressure.OneRegTaken.{ample_kept}
-use Rattle.regalloc2_fastalloc_proofs.proofs.Pressure.ClaimLeavesEnough.{ample_allocs_operand, never_alloc_operand, never_free_alloc, ample_frees_alloc, safe_held}
+use Rattle.regalloc2_fastalloc_proofs.proofs.Pressure.ClaimLeavesEnough.{ample_allocs_operand, never_alloc_operand, never_free_alloc, ample_frees_alloc}
+use Rattle.regalloc2_fastalloc_proofs.proofs.Pressure.ClaimLeavesEnough.{safe_held, naming_of}
 use Rattle.regalloc2_fastalloc_proofs.proofs.Pressure.FreeRegsCoverWaiting.{Paying, Pays, pays_fewer, pays_awaited, pays_paid, unfree_kept, allocs_operand_settled}
 use Rattle.regalloc2_fastalloc_proofs.proofs.Pressure.OperandFindsReg.{CountedOperand, Ready, waiting_unchanged, use_ready, def_ready, reuse_ready}
 use Rattle.regalloc2_fastalloc_proofs.proofs.BlockEnd.NoMoveInLastInst.{some_position}
-use Rattle.regalloc2_fastalloc_proofs.proofs.Pressure.ClaimLeavesEnough.{naming_of}
 
 -- what is held stays held while an operand gets its place
 pub allocs_operand_less : (point : ℕ) (o : OperandRequest) (p : Place) (t u : InstRegs) (old new : StateValue) → AllocsOperand point o p t u old new → Less t u

@@ -5,25 +5,23 @@ use Rattle.std.specs.Prelude.{not, ◌&&◌, Option, None, Some, slice_index_or,
 use Rattle.std.proofs.lemmas.Bool.{cases_eq, and_parts}
 use Rattle.std.proofs.lemmas.List.{get_or-set_other}
 use Rattle.regalloc2_names.specs.declared.RegClass.{RegClass}
-use Rattle.regalloc2_names.specs.Register.{Register, VirtualRegister, class_code, is_register}
-use Rattle.regalloc2_names.specs.RegisterSet.{has_register}
+use Rattle.regalloc2_names.specs.Register.{Register, VirtualRegister, class_code, is_register, has_register}
 use Rattle.regalloc2_names.specs.Place.{Place, NoPlace, InRegister, InSlot}
 use Rattle.regalloc2_names.proofs.Bits.{class_code-lt}
-use Rattle.regalloc2_function.specs.Fitting.{register_number}
-use Rattle.regalloc2_function.specs.Machine.{MachineValue}
+use Rattle.regalloc2_function.specs.Machine.{register_number, MachineValue}
 use Rattle.regalloc2_fastalloc_state.specs.declared.inst_regs.InstRegs.{InstRegs}
 use Rattle.regalloc2_fastalloc_state.specs.StateParts.{vreg_of_preg}
-use Rattle.regalloc2_fastalloc_proofs.specs.InstSteps.{StateValue, SameMachine, is_stack_in, scratch_reserve_left, AllocsScratchReg}
-use Rattle.regalloc2_fastalloc_proofs.specs.InstSteps.{Outcome, dedicated_scratch, had, found, LacksScratchReg, AddMove, direct, through, no_scratch, EvictPReg}
-use Rattle.regalloc2_fastalloc_proofs.specs.InstSteps.{empty, cleared, EvictOtherVRegs, own, others, AddMoveIf, sent, unsent}
+use Rattle.regalloc2_fastalloc_proofs.specs.InstSteps.{StateValue, SameMachine, is_stack_in, scratch_reserve_left, AllocsScratchReg, Outcome}
+use Rattle.regalloc2_fastalloc_proofs.specs.InstSteps.{dedicated_scratch, had, found, LacksScratchReg, AddMove, direct, through, no_scratch, EvictPReg, empty}
+use Rattle.regalloc2_fastalloc_proofs.specs.InstSteps.{cleared, EvictOtherVRegs, own, others, AddMoveIf, sent, unsent}
 use Rattle.regalloc2_fastalloc_proofs.specs.Safety.{IsEndOfMove, AreSafeRegs}
 use Rattle.regalloc2_fastalloc_proofs.proofs.Safety.StepsKeepSafe.{AreKindsApart}
 use Rattle.regalloc2_fastalloc_proofs.specs.Pressure.EnoughRegs.{HasEnoughRegs, LeavesEnoughRegs, TakesAtMost}
 use Rattle.regalloc2_fastalloc_proofs.proofs.Safety.StepsKeepMachine.{keeps_of, machine_stays}
 use Rattle.regalloc2_fastalloc_proofs.proofs.Changes.InstChanges.{evicts_vreg_changes}
 use Rattle.regalloc2_fastalloc_proofs.proofs.Pressure.TablesHaveAllRegs.{HasAll}
-use Rattle.regalloc2_fastalloc_proofs.proofs.Pressure.OneRegTaken.{free_but_one, free_kept, ample_kept, ample_none, ample_some, HasStack}
-use Rattle.regalloc2_fastalloc_proofs.proofs.Pressure.OneRegTaken.{has_stack, spare_is_one, spare_is_none}
+use Rattle.regalloc2_fastalloc_proofs.proofs.Pressure.OneRegTaken.{free_but_one, free_kept, ample_kept, ample_none, ample_some, HasStack, has_stack}
+use Rattle.regalloc2_fastalloc_proofs.proofs.Pressure.OneRegTaken.{spare_is_one, spare_is_none}
 
 -- a vreg in a register is known, and of its class
 abbrev pub AreHeld : (VirtualRegister → Type 0) → StateValue → Type 0

@@ -1,18 +1,17 @@
 -- Operands that wait for a register, and how many registers an instruction leaves free for them.
-use Rattle.std.proofs.Common.{ℕ, zero, suc, ◌≡◌, ◌+◌, ◌<◌, ◌≤◌, Bool, true, false, List, length, refl, sym, ap, ◌∙◌, subst, arith, inl, inr}
-use Rattle.std.proofs.Common.{get_or-set_same, eq-eqb}
+use Rattle.std.proofs.Common.{ℕ, zero, suc, ◌≡◌, ◌+◌, ◌<◌, ◌≤◌, Bool, true, false, List, length, refl, sym, ap, ◌∙◌, subst, arith, inl, inr, get_or-set_same}
+use Rattle.std.proofs.Common.{eq-eqb}
 use Rattle.std.specs.Prelude.{not, ◌&&◌, ◌||◌, nat_eq, nat_lt, count_by, slice_index_or, slice_set, take}
 use Rattle.std.proofs.lemmas.Bool.{cases_Bool, cases_eq, ne_eqb, and_left, and_right}
 use Rattle.std.proofs.lemmas.List.{get_or-set_other, take_all}
 use Rattle.std.proofs.lemmas.List.Sums.{count_by_more_yes, count_by_more_no}
 use Rattle.regalloc2_names.specs.declared.RegClass.{RegClass}
-use Rattle.regalloc2_names.specs.Register.{Register, class_code}
-use Rattle.regalloc2_names.specs.RegisterSet.{has_register}
+use Rattle.regalloc2_names.specs.Register.{Register, class_code, has_register}
 use Rattle.regalloc2_names.specs.Operand.{OperandValue}
 use Rattle.regalloc2_names.specs.Place.{Place, NoPlace, InRegister, is_in_register}
 use Rattle.regalloc2_function.specs.FunctionValue.{InstValue, no_operand, op_at}
-use Rattle.regalloc2_function.specs.Machine.{MachineValue, is_allocatable}
-use Rattle.regalloc2_function.specs.Fitting.{count_below, is_under_reg, is_fixed_to, register_number, need_of, allocatable_count}
+use Rattle.regalloc2_function.specs.Machine.{MachineValue, is_allocatable, count_below, register_number, allocatable_count}
+use Rattle.regalloc2_semantics.specs.Fits.{is_under_reg, is_fixed_to, need_of}
 use Rattle.regalloc2_fastalloc_proofs.specs.InstSteps.{asks_reg_of_class, asking}
 use Rattle.regalloc2_fastalloc_state.proofs.CountingLaws.{count_union, count_more, count_same, some_count}
 use Rattle.regalloc2_fastalloc_proofs.specs.Pressure.EnoughRegs.{waits, waiting}

@@ -2,16 +2,15 @@
 use Rattle.std.proofs.Common.{ℕ, ◌≡◌, ◌<◌, true, List, [], sym, ap, ◌∙◌, subst, arith}
 use Rattle.std.specs.Prelude.{Bool, Option, None, slice_index_or}
 use Rattle.regalloc2_names.specs.declared.RegClass.{RegClass}
-use Rattle.regalloc2_names.specs.Register.{Register, VirtualRegister, class_code}
+use Rattle.regalloc2_names.specs.Register.{Register, VirtualRegister, class_code, has_register}
 use Rattle.regalloc2_names.specs.RegisterBits.{bits_of_register}
-use Rattle.regalloc2_names.specs.RegisterSet.{has_register}
 use Rattle.regalloc2_names.specs.Place.{NoPlace}
 use Rattle.regalloc2_function.specs.Machine.{MachineValue, is_allocatable, IsFixedStackSlot}
 use Rattle.regalloc2_fastalloc_state.specs.StateParts.{SpillSlotsValue, VRegAllocsValue, no_allocs, no_slots, alloc_of, vreg_of_preg, slot_name, units_of}
 use Rattle.regalloc2_fastalloc_state.specs.StateParts.{IsSlotOrNone}
 use Rattle.regalloc2_fastalloc_proofs.specs.InstSteps.{StateValue}
 use Rattle.regalloc2_fastalloc_proofs.specs.Safety.{MayBeLocatedAtOrNone, HasMachine, IsSafe}
-use Rattle.regalloc2_semantics.proofs.Plain.{always, no_some}
+use Rattle.regalloc2_carry.proofs.Plain.{always, no_some}
 use Rattle.regalloc2_fastalloc_proofs.proofs.BlockEnd.NoMoveForOperand.{IsEmpty}
 
 -- no vreg has a location

@@ -5,12 +5,11 @@ use Rattle.std.proofs.lemmas.Bool.{cases_eq}
 use Rattle.std.proofs.lemmas.List.Sums.{sum_by_more}
 use Rattle.regalloc2_names.specs.declared.OperandConstraint.TheVariants.{Reuse}
 use Rattle.regalloc2_names.specs.Register.{VirtualRegister, no_vreg}
-use Rattle.regalloc2_names.specs.Place.{Place, InSlot}
-use Rattle.regalloc2_names.specs.Point.{before, after}
+use Rattle.regalloc2_names.specs.Place.{Place, InSlot, before, after}
 use Rattle.regalloc2_function.specs.FunctionValue.{FunctionValue, block_at, inst_at, no_inst, op_at}
 use Rattle.regalloc2_function.specs.Machine.{MachineValue}
 use Rattle.regalloc2_names.specs.Operand.{is_def, is_reading}
-use Rattle.regalloc2_semantics.specs.Blocks.{target_at}
+use Rattle.regalloc2_semantics.specs.Live.{target_at}
 use Rattle.regalloc2_fastalloc_state.specs.StateParts.{SpillSlotsValue}
 use Rattle.regalloc2_fastalloc_proofs.specs.StoreSteps.{IsStoredAt}
 use Rattle.regalloc2_fastalloc_proofs.specs.InstSteps.{StateValue}

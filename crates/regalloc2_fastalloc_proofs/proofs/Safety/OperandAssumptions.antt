@@ -10,9 +10,9 @@ use Rattle.regalloc2_names.specs.Packing.{IsConstraintOf}
 use Rattle.regalloc2_function.specs.FunctionValue.{InstValue, no_operand, op_at}
 use Rattle.regalloc2_function.specs.Machine.{MachineValue}
 use Rattle.regalloc2_function.specs.WellFormed.{MayBeReused, ReusesAreSound}
-use Rattle.regalloc2_semantics.specs.Instruction.{Knows}
-use Rattle.regalloc2_semantics.specs.OperandsPlaced.{Once, Counts, what_of}
-use Rattle.regalloc2_semantics.proofs.Operands.{reads_use}
+use Rattle.regalloc2_carry.specs.Instruction.{Knows}
+use Rattle.regalloc2_carry.specs.OperandsPlaced.{Once, Counts, what_of}
+use Rattle.regalloc2_carry.proofs.Operands.{reads_use}
 use Rattle.regalloc2_fastalloc_proofs.proofs.Operands.AllocsSoFar.{AreSoundOperands}
 
 -- a constraint that may be reused is `Reg` or `FixedReg`

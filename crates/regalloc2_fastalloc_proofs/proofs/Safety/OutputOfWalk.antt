@@ -1,7 +1,7 @@
 -- What holds at the walk's end, for operands under every constraint but `Limit`.
 use Rattle.regalloc2_parts.proofs.Resolving.{All-reversed}
-use Rattle.std.proofs.Common.{ℕ, ◌≡◌, ◌≢◌, ◌+◌, ◌-◌, ◌<◌, ◌≤◌, ⊎_elim, inl, inr, Bool, true, false, cond, List, length, drop, reverse, refl, sym, ap}
-use Rattle.std.proofs.Common.{◌∙◌, subst, arith, nat_eq, eq-eqb, slice_index_or, slice_index}
+use Rattle.std.proofs.Common.{ℕ, ◌≡◌, ◌≢◌, ◌+◌, ◌-◌, ◌<◌, ◌≤◌, ⊎_elim, inl, inr, Bool, true, false, cond, List, length, drop, reverse, refl, sym, ap, ◌∙◌}
+use Rattle.std.proofs.Common.{subst, arith, nat_eq, eq-eqb, slice_index_or, slice_index}
 use Rattle.std.specs.Prelude.{All, Any as SomeIn, None, Some, sum_by}
 use Rattle.std.specs.List.Sorted.{IsNonDecreasingBy}
 use Rattle.std.proofs.lemmas.Bool.{ne_eqb, cases_eq}
@@ -17,9 +17,10 @@ use Rattle.regalloc2_names.specs.Operand.{OperandValue, fixed_register, nonalloc
 use Rattle.regalloc2_function.specs.FunctionValue.{FunctionValue, inst_at, operand_count, op_at}
 use Rattle.regalloc2_function.specs.Machine.{MachineValue, is_allocatable, scratch_of, IsFixedStackSlot}
 use Rattle.regalloc2_function.specs.OutputValue.{OutputValue, DebugLocation, MoveValue, IsInOrder, alloc_start, alloc_end, allocs_of, place_at}
-use Rattle.regalloc2_function.specs.DebugPoints.{IsKept}
-use Rattle.regalloc2_function.specs.Faithful.{ConstraintsMet, HasNoStackToStack, IsStackToStack, Meets}
-use Rattle.regalloc2_function.specs.Fitting.{MachineFits, PlacesAreProper, IsProperPlace, IsMoveEnd}
+use Rattle.regalloc2_semantics.specs.Debug.{IsKept}
+use Rattle.regalloc2_semantics.specs.Faithful.{ConstraintsMet, HasNoStackToStack, IsStackToStack, Meets}
+use Rattle.regalloc2_function.specs.Fitting.{MachineFits}
+use Rattle.regalloc2_semantics.specs.Places.{PlacesAreProper, IsProperPlace, IsMoveEnd}
 use Rattle.regalloc2_fastalloc_proofs.specs.InstSteps.{StateValue}
 use Rattle.regalloc2_fastalloc_proofs.specs.Safety.{MayBeLocatedAt, IsEndOfMove, IsEndOfArgMove, IsSafeEdit}
 use Rattle.regalloc2_fastalloc_state.specs.StateParts.{SpillSlotsValue, IsSlotOrNone, slot_name, PointsDescend}

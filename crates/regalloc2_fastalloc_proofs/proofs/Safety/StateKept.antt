@@ -7,18 +7,15 @@ use Rattle.std.proofs.lemmas.List.{get_or_default}
 use Rattle.std.proofs.lemmas.List.Elements.{All-from_get_or}
 use Rattle.regalloc2_names.specs.declared.RegAllocError.{RegAllocError}
 use Rattle.regalloc2_names.specs.declared.sets.PRegSet.{PRegSet}
-use Rattle.regalloc2_names.specs.Register.{Register, VirtualRegister, class_code, no_vreg}
-use Rattle.regalloc2_names.specs.RegisterSet.{has_register}
-use Rattle.regalloc2_names.specs.Place.{Place}
-use Rattle.regalloc2_names.specs.Point.{before, after}
+use Rattle.regalloc2_names.specs.Register.{Register, VirtualRegister, class_code, no_vreg, has_register}
+use Rattle.regalloc2_names.specs.Place.{Place, before, after}
 use Rattle.regalloc2_names.specs.Operand.{OperandValue}
 use Rattle.regalloc2_function.specs.FunctionValue.{FunctionValue, InstValue, block_at, inst_at, no_operand}
 use Rattle.regalloc2_function.specs.WellFormed.{BlocksEnd, BlocksFollow}
-use Rattle.regalloc2_semantics.proofs.SingleDef.{Made}
-use Rattle.regalloc2_semantics.proofs.SingleDef.Made.{by_operand}
+use Rattle.regalloc2_carry.proofs.SingleDef.{Made}
+use Rattle.regalloc2_carry.proofs.SingleDef.Made.{by_operand}
 use Rattle.regalloc2_fastalloc_state.specs.declared.inst_regs.InstRegs.{InstRegs}
-use Rattle.regalloc2_fastalloc_state.specs.StateParts.{SpillSlotsValue, AreUpTo}
-use Rattle.regalloc2_fastalloc_state.specs.StateParts.{most_units}
+use Rattle.regalloc2_fastalloc_state.specs.StateParts.{SpillSlotsValue, AreUpTo, most_units}
 use Rattle.regalloc2_fastalloc_state.specs.OutOfResources.{IsResourceError, SlotsExhaustedWith, IsResourceErrorIn}
 use Rattle.regalloc2_fastalloc_proofs.specs.BranchSteps.{RegsAvoidStack, AddsTempSlotsAtMost}
 use Rattle.regalloc2_fastalloc_proofs.specs.InstSteps.{StateValue, SameMachine, ends_block}

@@ -10,7 +10,7 @@ use Rattle.regalloc2_fastalloc_state.specs.StateParts.{VRegAllocsValue, SpillSlo
 use Rattle.regalloc2_fastalloc_state.specs.StateParts.{IsSlotOrNone, SetsAlloc, GetsSpillSlot}
 use Rattle.regalloc2_fastalloc_proofs.specs.InstSteps.{StateValue}
 use Rattle.regalloc2_fastalloc_proofs.specs.Safety.{IsWhole}
-use Rattle.regalloc2_semantics.specs.Instruction.{IsTidy}
+use Rattle.regalloc2_carry.specs.Instruction.{IsTidy}
 use Rattle.regalloc2_semantics.proofs.Cells.{is_place-true, is_place-same, is_place-other}
 
 -- the vregs' locations and slots, as functions of the number

@@ -3,20 +3,20 @@ use Rattle.std.proofs.Common.{ℕ, suc, ◌≡◌, ◌≢◌, ◌<◌, ◌⊎◌
 use Rattle.std.specs.Prelude.{All, Option, None, Some, slice_index_or}
 use Rattle.std.proofs.lemmas.List.Elements.{All-append, All-push, All-cons, All-nil}
 use Rattle.regalloc2_names.specs.Register.{Register, VirtualRegister, class_code}
-use Rattle.regalloc2_names.specs.Place.{Place, NoPlace, InRegister, InSlot, is_memory}
-use Rattle.regalloc2_names.specs.Point.{before}
+use Rattle.regalloc2_names.specs.Place.{Place, NoPlace, InRegister, InSlot, is_memory, before}
 use Rattle.regalloc2_names.specs.Operand.{OperandValue}
 use Rattle.regalloc2_function.specs.FunctionValue.{FunctionValue, block_at, op_at}
 use Rattle.regalloc2_function.specs.Machine.{MachineValue, IsStackPlace, scratch_of}
 use Rattle.regalloc2_function.specs.OutputValue.{MoveValue}
-use Rattle.regalloc2_semantics.specs.Stores.{Store, moves_by, store_moves, IsOneOf, AreInOrder}
-use Rattle.regalloc2_semantics.specs.Stores.IsOneOf.{first, later}
-use Rattle.regalloc2_analysis.specs.BranchDefs.BranchDefs.{IsEdgeInto, DefinesNumber, fixed_definition}
+use Rattle.regalloc2_carry.specs.Stores.{Store, moves_by, store_moves, IsOneOf, AreInOrder}
+use Rattle.regalloc2_carry.specs.Stores.IsOneOf.{first, later}
+use Rattle.regalloc2_semantics.specs.Live.{IsEdgeInto, DefinesNumber}
+use Rattle.regalloc2_analysis.specs.BranchDefs.BranchDefs.{fixed_definition}
 use Rattle.regalloc2_analysis.proofs.BranchDefsLemmas.EdgeNotes.{fixed_defines}
 use Rattle.regalloc2_fastalloc_state.specs.StateParts.{VRegAllocsValue, SpillSlotsValue, IsSlotOrNone, alloc_of, vreg_of_preg, slot_name}
 use Rattle.regalloc2_fastalloc_proofs.specs.InstSteps.{StateValue, MayHold}
-use Rattle.regalloc2_fastalloc_proofs.specs.StoreSteps.{branch_operands, fixed_or_slot, IsStoredFor, its_own, given, IsConcerned, GetsSlots, no_slot, one_slot}
-use Rattle.regalloc2_fastalloc_proofs.specs.StoreSteps.{StoresFor, pushed_moves, StoresBranchDefs, none_stored, all_stored}
+use Rattle.regalloc2_fastalloc_proofs.specs.StoreSteps.{branch_operands, fixed_or_slot, IsStoredFor, its_own, given, IsConcerned, GetsSlots, no_slot}
+use Rattle.regalloc2_fastalloc_proofs.specs.StoreSteps.{one_slot, StoresFor, pushed_moves, StoresBranchDefs, none_stored, all_stored}
 use Rattle.regalloc2_fastalloc_proofs.specs.Safety.{IsOfMachine, IsEndOfMove, IsSafeEdit, HasMachine, IsSafe, MayBeLocatedAtOrNone}
 use Rattle.regalloc2_fastalloc_proofs.proofs.Safety.StepsKeepSafe.{MayBeHeld, machine_kept, own_slot_is_end}
 use Rattle.regalloc2_fastalloc_proofs.proofs.Safety.BlockStartKeepsSafe.{given_safe}

@@ -1,18 +1,16 @@
 -- Disjoint slots are owned: each slot name in an output has one owner, and units of its own.
-use Rattle.std.proofs.Common.{if◌then◌else◌, ℕ, zero, suc, ◌≡◌, ◌≢◌, ◌+◌, ◌%◌, ◌<◌, ◌≤◌, Bool, true, false, List, [], ◌∷◌, refl, sym, ap, ◌∙◌, ◌⊎◌}
-use Rattle.std.proofs.Common.{inl, inr, ⊎_elim, subst, arith, length, slice_index_or, nat_eq, eq-eqb}
+use Rattle.std.proofs.Common.{if◌then◌else◌, ℕ, zero, suc, ◌≡◌, ◌≢◌, ◌+◌, ◌%◌, ◌<◌, ◌≤◌, Bool, true, false, List, [], ◌∷◌, refl, sym, ap, ◌∙◌, ◌⊎◌, inl, inr}
+use Rattle.std.proofs.Common.{⊎_elim, subst, arith, length, slice_index_or, nat_eq, eq-eqb}
 use Rattle.std.specs.Prelude.{All, Contains}
 use Rattle.std.proofs.lemmas.Bool.{ne_eqb, cases_eq}
 use Rattle.std.proofs.lemmas.List.{get_or_default}
 use Rattle.regalloc2_names.specs.declared.RegClass.{RegClass}
 use Rattle.regalloc2_names.specs.declared.RegClass.TheVariants.{Int}
 use Rattle.regalloc2_names.specs.Register.{VirtualRegister}
-use Rattle.regalloc2_names.specs.Place.{Place, NoPlace, InRegister, InSlot}
-use Rattle.regalloc2_names.specs.Point.{before}
-use Rattle.regalloc2_function.specs.FunctionValue.{FunctionValue, slot_size, inst_at}
+use Rattle.regalloc2_names.specs.Place.{Place, NoPlace, InRegister, InSlot, before}
+use Rattle.regalloc2_function.specs.FunctionValue.{FunctionValue, slot_size, inst_at, EachOperand}
 use Rattle.regalloc2_function.specs.OutputValue.{OutputValue, DebugLocation, MoveValue, allocs_of, place_at}
-use Rattle.regalloc2_function.specs.WellFormed.{EachOperand}
-use Rattle.regalloc2_function.specs.Slots.{Owner, OfVReg, OfBranch, class_of_owner, units_of_owner, first_unit, IsSlotOf, IsOfClass, AreSlotsOwned}
+use Rattle.regalloc2_semantics.specs.Places.{Owner, OfVReg, OfBranch, class_of_owner, units_of_owner, first_unit, IsSlotOf, IsOfClass, AreSlotsOwned}
 use Rattle.regalloc2_fastalloc_state.specs.StateParts.{SpillSlotsValue, slot_name, units_of}
 use Rattle.regalloc2_fastalloc_proofs.specs.SlotLayout.{OwnedSlot, units_in, start_in, start_of_slot, end_of_slot, IsLaidOut, AreSlotsApart, AreLaidOut}
 use Rattle.regalloc2_fastalloc_proofs.specs.SlotLayout.{IsNameOfSlot, IsEndOf, IsOfOneClass, ServesAt}

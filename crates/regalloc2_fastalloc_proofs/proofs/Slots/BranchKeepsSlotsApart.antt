@@ -7,12 +7,11 @@ use Rattle.std.proofs.lemmas.List.Elements.{All-append, All-push, All-contains}
 use Rattle.regalloc2_names.specs.declared.RegClass.{RegClass}
 use Rattle.regalloc2_names.specs.declared.RegClass.TheVariants.{Int, Float, Vector}
 use Rattle.regalloc2_names.specs.Register.{Register, VirtualRegister, no_vreg}
-use Rattle.regalloc2_names.specs.Place.{Place, NoPlace}
-use Rattle.regalloc2_names.specs.Point.{before}
+use Rattle.regalloc2_names.specs.Place.{Place, NoPlace, before}
 use Rattle.regalloc2_function.specs.FunctionValue.{FunctionValue, block_at}
-use Rattle.regalloc2_function.specs.SourceRun.{arguments_at}
-use Rattle.regalloc2_function.specs.Slots.{OfBranch}
-use Rattle.regalloc2_semantics.specs.Blocks.{target_at}
+use Rattle.regalloc2_semantics.specs.Runs.{arguments_at}
+use Rattle.regalloc2_semantics.specs.Places.{OfBranch}
+use Rattle.regalloc2_semantics.specs.Live.{target_at}
 use Rattle.regalloc2_fastalloc_state.specs.declared.inst_regs.InstRegs.{InstRegs}
 use Rattle.regalloc2_fastalloc_state.specs.StateParts.{VRegAllocsValue, SpillSlotsValue, AddsTempSlots, IsSlotOrNone, alloc_of, vreg_of_preg, slot_name}
 use Rattle.regalloc2_fastalloc_state.specs.StateParts.{units_of, later_slot, later_end}
@@ -28,10 +27,9 @@ use Rattle.regalloc2_fastalloc_proofs.proofs.Safety.StepsKeepSafe.{same_units}
 use Rattle.regalloc2_fastalloc_proofs.proofs.Safety.BranchKeepsSafe.{pushed_all}
 use Rattle.regalloc2_fastalloc_proofs.proofs.Branches.EdgeArgsGathered.{of_class-from}
 use Rattle.regalloc2_fastalloc_proofs.proofs.Slots.NewSlotsApart.{LaysOutTempSlots, lends_laid}
-use Rattle.regalloc2_fastalloc_proofs.proofs.Slots.StepsKeepSlotsApart.{IsOwnPlace, IsEndOrNone, KeepsToClass, IsOfMet, IsClassed, IsClassedTurn}
-use Rattle.regalloc2_fastalloc_proofs.proofs.Slots.StepsKeepSlotsApart.{StepClassed, slot_own, own_grows, moves_grow, dedicated_kept, own_end}
-use Rattle.regalloc2_fastalloc_proofs.proofs.Slots.StepsKeepSlotsApart.{classed_same, to_slot_only, left_in_slot, only_slot}
-use Rattle.regalloc2_fastalloc_proofs.proofs.Slots.StepsKeepSlotsApart.{evicts_preg_classed, evictions_classed, adds_move_if_classed}
+use Rattle.regalloc2_fastalloc_proofs.proofs.Slots.StepsKeepSlotsApart.{IsOwnPlace, IsEndOrNone, KeepsToClass, IsOfMet, IsClassed, IsClassedTurn, StepClassed}
+use Rattle.regalloc2_fastalloc_proofs.proofs.Slots.StepsKeepSlotsApart.{slot_own, own_grows, moves_grow, dedicated_kept, own_end, classed_same, to_slot_only}
+use Rattle.regalloc2_fastalloc_proofs.proofs.Slots.StepsKeepSlotsApart.{left_in_slot, only_slot, evicts_preg_classed, evictions_classed, adds_move_if_classed}
 use Rattle.regalloc2_fastalloc_proofs.proofs.Changes.InstChanges.{evicts_preg_changes}
 use Rattle.regalloc2_fastalloc_proofs.proofs.Changes.WalkChanges.{spills_argument_changes, pushes_changes}
 use Rattle.regalloc2_fastalloc_proofs.proofs.Changes.Evictions.{regs_evict}

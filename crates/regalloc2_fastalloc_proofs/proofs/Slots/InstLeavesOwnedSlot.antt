@@ -6,12 +6,12 @@ use Rattle.regalloc2_names.specs.Register.{VirtualRegister}
 use Rattle.regalloc2_names.specs.Place.{Place, InSlot}
 use Rattle.regalloc2_function.specs.Machine.{MachineValue}
 use Rattle.regalloc2_function.specs.OutputValue.{MoveValue}
-use Rattle.regalloc2_semantics.specs.Listing.{with_moves}
-use Rattle.regalloc2_semantics.specs.Carry.{Untouched}
-use Rattle.regalloc2_semantics.specs.BlockByPoints.{at_point}
+use Rattle.regalloc2_carry.specs.Listing.{with_moves}
+use Rattle.regalloc2_carry.specs.Carry.{Untouched}
+use Rattle.regalloc2_carry.specs.BlockByPoints.{at_point}
 use Rattle.regalloc2_semantics.proofs.Cells.{cases_place}
-use Rattle.regalloc2_semantics.proofs.Points.{at_point-here, at_point-other}
-use Rattle.regalloc2_semantics.proofs.UnwrittenPlaces.{NoMoveTo}
+use Rattle.regalloc2_carry.proofs.Points.{at_point-here, at_point-other}
+use Rattle.regalloc2_carry.proofs.UnwrittenPlaces.{NoMoveTo}
 use Rattle.regalloc2_fastalloc_state.specs.StateParts.{slot_name}
 use Rattle.regalloc2_fastalloc_proofs.specs.InstSteps.{StateValue}
 use Rattle.regalloc2_fastalloc_proofs.specs.Safety.{IsEndOfMove, IsEndOfArgMove, IsSafeEdit}

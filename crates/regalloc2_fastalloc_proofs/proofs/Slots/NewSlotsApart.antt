@@ -1,7 +1,7 @@
 -- New slots are above all others, at units of their own.
 use Rattle.regalloc2_parts.proofs.Tidying.{contains_here, contains_there}
-use Rattle.std.proofs.Common.{if◌then◌else◌, ℕ, zero, suc, ◌≡◌, ◌≢◌, ◌+◌, ◌-◌, ◌*◌, ◌/◌, ◌%◌, ◌<◌, ◌≤◌, Bool, true, false, List, [], ◌∷◌, refl, sym}
-use Rattle.std.proofs.Common.{ap, ◌∙◌, ⊎_elim, subst, arith, slice_index_or}
+use Rattle.std.proofs.Common.{if◌then◌else◌, ℕ, zero, suc, ◌≡◌, ◌≢◌, ◌+◌, ◌-◌, ◌*◌, ◌/◌, ◌%◌, ◌<◌, ◌≤◌, Bool, true, false, List, [], ◌∷◌, refl, sym, ap, ◌∙◌}
+use Rattle.std.proofs.Common.{⊎_elim, subst, arith, slice_index_or}
 use Rattle.std.specs.Prelude.{All, Contains}
 use Rattle.std.specs.Int.{next_multiple_of}
 use Rattle.std.proofs.lemmas.Bool.{cases_eq}
@@ -11,10 +11,10 @@ use Rattle.std.proofs.lemmas.List.Elements.{All-cons}
 use Rattle.regalloc2_names.specs.declared.RegClass.{RegClass}
 use Rattle.regalloc2_names.specs.Register.{VirtualRegister}
 use Rattle.regalloc2_names.specs.Place.{Place, NoPlace, InSlot}
-use Rattle.regalloc2_function.specs.Slots.{Owner, OfVReg, OfBranch, class_of_owner}
+use Rattle.regalloc2_semantics.specs.Places.{Owner, OfVReg, OfBranch, class_of_owner}
 use Rattle.regalloc2_fastalloc_state.specs.StateParts.{SpillSlotsValue, GetsSpillSlot, AddsTempSlots, slot_name, new_slot, later_slot, later_end, units_of}
-use Rattle.regalloc2_fastalloc_proofs.specs.SlotLayout.{OwnedSlot, start_in, start_of_slot, end_of_slot, IsLaidOut, AreSlotsApart, HaveDistinctOwners, LaysOut}
-use Rattle.regalloc2_fastalloc_proofs.specs.SlotLayout.{IsOwnSlot, AreLaidOut}
+use Rattle.regalloc2_fastalloc_proofs.specs.SlotLayout.{OwnedSlot, start_in, start_of_slot, end_of_slot, IsLaidOut, AreSlotsApart, HaveDistinctOwners}
+use Rattle.regalloc2_fastalloc_proofs.specs.SlotLayout.{LaysOut, IsOwnSlot, AreLaidOut}
 use Rattle.regalloc2_fastalloc_proofs.proofs.Slots.SlotsGrow.{gives_stay}
 use Rattle.regalloc2_fastalloc_proofs.proofs.Slots.StepsKeepSlots.{cases_none}
 use Rattle.regalloc2_fastalloc_proofs.proofs.Branches.ArgMovesEffect.{one_slot}

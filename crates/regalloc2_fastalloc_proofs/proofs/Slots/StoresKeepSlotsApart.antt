@@ -5,23 +5,23 @@ use Rattle.std.proofs.lemmas.List.Elements.{All-append, All-push, All-cons, All-
 use Rattle.regalloc2_names.specs.declared.RegClass.{RegClass}
 use Rattle.regalloc2_names.specs.Register.{Register, VirtualRegister, class_code}
 use Rattle.regalloc2_names.specs.Operand.{OperandValue}
-use Rattle.regalloc2_names.specs.Place.{Place}
-use Rattle.regalloc2_names.specs.Point.{before}
+use Rattle.regalloc2_names.specs.Place.{Place, before}
 use Rattle.regalloc2_function.specs.FunctionValue.{FunctionValue, block_at, op_at}
 use Rattle.regalloc2_function.specs.OutputValue.{MoveValue}
 use Rattle.regalloc2_fastalloc_proofs.specs.SlotLayout.{OwnedSlot}
-use Rattle.regalloc2_semantics.specs.Stores.{Store, moves_by, store_moves, IsOneOf}
-use Rattle.regalloc2_semantics.specs.Stores.IsOneOf.{first, later}
-use Rattle.regalloc2_analysis.specs.BranchDefs.BranchDefs.{IsEdgeInto, fixed_definition}
+use Rattle.regalloc2_carry.specs.Stores.{Store, moves_by, store_moves, IsOneOf}
+use Rattle.regalloc2_carry.specs.Stores.IsOneOf.{first, later}
+use Rattle.regalloc2_semantics.specs.Live.{IsEdgeInto}
+use Rattle.regalloc2_analysis.specs.BranchDefs.BranchDefs.{fixed_definition}
 use Rattle.regalloc2_fastalloc_state.specs.StateParts.{VRegAllocsValue, SpillSlotsValue, IsSlotOrNone, alloc_of, vreg_of_preg, slot_name}
 use Rattle.regalloc2_fastalloc_proofs.specs.InstSteps.{StateValue, MayHold}
-use Rattle.regalloc2_fastalloc_proofs.specs.StoreSteps.{branch_operands, fixed_or_slot, IsStoredFor, IsConcerned, GetsSlots, no_slot, one_slot}
-use Rattle.regalloc2_fastalloc_proofs.specs.StoreSteps.{StoresFor, pushed_moves, StoresBranchDefs, none_stored, all_stored}
+use Rattle.regalloc2_fastalloc_proofs.specs.StoreSteps.{branch_operands, fixed_or_slot, IsStoredFor, IsConcerned, GetsSlots, no_slot, one_slot, StoresFor}
+use Rattle.regalloc2_fastalloc_proofs.specs.StoreSteps.{pushed_moves, StoresBranchDefs, none_stored, all_stored}
 use Rattle.regalloc2_fastalloc_proofs.proofs.BlockBegin.StoresOfDefs.{with_slots}
 use Rattle.regalloc2_fastalloc_proofs.proofs.Safety.StoresKeepSafe.{stored_defines, stored_concerned}
 use Rattle.regalloc2_fastalloc_proofs.proofs.Safety.StoredDefs.{IsStoredOfClass}
-use Rattle.regalloc2_fastalloc_proofs.proofs.Slots.StepsKeepSlotsApart.{IsOwnPlace, IsEndOrNone, KeepsToClass, IsClassed}
-use Rattle.regalloc2_fastalloc_proofs.proofs.Slots.StepsKeepSlotsApart.{slot_own, own_end, only_slot, dedicated_kept}
+use Rattle.regalloc2_fastalloc_proofs.proofs.Slots.StepsKeepSlotsApart.{IsOwnPlace, IsEndOrNone, KeepsToClass, IsClassed, slot_own, own_end, only_slot}
+use Rattle.regalloc2_fastalloc_proofs.proofs.Slots.StepsKeepSlotsApart.{dedicated_kept}
 
 -- moves that keep to a class are pushed
 pushed_keeps : (made : List OwnedSlot) (point : ℕ) (ms : List MoveValue) → All (λ m. KeepsToClass made (point, m)) ms →

@@ -8,21 +8,19 @@ use Rattle.regalloc2_names.specs.declared.RegClass.{RegClass}
 use Rattle.regalloc2_names.specs.declared.OperandConstraint.{OperandConstraint}
 use Rattle.regalloc2_names.specs.declared.OperandConstraint.TheVariants.{Reg, FixedReg, Reuse}
 use Rattle.regalloc2_names.specs.declared.sets.PRegSet.{PRegSet}
-use Rattle.regalloc2_names.specs.Register.{Register, VirtualRegister}
-use Rattle.regalloc2_names.specs.RegisterSet.{has_register, registers_of}
+use Rattle.regalloc2_names.specs.Register.{Register, VirtualRegister, has_register, registers_of}
 use Rattle.regalloc2_names.specs.Listed.{listed_is}
-use Rattle.regalloc2_names.specs.Point.{after}
+use Rattle.regalloc2_names.specs.Place.{after, Place, NoPlace, InRegister, is_place}
 use Rattle.regalloc2_names.specs.Operand.{OperandValue, fixed_register, is_def, is_late, is_reading}
-use Rattle.regalloc2_names.specs.Place.{Place, NoPlace, InRegister, is_place}
 use Rattle.regalloc2_names.specs.Same.{is_place-same}
-use Rattle.regalloc2_function.specs.FunctionValue.{FunctionValue, InstValue, block_at, inst_at, op_at}
+use Rattle.regalloc2_function.specs.FunctionValue.{FunctionValue, InstValue, block_at, inst_at, op_at, last_of}
 use Rattle.regalloc2_function.specs.Machine.{MachineValue}
-use Rattle.regalloc2_function.specs.SourceRun.{arguments_at}
-use Rattle.regalloc2_function.specs.WellFormed.{IsWellFormed, last_of}
-use Rattle.regalloc2_semantics.specs.Blocks.{HasEdge, target_at}
-use Rattle.regalloc2_semantics.proofs.SingleDef.{IsDefOperand, MadeBefore, by_earlier, by_param, made_before, one_operand, reads_defined}
+use Rattle.regalloc2_semantics.specs.Runs.{arguments_at}
+use Rattle.regalloc2_function.specs.WellFormed.{IsWellFormed}
+use Rattle.regalloc2_semantics.specs.Live.{HasEdge, target_at, IsEdgeInto}
+use Rattle.regalloc2_carry.proofs.SingleDef.{IsDefOperand, MadeBefore, by_earlier, by_param, made_before, one_operand, reads_defined}
 use Rattle.regalloc2_semantics.proofs.Soundness.{well_formed_are_sound}
-use Rattle.regalloc2_analysis.specs.BranchDefs.BranchDefs.{IsEdgeInto, fixed_definition}
+use Rattle.regalloc2_analysis.specs.BranchDefs.BranchDefs.{fixed_definition}
 use Rattle.regalloc2_analysis.proofs.BranchDefsLemmas.BlockEnds.{last_within}
 use Rattle.regalloc2_fastalloc_state.specs.declared.inst_regs.InstRegs.{InstRegs}
 use Rattle.regalloc2_fastalloc_state.specs.ScratchPool.{Moves}
@@ -30,16 +28,16 @@ use Rattle.regalloc2_fastalloc_state.specs.StateParts.{IsLruOf, SpillSlotsValue,
 use Rattle.regalloc2_fastalloc_state.specs.InstRegs.{is_free_throughout}
 use Rattle.regalloc2_fastalloc_proofs.specs.InstSteps.{StateValue, AllocsInst, EvictsEach, EvictsFixed, RemovesClobbers, MovesUses, ReservesRegs, order_of}
 use Rattle.regalloc2_fastalloc_proofs.specs.InstSteps.{none_cleared, not_fixed, of_fixed, of_reuse, none_left, one_more, none_moved, not_moved, one_moved}
-use Rattle.regalloc2_fastalloc_proofs.specs.BranchSteps.{RegsAvoidStack, ClassMove, GathersMoves, GathersEdgeMoves, no_edge, none_gathered, of_class, one_edge}
-use Rattle.regalloc2_fastalloc_proofs.specs.BranchSteps.{one_gathered, own_argument}
-use Rattle.regalloc2_fastalloc_proofs.specs.BlockStart.{ReloadsParams, none_begun, one_begun}
 use Rattle.regalloc2_fastalloc_proofs.specs.InstSteps.{IsFresh, PreparesRegs}
+use Rattle.regalloc2_fastalloc_proofs.specs.BranchSteps.{RegsAvoidStack, ClassMove, GathersMoves, GathersEdgeMoves, no_edge, none_gathered, of_class}
+use Rattle.regalloc2_fastalloc_proofs.specs.BranchSteps.{one_edge, one_gathered, own_argument}
+use Rattle.regalloc2_fastalloc_proofs.specs.BlockStart.{ReloadsParams, none_begun, one_begun}
 use Rattle.regalloc2_fastalloc_proofs.specs.StoreSteps.{IsStoredFor, branch_operands, given as given_param, its_own}
 use Rattle.regalloc2_fastalloc_proofs.proofs.Unspilled.OperandsSpillFree.{operands_placed, unsent_same}
-use Rattle.regalloc2_fastalloc_proofs.specs.Unspilled.SpillFree.{ArePlaced, ArePlain, FitInRegs, HasRegOperandsOnly, IsDefinedByOperand, IsSpillFree, IsSpillFreeFrom}
+use Rattle.regalloc2_fastalloc_proofs.specs.Unspilled.SpillFree.{ArePlaced, ArePlain, FitInRegs, HasRegOperandsOnly, IsDefinedByOperand, IsSpillFree}
+use Rattle.regalloc2_fastalloc_proofs.specs.Unspilled.SpillFree.{IsSpillFreeFrom, IsSpillFreeIn, LeavesSpillFree, is_same_number}
 use Rattle.regalloc2_fastalloc_proofs.specs.Safety.{IsWhole}
 use Rattle.regalloc2_fastalloc_proofs.proofs.Slots.StepsKeepSlots.{cases_none}
-use Rattle.regalloc2_fastalloc_proofs.specs.Unspilled.SpillFree.{IsSpillFreeIn, LeavesSpillFree, is_same_number}
 
 -- the registers that weren't used are available at another instruction
 with_turn : (names : List VirtualRegister) (gone : ℕ → Bool) (t : StateValue) (u w : InstRegs) → IsSpillFree names gone t u →

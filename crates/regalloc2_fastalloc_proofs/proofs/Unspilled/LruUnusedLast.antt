@@ -1,6 +1,6 @@
 -- LRU lists whose unused registers are at the end.
-use Rattle.std.proofs.Common.{ℕ, zero, suc, ◌≡◌, ◌+◌, ◌<◌, ◌≤◌, inl, inr, Bool, true, false, List, [], ◌∷◌, ◌++◌, cond, slice_index_or, length}
-use Rattle.std.proofs.Common.{refl, arith, sym, ap, ◌∙◌, subst}
+use Rattle.std.proofs.Common.{ℕ, zero, suc, ◌≡◌, ◌+◌, ◌<◌, ◌≤◌, inl, inr, Bool, true, false, List, [], ◌∷◌, ◌++◌, cond, slice_index_or, length, refl, arith}
+use Rattle.std.proofs.Common.{sym, ap, ◌∙◌, subst}
 use Rattle.std.specs.Prelude.{Some, Contains, filter, find, not, reverse, ◌↔◌}
 use Rattle.std.proofs.lemmas.Bool.{cases_Bool}
 use Rattle.std.proofs.lemmas.List.{append_assoc, reverse-append}
@@ -8,7 +8,7 @@ use Rattle.std.proofs.lemmas.List.Elements.{All-contains, All-contains_itself, A
 use Rattle.regalloc2_names.specs.declared.RegClass.{RegClass}
 use Rattle.regalloc2_names.specs.Register.{Register, is_register}
 use Rattle.regalloc2_names.specs.Same.{is_register-same, is_register-true}
-use Rattle.regalloc2_function.specs.Fitting.{count_below, register_number}
+use Rattle.regalloc2_function.specs.Machine.{count_below, register_number}
 use Rattle.regalloc2_fastalloc_state.specs.Choice.{chosen}
 
 -- a list without a given register

@@ -1,7 +1,7 @@
 -- An operand under `Reg` takes a register that holds no other vreg, as long as registers suffice for all vregs.
-use Rattle.regalloc2_semantics.proofs.Forms.{same_register}
-use Rattle.std.proofs.Common.{ℕ, zero, suc, ◌≡◌, ◌≢◌, ◌+◌, ◌<◌, ◌≤◌, ◌⊎◌, inl, inr, Bool, true, false, List, ◌∷◌, ◌++◌, length, refl, arith, sym}
-use Rattle.std.proofs.Common.{ap, ◌∙◌, subst, length-append, eqb-true}
+use Rattle.regalloc2_carry.proofs.Forms.{same_register}
+use Rattle.std.proofs.Common.{ℕ, zero, suc, ◌≡◌, ◌≢◌, ◌+◌, ◌<◌, ◌≤◌, ◌⊎◌, inl, inr, Bool, true, false, List, ◌∷◌, ◌++◌, length, refl, arith, sym, ap, ◌∙◌}
+use Rattle.std.proofs.Common.{subst, length-append, eqb-true}
 use Rattle.std.specs.Prelude.{Some, All, Contains, slice_index_or}
 use Rattle.std.specs.List.{IsDistinct}
 use Rattle.std.proofs.lemmas.Bool.{cases_Bool, and_right}
@@ -10,11 +10,10 @@ use Rattle.std.proofs.lemmas.Map.Keys.{IsDistinct-cons}
 use Rattle.regalloc2_names.specs.declared.RegClass.{RegClass}
 use Rattle.regalloc2_names.specs.declared.RegClass.TheVariants.{Int, Float, Vector}
 use Rattle.regalloc2_names.specs.declared.sets.PRegSet.{PRegSet}
-use Rattle.regalloc2_names.specs.Register.{Register, VirtualRegister, is_register}
-use Rattle.regalloc2_names.specs.RegisterSet.{has_register}
+use Rattle.regalloc2_names.specs.Register.{Register, VirtualRegister, is_register, has_register}
 use Rattle.regalloc2_names.specs.Place.{Place, NoPlace, InRegister}
 use Rattle.regalloc2_names.specs.Same.{is_register-true}
-use Rattle.regalloc2_function.specs.Fitting.{count_below, register_number}
+use Rattle.regalloc2_function.specs.Machine.{count_below, register_number}
 use Rattle.regalloc2_fastalloc_state.specs.declared.request.OperandRequest.{OperandRequest}
 use Rattle.regalloc2_fastalloc_state.specs.declared.request.Requirement.{Requirement}
 use Rattle.regalloc2_fastalloc_state.specs.declared.request.Requirement.TheVariants.{AnyPlace, AnyReg, InMemory, InPReg}
@@ -24,8 +23,8 @@ use Rattle.regalloc2_fastalloc_state.specs.StateParts.{IsLruOf, vreg_of_preg, al
 use Rattle.regalloc2_fastalloc_state.specs.Choice.{chosen}
 use Rattle.regalloc2_fastalloc_state.specs.InstRegs.{RemovesAvailable, is_available_at, is_free_throughout}
 use Rattle.regalloc2_fastalloc_proofs.specs.InstSteps.{StateValue, SameButOrder, AllocsOperand, ClaimsPlace, SelectsPlace, MeetsRequirement, in_slot}
-use Rattle.regalloc2_fastalloc_proofs.specs.InstSteps.{in_register, UsesReg, UsesPlace, used, not_used, TakesPlace, order_of}
-use Rattle.regalloc2_fastalloc_proofs.specs.InstSteps.{own, others, empty, cleared, stays, fixed, slot, free, is_stack_in, EvictsOtherVRegs}
+use Rattle.regalloc2_fastalloc_proofs.specs.InstSteps.{in_register, UsesReg, UsesPlace, used, not_used, TakesPlace, order_of, own, others, empty, cleared}
+use Rattle.regalloc2_fastalloc_proofs.specs.InstSteps.{stays, fixed, slot, free, is_stack_in, EvictsOtherVRegs}
 use Rattle.regalloc2_fastalloc_proofs.proofs.Unspilled.FreeAtAny.{free_at_any}
 use Rattle.regalloc2_fastalloc_proofs.proofs.Unspilled.LruUnusedLast.{without_register, but_from, but_less, but_most, but_not, counted, found_last, newest_first, same_members}
 use Rattle.regalloc2_fastalloc_proofs.proofs.Safety.StepsKeepState.{whole_tidy}

@@ -1,28 +1,26 @@
 -- Operands of an instruction under `Reg`, one after another, as long as registers suffice for all vregs.
-use Rattle.regalloc2_semantics.proofs.Operands.{reads_use}
-use Rattle.regalloc2_semantics.proofs.Forms.{same_register}
-use Rattle.std.proofs.Common.{ℕ, ◌≡◌, ◌≢◌, ◌+◌, ◌<◌, ◌≤◌, ◌⊎◌, inl, inr, Bool, true, false, List, length, refl, arith, sym, ap, ◌∙◌}
-use Rattle.std.proofs.Common.{subst, eqb-true, eq-eqb, get_or-set_same}
+use Rattle.regalloc2_carry.proofs.Operands.{reads_use}
+use Rattle.regalloc2_carry.proofs.Forms.{same_register}
+use Rattle.std.proofs.Common.{ℕ, ◌≡◌, ◌≢◌, ◌+◌, ◌<◌, ◌≤◌, ◌⊎◌, inl, inr, Bool, true, false, List, length, refl, arith, sym, ap, ◌∙◌, subst, eqb-true, eq-eqb}
+use Rattle.std.proofs.Common.{get_or-set_same}
 use Rattle.std.specs.Prelude.{None, Contains, nat_eq, slice_index_or, slice_set, ◌&&◌, ◌||◌, not}
 use Rattle.std.proofs.lemmas.Bool.{cases_Bool, cases_eq, or_right, and_right}
 use Rattle.std.proofs.lemmas.List.{get_or-set_other, length-set}
 use Rattle.regalloc2_names.specs.declared.RegClass.{RegClass}
 use Rattle.regalloc2_names.specs.declared.OperandConstraint.TheVariants.{Reg, FixedReg, Reuse}
 use Rattle.regalloc2_names.specs.declared.sets.PRegSet.{PRegSet}
-use Rattle.regalloc2_names.specs.Register.{Register, VirtualRegister, class_code}
-use Rattle.regalloc2_names.specs.RegisterSet.{has_register}
+use Rattle.regalloc2_names.specs.Register.{Register, VirtualRegister, class_code, has_register}
 use Rattle.regalloc2_names.specs.Operand.{OperandValue, is_def, is_late, is_reading}
-use Rattle.regalloc2_names.specs.Place.{Place, NoPlace, InRegister, is_place}
-use Rattle.regalloc2_names.specs.Point.{after as after_point}
+use Rattle.regalloc2_names.specs.Place.{Place, NoPlace, InRegister, is_place, after as after_point}
 use Rattle.regalloc2_names.specs.Same.{is_place-same}
 use Rattle.regalloc2_fastalloc_state.specs.declared.request.OperandRequest.{OperandRequest}
 use Rattle.regalloc2_fastalloc_state.specs.declared.request.Requirement.TheVariants.{AnyReg}
 use Rattle.regalloc2_fastalloc_state.specs.declared.inst_regs.InstRegs.{InstRegs}
 use Rattle.regalloc2_fastalloc_state.specs.StateParts.{slot_name, alloc_of, SetsAlloc}
 use Rattle.regalloc2_function.specs.FunctionValue.{op_at}
-use Rattle.regalloc2_fastalloc_proofs.specs.InstSteps.{StateValue, FreesAlloc, AllocsDefOp, ProcessesOperand, AllocsUse, AddsMoveIf, SameMachine}
-use Rattle.regalloc2_fastalloc_proofs.specs.InstSteps.{LocatesUse, a_register, a_use, a_def, a_reuse, requirement_of, def_request, is_another, sent}
-use Rattle.regalloc2_fastalloc_proofs.specs.InstSteps.{unsent, stays, located, use_request}
+use Rattle.regalloc2_fastalloc_proofs.specs.InstSteps.{StateValue, FreesAlloc, AllocsDefOp, ProcessesOperand, AllocsUse, AddsMoveIf, SameMachine, LocatesUse}
+use Rattle.regalloc2_fastalloc_proofs.specs.InstSteps.{a_register, a_use, a_def, a_reuse, requirement_of, def_request, is_another, sent, unsent, stays}
+use Rattle.regalloc2_fastalloc_proofs.specs.InstSteps.{located, use_request, SameButOrder, order_of, ProcessesOperandsAt, none_placed, of_other, one_placed}
 use Rattle.regalloc2_fastalloc_proofs.proofs.Unspilled.OperandTakesFreeReg.{Got, Taken, operand_got}
 use Rattle.regalloc2_fastalloc_proofs.specs.Unspilled.SpillFree.{FitInRegs, ArePlaced, ArePlain, IsSpillFree, IsSpillFreeIn}
 use Rattle.regalloc2_fastalloc_proofs.proofs.Evictions.PushedAndRemoved.{same_then}
@@ -30,7 +28,6 @@ use Rattle.regalloc2_fastalloc_proofs.proofs.Operands.FreeDef.{leave_whole}
 use Rattle.regalloc2_fastalloc_proofs.proofs.Inst.AcrossInst.{arrive_register}
 use Rattle.regalloc2_fastalloc_proofs.specs.Safety.{IsWhole}
 use Rattle.regalloc2_fastalloc_proofs.proofs.Safety.StepsKeepState.{whole_used}
-use Rattle.regalloc2_fastalloc_proofs.specs.InstSteps.{SameButOrder, order_of, ProcessesOperandsAt, none_placed, of_other, one_placed}
 
 -- the vreg for which a register was taken is there from now on, or its definition was seen and it has no location
 class_settled : (names : List VirtualRegister) (gone gone_now : ℕ → Bool) (n : ℕ) (r : Register) (class : RegClass) (ring : List Register) (t u : StateValue)

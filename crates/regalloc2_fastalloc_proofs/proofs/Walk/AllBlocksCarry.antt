@@ -8,13 +8,13 @@ use Rattle.regalloc2_names.specs.Place.{Place}
 use Rattle.regalloc2_function.specs.FunctionValue.{FunctionValue, BlockValue, block_at, inst_at, no_block}
 use Rattle.regalloc2_function.specs.WellFormed.{BlocksFollow}
 use Rattle.regalloc2_function.specs.OutputValue.{OutputValue}
-use Rattle.regalloc2_semantics.specs.Carry.{Carries}
-use Rattle.regalloc2_semantics.specs.BlockByPoints.{at_point, walked, listed}
-use Rattle.regalloc2_semantics.specs.Listing.{Item}
-use Rattle.regalloc2_semantics.specs.Blocks.{IsUsed, IsExcused, ExcusedAreSilent, ComesIn, GoesOut, BlockCarriesOn}
-use Rattle.regalloc2_semantics.proofs.CarryRules.{carries_nil}
-use Rattle.regalloc2_semantics.proofs.MoveInFront.{walked-none}
-use Rattle.regalloc2_semantics.proofs.SingleDef.{Made}
+use Rattle.regalloc2_carry.specs.Carry.{Carries}
+use Rattle.regalloc2_carry.specs.BlockByPoints.{at_point, walked, listed}
+use Rattle.regalloc2_carry.specs.Listing.{Item}
+use Rattle.regalloc2_carry.specs.Blocks.{IsUsed, IsExcused, ExcusedAreSilent, ComesIn, GoesOut, BlockCarriesOn}
+use Rattle.regalloc2_carry.proofs.CarryRules.{carries_nil}
+use Rattle.regalloc2_carry.proofs.MoveInFront.{walked-none}
+use Rattle.regalloc2_carry.proofs.SingleDef.{Made}
 use Rattle.regalloc2_fastalloc_proofs.specs.InstSteps.{StateValue}
 use Rattle.regalloc2_fastalloc_proofs.specs.BlockSteps.{AllocsBlocks, all_left, one_block}
 use Rattle.regalloc2_fastalloc_proofs.proofs.Moves.ScratchRegTaken.{Fit}

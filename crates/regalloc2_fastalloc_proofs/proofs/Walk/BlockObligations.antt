@@ -3,18 +3,17 @@ use Rattle.std.proofs.Common.{ℕ, zero, suc, ◌≡◌, ◌+◌, ◌-◌, ◌<�
 use Rattle.std.specs.Prelude.{Option, Some}
 use Rattle.std.proofs.lemmas.Bool.{cases_eq, or_cases, or_parts}
 use Rattle.regalloc2_names.specs.Register.{Register, VirtualRegister}
-use Rattle.regalloc2_names.specs.Place.{Place, InRegister}
-use Rattle.regalloc2_names.specs.Point.{before}
+use Rattle.regalloc2_names.specs.Place.{Place, InRegister, before}
 use Rattle.regalloc2_function.specs.FunctionValue.{FunctionValue, block_at, inst_at}
 use Rattle.regalloc2_function.specs.WellFormed.{DefinedOnce}
-use Rattle.regalloc2_semantics.specs.Carry.{Carries}
-use Rattle.regalloc2_semantics.specs.BlockByPoints.{at_point, walked, listed}
-use Rattle.regalloc2_semantics.specs.Blocks.{IsUnwritten, StandsBefore}
-use Rattle.regalloc2_semantics.proofs.CarryRules.{carries_weaken}
-use Rattle.regalloc2_semantics.proofs.NotRead.{ReadsOthersOnly}
-use Rattle.regalloc2_semantics.proofs.BlockBackward.{Relied}
-use Rattle.regalloc2_semantics.proofs.SingleDef.{IsDefOperand, ReadsDefined}
-use Rattle.regalloc2_semantics.proofs.Order.{reads_later}
+use Rattle.regalloc2_carry.specs.Carry.{Carries}
+use Rattle.regalloc2_carry.specs.BlockByPoints.{at_point, walked, listed}
+use Rattle.regalloc2_carry.specs.Blocks.{IsUnwritten, StandsBefore}
+use Rattle.regalloc2_carry.proofs.CarryRules.{carries_weaken}
+use Rattle.regalloc2_carry.proofs.NotRead.{ReadsOthersOnly}
+use Rattle.regalloc2_carry.proofs.BlockBackward.{Relied}
+use Rattle.regalloc2_carry.proofs.SingleDef.{IsDefOperand, ReadsDefined}
+use Rattle.regalloc2_carry.proofs.Order.{reads_later}
 use Rattle.regalloc2_fastalloc_proofs.specs.InstSteps.{StateValue, ends_block}
 use Rattle.regalloc2_fastalloc_proofs.specs.BlockStart.{ReloadsAtBegin}
 use Rattle.regalloc2_fastalloc_proofs.proofs.Operands.RecordOverState.{stands_at, slots_at}

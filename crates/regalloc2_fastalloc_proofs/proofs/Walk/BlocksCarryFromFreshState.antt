@@ -6,17 +6,17 @@ use Rattle.std.proofs.lemmas.List.{get_or_default}
 use Rattle.regalloc2_names.specs.Register.{VirtualRegister}
 use Rattle.regalloc2_names.specs.Operand.{OperandValue}
 use Rattle.regalloc2_names.specs.Place.{Place, NoPlace}
-use Rattle.regalloc2_function.specs.DebugPoints.{DefinesAt, PassesAt}
-use Rattle.regalloc2_function.specs.FunctionValue.{FunctionValue, IsLimited, block_at, inst_at, no_operand, op_at}
+use Rattle.regalloc2_semantics.specs.Debug.{DefinesAt, PassesAt}
+use Rattle.regalloc2_function.specs.FunctionValue.{FunctionValue, IsLimited, block_at, inst_at, no_operand, op_at, last_of}
 use Rattle.regalloc2_function.specs.Machine.{MachineValue}
 use Rattle.regalloc2_function.specs.OutputValue.{allocs_of}
-use Rattle.regalloc2_function.specs.SourceRun.{arguments_at}
-use Rattle.regalloc2_function.specs.WellFormed.{IsWellFormed, last_of}
-use Rattle.regalloc2_semantics.specs.BlockByPoints.{listed, block_walked}
-use Rattle.regalloc2_semantics.specs.Blocks.{BlockCarriesOn}
-use Rattle.regalloc2_semantics.proofs.SingleDef.{Made, one_made}
-use Rattle.regalloc2_semantics.proofs.SingleDef.Made.{by_operand}
-use Rattle.regalloc2_semantics.proofs.Paths.{UsedSomewhere}
+use Rattle.regalloc2_semantics.specs.Runs.{arguments_at}
+use Rattle.regalloc2_function.specs.WellFormed.{IsWellFormed, BranchDefinesInPlace}
+use Rattle.regalloc2_carry.specs.BlockByPoints.{listed, block_walked}
+use Rattle.regalloc2_carry.specs.Blocks.{BlockCarriesOn}
+use Rattle.regalloc2_carry.proofs.SingleDef.{Made, one_made}
+use Rattle.regalloc2_carry.proofs.SingleDef.Made.{by_operand}
+use Rattle.regalloc2_carry.proofs.Paths.{UsedSomewhere}
 use Rattle.regalloc2_fastalloc_state.specs.declared.inst_regs.InstRegs.{InstRegs}
 use Rattle.regalloc2_fastalloc_proofs.specs.InstSteps.{StateValue}
 use Rattle.regalloc2_fastalloc_proofs.specs.BranchSteps.{ProcessesBranch, IsOwnDef}
@@ -36,7 +36,6 @@ use Rattle.regalloc2_fastalloc_proofs.proofs.Branches.EdgesInto.{one_edge_into}
 use Rattle.regalloc2_fastalloc_proofs.proofs.Branches.BranchInWalk.{branches_carry}
 use Rattle.regalloc2_fastalloc_proofs.proofs.Safety.StoredDefs.{concerned_made, last_within}
 use Rattle.regalloc2_fastalloc_proofs.specs.Safety.{IsSafe}
-use Rattle.regalloc2_fastalloc_state.specs.Validate.Constraints.{BranchDefinesInPlace}
 use Rattle.regalloc2_fastalloc_state.specs.Validate.NoLimits.{AreTaken}
 use Rattle.regalloc2_fastalloc_proofs.proofs.Slots.InstsLeaveSlots.{WritesSound, keeps_slots}
 use Rattle.regalloc2_fastalloc_proofs.proofs.Walk.AllBlocksCarry.{begin_between, first_edge, all_blocks_carry}

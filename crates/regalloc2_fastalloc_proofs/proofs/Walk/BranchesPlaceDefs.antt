@@ -7,13 +7,12 @@ use Rattle.regalloc2_names.specs.declared.OperandConstraint.TheVariants.{Any, Re
 use Rattle.regalloc2_names.specs.Register.{Register}
 use Rattle.regalloc2_names.specs.Operand.{OperandValue, is_def, is_late}
 use Rattle.regalloc2_names.specs.Place.{Place, NoPlace, InRegister, InSlot}
-use Rattle.regalloc2_function.specs.FunctionValue.{FunctionValue, IsLimited, block_at, inst_at, op_at}
+use Rattle.regalloc2_function.specs.FunctionValue.{FunctionValue, IsLimited, block_at, inst_at, op_at, last_of}
 use Rattle.regalloc2_function.specs.Machine.{MachineValue}
 use Rattle.regalloc2_function.specs.OutputValue.{place_at}
-use Rattle.regalloc2_function.specs.WellFormed.{IsWellFormed, last_of}
-use Rattle.regalloc2_semantics.proofs.Order.{ends_within}
-use Rattle.regalloc2_semantics.proofs.SingleDef.{Made}
-use Rattle.regalloc2_fastalloc_state.specs.Validate.Constraints.{BranchDefinesInPlace, IsInPlace}
+use Rattle.regalloc2_function.specs.WellFormed.{IsWellFormed, BranchDefinesInPlace, IsInPlace}
+use Rattle.regalloc2_carry.proofs.Order.{ends_within}
+use Rattle.regalloc2_carry.proofs.SingleDef.{Made}
 use Rattle.regalloc2_fastalloc_state.specs.Validate.NoLimits.{AreTaken}
 use Rattle.regalloc2_fastalloc_state.specs.Positions.{positions_of}
 use Rattle.regalloc2_fastalloc_proofs.specs.InstSteps.{StateValue, AllocsInst, NeedsFixedReg, ends_block}

@@ -3,15 +3,14 @@ use Rattle.std.proofs.Common.{ℕ, ◌≡◌, ◌≢◌, ◌+◌, ◌<◌, ◌�
 use Rattle.std.specs.Prelude.{slice_index_or}
 use Rattle.std.proofs.lemmas.Bool.{cases_Bool, cases_lt}
 use Rattle.regalloc2_names.specs.Register.{VirtualRegister, no_vreg}
-use Rattle.regalloc2_names.specs.Place.{Place, NoPlace}
+use Rattle.regalloc2_names.specs.Place.{Place, NoPlace, before, after}
 use Rattle.std.proofs.lemmas.List.{get_or_default, get_or_past}
-use Rattle.regalloc2_function.specs.FunctionValue.{FunctionValue, BlockValue, InstValue, block_at, no_block, inst_at, no_inst, no_operand, op_at}
+use Rattle.regalloc2_function.specs.FunctionValue.{FunctionValue, BlockValue, InstValue, block_at, no_block, inst_at, no_inst, no_operand, op_at, last_of}
 use Rattle.regalloc2_names.specs.Operand.{OperandValue, is_def}
-use Rattle.regalloc2_names.specs.Point.{before, after}
-use Rattle.regalloc2_function.specs.WellFormed.{BlocksFollow, BlocksEnd, DefinedOnce, IsDefinedBy, UsesAreDefined, last_of}
-use Rattle.regalloc2_semantics.specs.Blocks.{IsUsedIn, IsUnwritten, IsUsed}
-use Rattle.regalloc2_semantics.proofs.SingleDef.{Made, IsDefOperand, TakesAt, one_made, one_operand, one_param, not_both, reads_defined, made_before, is_made}
-use Rattle.regalloc2_semantics.proofs.Order.{ends_before, ends_within, stands_later, reads_later, passes_later, passed_made}
+use Rattle.regalloc2_function.specs.WellFormed.{BlocksFollow, BlocksEnd, DefinedOnce, IsDefinedBy, UsesAreDefined}
+use Rattle.regalloc2_carry.specs.Blocks.{IsUsedIn, IsUnwritten, IsUsed}
+use Rattle.regalloc2_carry.proofs.SingleDef.{Made, IsDefOperand, TakesAt, one_made, one_operand, one_param, not_both, reads_defined, made_before, is_made}
+use Rattle.regalloc2_carry.proofs.Order.{ends_before, ends_within, stands_later, reads_later, passes_later, passed_made}
 use Rattle.regalloc2_fastalloc_proofs.specs.InstSteps.{StateValue}
 use Rattle.regalloc2_fastalloc_proofs.specs.BlockSteps.{AllocsBlocks}
 use Rattle.regalloc2_fastalloc_proofs.proofs.Safety.StepsKeepState.{place_in}

@@ -4,7 +4,7 @@ use Rattle.regalloc2_names.specs.Register.{VirtualRegister}
 use Rattle.regalloc2_names.specs.Place.{Place}
 use Rattle.regalloc2_function.specs.FunctionValue.{FunctionValue, block_at}
 use Rattle.regalloc2_function.specs.WellFormed.{ArgumentsCounted, BlocksFollow, BlocksEnd, DefinedOnce, UsesAreDefined}
-use Rattle.regalloc2_semantics.proofs.SingleDef.{Made}
+use Rattle.regalloc2_carry.proofs.SingleDef.{Made}
 use Rattle.regalloc2_fastalloc_proofs.specs.InstSteps.{StateValue}
 use Rattle.regalloc2_fastalloc_proofs.specs.BlockSteps.{AllocsBlockInsts, BeginsBlock, AllocsBlocks}
 use Rattle.regalloc2_fastalloc_proofs.proofs.Walk.InstBoundaries.{BranchKept}

@@ -2,17 +2,17 @@
 use Rattle.std.proofs.Common.{ℕ, ◌≡◌, ◌⊎◌, inl, inr, Bool, true, false, List, refl, sym, ap, subst, arith}
 use Rattle.std.specs.Prelude.{Option, None, Some, is_some}
 use Rattle.regalloc2_names.specs.Register.{VirtualRegister}
-use Rattle.regalloc2_names.specs.Place.{Place}
-use Rattle.regalloc2_names.specs.Point.{before, after}
+use Rattle.regalloc2_names.specs.Place.{Place, before, after}
 use Rattle.regalloc2_function.specs.FunctionValue.{FunctionValue, inst_at}
-use Rattle.regalloc2_semantics.specs.Listing.{Item}
-use Rattle.regalloc2_semantics.specs.Carry.{Carries, Undefined}
-use Rattle.regalloc2_semantics.specs.BlockByPoints.{at_point, walked, listed}
-use Rattle.regalloc2_semantics.specs.OperandsPlaced.{located, in_slot, made}
-use Rattle.regalloc2_semantics.proofs.CarryRules.{carries_weaken}
-use Rattle.regalloc2_semantics.proofs.NotRead.{ReadsOthersOnly, silent_walked, carries_behind}
-use Rattle.regalloc2_semantics.proofs.UnwrittenPlaces.{Keeps, carries_kept_walked}
-use Rattle.regalloc2_semantics.proofs.BlockBackward.{StepOf}
+use Rattle.regalloc2_carry.specs.Listing.{Item}
+use Rattle.regalloc2_carry.specs.Carry.{Carries}
+use Rattle.regalloc2_semantics.specs.Live.{Undefined}
+use Rattle.regalloc2_carry.specs.BlockByPoints.{at_point, walked, listed}
+use Rattle.regalloc2_carry.specs.OperandsPlaced.{located, in_slot, made}
+use Rattle.regalloc2_carry.proofs.CarryRules.{carries_weaken}
+use Rattle.regalloc2_carry.proofs.NotRead.{ReadsOthersOnly, silent_walked, carries_behind}
+use Rattle.regalloc2_carry.proofs.UnwrittenPlaces.{Keeps, carries_kept_walked}
+use Rattle.regalloc2_carry.proofs.BlockBackward.{StepOf}
 use Rattle.regalloc2_fastalloc_proofs.specs.InstSteps.{StateValue}
 use Rattle.regalloc2_fastalloc_proofs.proofs.Operands.RecordOverState.{stands_at, slots_at}
 use Rattle.regalloc2_fastalloc_proofs.proofs.Operands.DefinedNumbers.{defined_by, defined_by-at}

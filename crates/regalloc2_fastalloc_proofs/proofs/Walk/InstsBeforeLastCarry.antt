@@ -5,12 +5,12 @@ use Rattle.regalloc2_names.specs.Register.{VirtualRegister}
 use Rattle.regalloc2_names.specs.Place.{Place, NoPlace}
 use Rattle.regalloc2_function.specs.FunctionValue.{FunctionValue, inst_at}
 use Rattle.regalloc2_function.specs.OutputValue.{place_at}
-use Rattle.regalloc2_semantics.specs.Listing.{Item}
-use Rattle.regalloc2_semantics.specs.Carry.{Carries}
-use Rattle.regalloc2_semantics.specs.BlockByPoints.{at_point, walked, listed}
-use Rattle.regalloc2_semantics.proofs.ListingParts.{walked_split}
-use Rattle.regalloc2_semantics.proofs.NotRead.{ReadsOthersOnly}
-use Rattle.regalloc2_semantics.proofs.BlockBackward.{Relied, step_carried}
+use Rattle.regalloc2_carry.specs.Listing.{Item}
+use Rattle.regalloc2_carry.specs.Carry.{Carries}
+use Rattle.regalloc2_carry.specs.BlockByPoints.{at_point, walked, listed}
+use Rattle.regalloc2_carry.proofs.ListingParts.{walked_split}
+use Rattle.regalloc2_carry.proofs.NotRead.{ReadsOthersOnly}
+use Rattle.regalloc2_carry.proofs.BlockBackward.{Relied, step_carried}
 use Rattle.regalloc2_fastalloc_proofs.specs.InstSteps.{StateValue, AllocsInst, ends_block}
 use Rattle.regalloc2_fastalloc_proofs.proofs.Operands.RecordOverState.{stands_at, slots_at}
 use Rattle.regalloc2_fastalloc_proofs.proofs.Operands.DefinedNumbers.{defined_by}

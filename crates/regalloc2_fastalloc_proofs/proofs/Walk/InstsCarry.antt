@@ -3,15 +3,14 @@ use Rattle.std.proofs.Common.{ℕ, ◌≡◌, ◌+◌, ◌<◌, ◌≤◌, false
 use Rattle.std.specs.Prelude.{None, Some, slice_index_or}
 use Rattle.regalloc2_names.specs.declared.RegClass.{RegClass}
 use Rattle.regalloc2_names.specs.Register.{Register, VirtualRegister}
-use Rattle.regalloc2_names.specs.Place.{Place, NoPlace, InRegister, InSlot}
-use Rattle.regalloc2_names.specs.Point.{before}
+use Rattle.regalloc2_names.specs.Place.{Place, NoPlace, InRegister, InSlot, before}
 use Rattle.regalloc2_function.specs.FunctionValue.{FunctionValue, InstValue, inst_at}
 use Rattle.regalloc2_function.specs.OutputValue.{place_at}
-use Rattle.regalloc2_semantics.specs.Carry.{Carries}
-use Rattle.regalloc2_semantics.specs.BlockByPoints.{at_point, AllFrom, listed}
-use Rattle.regalloc2_semantics.specs.OperandsPlaced.{Need}
-use Rattle.regalloc2_semantics.proofs.CarryRules.{carries_nil}
-use Rattle.regalloc2_semantics.proofs.MoveInFront.{walked-none}
+use Rattle.regalloc2_carry.specs.Carry.{Carries}
+use Rattle.regalloc2_carry.specs.BlockByPoints.{at_point, AllFrom, listed}
+use Rattle.regalloc2_carry.specs.OperandsPlaced.{Need}
+use Rattle.regalloc2_carry.proofs.CarryRules.{carries_nil}
+use Rattle.regalloc2_carry.proofs.MoveInFront.{walked-none}
 use Rattle.regalloc2_fastalloc_proofs.specs.InstSteps.{StateValue}
 use Rattle.regalloc2_fastalloc_proofs.specs.BlockSteps.{offset_of}
 use Rattle.regalloc2_fastalloc_state.specs.StateParts.{alloc_of, vreg_of_preg, slot_name, units_of, IsSlotOrNone}

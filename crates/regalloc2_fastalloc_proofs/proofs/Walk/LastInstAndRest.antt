@@ -4,14 +4,12 @@ use Rattle.std.proofs.Common.{ℕ, ◌≡◌, ◌+◌, ◌<◌, ◌≤◌, inl, 
 use Rattle.std.specs.Prelude.{Some, slice_index_or}
 use Rattle.std.proofs.lemmas.Bool.{cases_eq}
 use Rattle.regalloc2_names.specs.Register.{VirtualRegister}
-use Rattle.regalloc2_names.specs.Place.{Place, NoPlace}
-use Rattle.regalloc2_names.specs.Point.{before, after}
-use Rattle.regalloc2_function.specs.FunctionValue.{FunctionValue, block_at, inst_at}
-use Rattle.regalloc2_function.specs.WellFormed.{last_of}
+use Rattle.regalloc2_names.specs.Place.{Place, NoPlace, before, after}
+use Rattle.regalloc2_function.specs.FunctionValue.{FunctionValue, block_at, inst_at, last_of}
 use Rattle.regalloc2_function.specs.OutputValue.{place_at}
-use Rattle.regalloc2_semantics.specs.BlockByPoints.{at_point, listed}
-use Rattle.regalloc2_semantics.proofs.Order.{ends_within}
-use Rattle.regalloc2_semantics.proofs.UnwrittenPlaces.{Keeps}
+use Rattle.regalloc2_carry.specs.BlockByPoints.{at_point, listed}
+use Rattle.regalloc2_carry.proofs.Order.{ends_within}
+use Rattle.regalloc2_carry.proofs.UnwrittenPlaces.{Keeps}
 use Rattle.regalloc2_fastalloc_proofs.specs.InstSteps.{StateValue, AllocsInst}
 use Rattle.regalloc2_fastalloc_proofs.specs.BlockSteps.{AllocsInstInBlock, AllocsBlockInsts, at_end, one_in}
 use Rattle.regalloc2_fastalloc_proofs.proofs.Operands.RecordOverState.{slots_at, grown_slots}

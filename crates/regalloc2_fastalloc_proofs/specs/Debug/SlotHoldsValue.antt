@@ -4,14 +4,12 @@ use Rattle.regalloc2_names.specs.Register.{VirtualRegister}
 use Rattle.regalloc2_names.specs.Place.{Place}
 use Rattle.regalloc2_function.specs.FunctionValue.{FunctionValue, inst_at, op_at}
 use Rattle.regalloc2_function.specs.OutputValue.{OutputValue, allocs_of, place_at}
-use Rattle.regalloc2_function.specs.Path.{Way, Onward, end_of, IsPath}
-use Rattle.regalloc2_function.specs.SourceRun.{source_before}
+use Rattle.regalloc2_semantics.specs.Runs.{Way, Onward, end_of, IsPath, source_before, after_moves, moves_at, cells_before}
 use Rattle.regalloc2_names.specs.Operand.{is_reading}
-use Rattle.regalloc2_function.specs.AllocatedRun.{after_moves, moves_at, cells_before}
-use Rattle.regalloc2_function.specs.DebugPoints.{DefinesAt}
-use Rattle.regalloc2_semantics.specs.Carry.{Spares, Undefined}
-use Rattle.regalloc2_semantics.specs.Live.{IsLive, HasEntered}
-use Rattle.regalloc2_semantics.proofs.UnwrittenPlaces.{NoMoveTo}
+use Rattle.regalloc2_semantics.specs.Debug.{DefinesAt}
+use Rattle.regalloc2_carry.specs.Carry.{Spares}
+use Rattle.regalloc2_semantics.specs.Live.{Undefined, IsLive, HasEntered}
+use Rattle.regalloc2_carry.proofs.UnwrittenPlaces.{NoMoveTo}
 
 -- an operand of an instruction reads v in a place
 pub record ReadsInPlace (f : FunctionValue) (out : OutputValue) (v : VirtualRegister) (p : Place) (i k : ℕ) : Type 0 where

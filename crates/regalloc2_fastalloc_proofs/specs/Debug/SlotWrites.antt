@@ -1,15 +1,13 @@
 -- Which moves write the slot of a vreg, stated of the output alone.
 use Rattle.std.specs.Prelude.{ℕ, ◌≡◌, ◌<◌, ◌+◌, true, false, All, length, List, ◌∷◌}
 use Rattle.regalloc2_names.specs.Register.{VirtualRegister}
-use Rattle.regalloc2_names.specs.Place.{Place, InSlot}
-use Rattle.regalloc2_names.specs.Point.{before, after}
+use Rattle.regalloc2_names.specs.Place.{Place, InSlot, before, after}
 use Rattle.regalloc2_function.specs.FunctionValue.{FunctionValue, block_at, inst_at, op_at}
 use Rattle.regalloc2_function.specs.OutputValue.{OutputValue}
-use Rattle.regalloc2_function.specs.Path.{Way, Onward, end_of, IsPath}
-use Rattle.regalloc2_function.specs.DebugPoints.{DefinesAt}
-use Rattle.regalloc2_function.specs.Slots.{StandsInSlot}
-use Rattle.regalloc2_semantics.specs.Carry.{Undefined}
-use Rattle.regalloc2_semantics.specs.Live.{IsLive, HasEntered}
+use Rattle.regalloc2_semantics.specs.Runs.{Way, Onward, end_of, IsPath}
+use Rattle.regalloc2_semantics.specs.Debug.{DefinesAt}
+use Rattle.regalloc2_semantics.specs.Places.{StandsInSlot}
+use Rattle.regalloc2_semantics.specs.Live.{Undefined, IsLive, HasEntered}
 use Rattle.regalloc2_names.specs.Operand.{is_def}
 use Rattle.regalloc2_fastalloc_proofs.specs.StoreSteps.{IsStoredAt}
 use Rattle.regalloc2_fastalloc_proofs.specs.Debug.SlotHoldsValue.{ReadsInPlace, ShowsAt}

@@ -6,10 +6,9 @@ use Rattle.regalloc2_names.specs.declared.RegAllocError.{RegAllocError}
 use Rattle.regalloc2_names.specs.declared.RegAllocError.TheVariants.{Memory}
 use Rattle.regalloc2_function.specs.FunctionValue.{FunctionValue, inst_at, no_inst}
 use Rattle.regalloc2_function.specs.Machine.{MachineValue}
-use Rattle.regalloc2_function.specs.Reasons.{HasShape, IsShapeFault, HasSoundness, IsSoundnessFault}
+use Rattle.regalloc2_function.specs.Reasons.{HasShape, IsShapeFault, HasSoundness, IsSoundnessFault, IsFunctionFault}
 use Rattle.regalloc2_function.specs.WellFormed.{ReusesAreSound, FixedAvoidClobbers, IsWellFormed}
-use Rattle.regalloc2_fastalloc_state.specs.Validate.Validated.{IsFunctionFault}
-use Rattle.regalloc2_fastalloc_state.specs.Validate.Validated.IsFunctionFault.{memory, misshapen, unsound}
+use Rattle.regalloc2_function.specs.Reasons.IsFunctionFault.{memory, misshapen, unsound}
 
 -- what the tests test is what a well-formed function has
 pub tested_well_formed : (f : FunctionValue) (env : MachineValue) → HasShape f → HasSoundness f → ((i : ℕ) → i < length f.insts → ReusesAreSound env (inst_at f i)) →

@@ -1,19 +1,15 @@
 -- What the tests of operands' constraints say, one instruction at a time.
 use Rattle.std.specs.Prelude.{ℕ, ◌≡◌, ◌<◌, ◌⊎◌, Bool, true, false, List, length}
-use Rattle.regalloc2_names.specs.declared.OperandConstraint.{OperandConstraint}
-use Rattle.regalloc2_names.specs.declared.OperandConstraint.TheVariants.{Any, Reg, Stack, FixedReg, Reuse, Limit}
+use Rattle.regalloc2_names.specs.declared.OperandConstraint.TheVariants.{FixedReg, Reuse}
 use Rattle.regalloc2_names.specs.declared.OperandKind.TheVariants.{Def, Use}
 use Rattle.regalloc2_names.specs.declared.OperandPos.TheVariants.{Early, Late}
 use Rattle.regalloc2_names.specs.declared.RegClass.{RegClass}
 use Rattle.regalloc2_names.specs.declared.sets.PRegSet.{PRegSet}
-use Rattle.regalloc2_names.specs.declared.RegAllocError.{RegAllocError}
-use Rattle.regalloc2_names.specs.declared.RegAllocError.TheVariants.{Unsupported}
-use Rattle.regalloc2_names.specs.Register.{Register}
-use Rattle.regalloc2_names.specs.RegisterSet.{has_register}
-use Rattle.regalloc2_names.specs.Operand.{OperandValue, is_def, is_reading}
-use Rattle.regalloc2_function.specs.FunctionValue.{FunctionValue, InstValue, inst_at, op_at}
+use Rattle.regalloc2_names.specs.Register.{Register, has_register}
+use Rattle.regalloc2_names.specs.Operand.{OperandValue, is_reading}
+use Rattle.regalloc2_function.specs.FunctionValue.{op_at}
 use Rattle.regalloc2_function.specs.Machine.{MachineValue}
-use Rattle.regalloc2_function.specs.WellFormed.{MayBeReused, ReusesAreSound, FixedAvoidClobbers}
+use Rattle.regalloc2_function.specs.WellFormed.{MayBeReused}
 
 -- an operand that isn't a reuse
 abbrev pub IsNoReuse : OperandValue → Type 0
@@ -49,42 +45,3 @@ AvoidsClobbers clobbers o is_reused = (r : Register) → o.constraint ≡ FixedR
 abbrev pub OperandAvoidsClobbers : PRegSet → List OperandValue → ℕ → Type 0
 OperandAvoidsClobbers clobbers operands k = (r : Register) → (op_at operands k).constraint ≡ FixedReg r → ((op_at operands k).kind ≡ Def)
     ⊎ ((op_at operands k).position ≡ Late) ⊎ IsReusedOperand operands k → has_register clobbers r ≡ false
-
--- no operand has `Limit`
-abbrev pub IsUnlimited : OperandValue → Type 0
-IsUnlimited o = (n : ℕ) → o.constraint ≡ Limit n → ⊥
-
-abbrev pub AreUnlimited : InstValue → Type 0
-AreUnlimited i = (k : ℕ) → k < length i.operands → IsUnlimited (op_at i.operands k)
-
--- the place of an operand under a constraint is known before registers are chosen: a register by name, or a stack place if need be
-abbrev pub IsInPlace : OperandConstraint → Type 0
-IsInPlace Any = Unit {0}
-IsInPlace Reg = ⊥
-IsInPlace Stack = Unit {0}
-IsInPlace (FixedReg r) = Unit {0}
-IsInPlace (Reuse n) = ⊥
-IsInPlace (Limit n) = Unit {0}
-
-abbrev pub DefinesInPlace : OperandValue → Type 0
-DefinesInPlace o = is_def o.kind ≡ true → IsInPlace o.constraint
-
--- a branch defines in such places alone
-abbrev pub BranchDefinesInPlace : InstValue → Type 0
-BranchDefinesInPlace i = i.is_branch ≡ true → (k : ℕ) → k < length i.operands → DefinesInPlace (op_at i.operands k)
-
--- the first instruction that fails a test
-pub record IsFirstFailing (f : FunctionValue) (P : InstValue → Type 0) (i : ℕ) : Type 0 where
-  pub there : i < length f.insts
-  pub fails : P (inst_at f i) → ⊥
-  pub passed : (j : ℕ) → j < i → P (inst_at f j)
-
--- where the tests of reuses, and then of fixed registers, fail first
-abbrev pub IsFixedFault : FunctionValue → MachineValue → RegAllocError → Type 0
-IsFixedFault f env e = (i : ℕ) × (e ≡ Unsupported i) × (IsFirstFailing f (ReusesAreSound env) i
-    ⊎ (((j : ℕ) → j < length f.insts → ReusesAreSound env (inst_at f j)) × IsFirstFailing f FixedAvoidClobbers i))
-
--- an instruction that the allocator rejects: the first that has a `Limit`, or if none has one, the first branch that defines in any register or by a
--- reuse
-abbrev pub IsUnsupported : FunctionValue → ℕ → Type 0
-IsUnsupported f i = IsFirstFailing f AreUnlimited i ⊎ (((j : ℕ) → j < length f.insts → AreUnlimited (inst_at f j)) × IsFirstFailing f BranchDefinesInPlace i)

@@ -1,6 +1,6 @@
 -- Lemmas on the moves of a call that have been seen so far.
-use Rattle.std.proofs.Common.{ℕ, ◌≡◌, ◌≢◌, ◌<◌, ◌≤◌, ◌+◌, true, false, length, get_or, refl, sym, ap, ◌∙◌, inl, inr, ◌⊎◌}
-use Rattle.std.proofs.Common.{⊎_elim, subst, arith, None, Some, suc, take, List, [], ◌∷◌, ◌++◌}
+use Rattle.std.proofs.Common.{ℕ, ◌≡◌, ◌≢◌, ◌<◌, ◌≤◌, ◌+◌, true, false, length, get_or, refl, sym, ap, ◌∙◌, inl, inr, ◌⊎◌, ⊎_elim, subst, arith, None, Some}
+use Rattle.std.proofs.Common.{suc, take, List, [], ◌∷◌, ◌++◌}
 use Rattle.std.proofs.Math.Seq.{take-suc}
 use Rattle.std.specs.Prelude.{◌||◌}
 use Rattle.std.proofs.lemmas.Bool.{cases_lt, or_cases, or_left, or_right}
@@ -9,8 +9,7 @@ use Rattle.regalloc2_index.proofs.Numbers.{below_or_last}
 use Rattle.regalloc2_names.specs.declared.sets.PRegSet.{PRegSet}
 use Rattle.regalloc2_names.specs.Place.{Place, NoPlace, InRegister, InSlot, is_place, slot_of_place}
 use Rattle.regalloc2_names.specs.PlaceBits.{index_of_place}
-use Rattle.regalloc2_names.specs.Register.{Register, invalid_register, is_register}
-use Rattle.regalloc2_names.specs.RegisterSet.{has_register}
+use Rattle.regalloc2_names.specs.Register.{Register, invalid_register, is_register, has_register}
 use Rattle.regalloc2_names.proofs.EqualNames.{is_place-true, is_place-along}
 use Rattle.regalloc2_parts.specs.declared.callmoves.CallFrame.{CallFrame}
 use Rattle.regalloc2_parts.specs.Callmoves.Frame.{free_at}

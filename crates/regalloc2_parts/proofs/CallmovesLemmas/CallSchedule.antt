@@ -5,8 +5,7 @@ use Rattle.std.specs.Prelude.{Contains}
 use Rattle.std.proofs.lemmas.Bool.{cases_lt}
 use Rattle.regalloc2_names.specs.declared.sets.PRegSet.{PRegSet}
 use Rattle.regalloc2_names.specs.Place.{Place, NoPlace, InRegister, InSlot, is_memory}
-use Rattle.regalloc2_names.specs.Register.{Register}
-use Rattle.regalloc2_names.specs.RegisterSet.{has_register}
+use Rattle.regalloc2_names.specs.Register.{Register, has_register}
 use Rattle.regalloc2_parts.specs.declared.moves.MoveFault.{MoveFault}
 use Rattle.regalloc2_parts.specs.declared.moves.MoveFault.TheVariants.{NoSlot, Memory}
 use Rattle.regalloc2_parts.specs.AtOnce.{Ends, ends_of, HasOneSourceEach, IsOfMoves}
@@ -16,9 +15,9 @@ use Rattle.regalloc2_parts.specs.ScratchPool.{Moves, IsOfScratchPair, IsScratchT
 use Rattle.regalloc2_names.proofs.EqualNames.{cases_place}
 use Rattle.regalloc2_parts.specs.declared.callmoves.CallFrame.{CallFrame}
 use Rattle.regalloc2_parts.specs.Callmoves.Frame.{free_at, IsRegisterAt, IsSlotAt}
-use Rattle.regalloc2_parts.specs.Callmoves.CallMoves.{CallMoves, with_units, source, target, fault_of, HasNone, HasOtherSource, MovesName}
+use Rattle.regalloc2_parts.specs.Callmoves.CallMoves.{CallMoves, with_units, source, target, fault_of, HasNone, HasOtherSource, MovesName, IsProper}
+use Rattle.regalloc2_parts.specs.Callmoves.CallMoves.{IsCallFault, IsLent, IsMove, IsPoolOf, IsScheduled}
 use Rattle.regalloc2_parts.proofs.CallmovesLemmas.CallPlaces.{split_le}
-use Rattle.regalloc2_parts.specs.Callmoves.CallMoves.{IsProper, IsCallFault, IsLent, IsMove, IsPoolOf, IsScheduled}
 
 abbrev pub end_at : CallMoves → ℕ → Ends
 end_at ms k = record { from = source ms k; to = target ms k }

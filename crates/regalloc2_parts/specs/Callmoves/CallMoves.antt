@@ -3,8 +3,7 @@ use Rattle.std.specs.Prelude.{ℕ, ◌≡◌, ◌≢◌, ◌+◌, ◌<◌, ◌�
 use Rattle.std.specs.List.{All}
 use Rattle.regalloc2_names.specs.declared.sets.PRegSet.{PRegSet}
 use Rattle.regalloc2_names.specs.Place.{Place, NoPlace, InRegister, InSlot, is_memory}
-use Rattle.regalloc2_names.specs.Register.{Register}
-use Rattle.regalloc2_names.specs.RegisterSet.{has_register}
+use Rattle.regalloc2_names.specs.Register.{Register, has_register}
 use Rattle.regalloc2_parts.specs.AtOnce.{ends_of, own_names, in_turn}
 use Rattle.regalloc2_parts.specs.declared.moves.MoveFault.{MoveFault}
 use Rattle.regalloc2_parts.specs.declared.moves.MoveFault.TheVariants.{NoSlot as NoMoveSlot, Memory as NoMemory}

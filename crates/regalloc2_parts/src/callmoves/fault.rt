@@ -2,10 +2,9 @@
 
 ghost use Rattle.std.specs.Prelude.{◌≡◌, ◌≢◌, ◌<◌, ◌≤◌, ◌||◌, true, false, length, ℕ, IfOk, MatchOption};
 ghost use Rattle.regalloc2_names.specs.Place.{InRegister, InSlot, is_place, slot_limit};
-ghost use Rattle.regalloc2_names.specs.Register.{Register};
-ghost use Rattle.regalloc2_names.specs.RegisterSet.{has_register};
-ghost use Rattle.regalloc2_parts.specs.Callmoves.CallMoves.{source, target, HasNone, IsFirstOrNone, NamesNoPlace, HasOtherSource, MovesName};
-ghost use Rattle.regalloc2_parts.specs.Callmoves.CallMoves.{IsLower, IsNotFree, IsFreeRegister, IsBorrowedTaken, IsNamedSlot, IsFirstInUseOrNone, IsFoundOrNone};
+ghost use Rattle.regalloc2_names.specs.Register.{Register, has_register};
+ghost use Rattle.regalloc2_parts.specs.Callmoves.CallMoves.{source, target, HasNone, IsFirstOrNone, NamesNoPlace, HasOtherSource, MovesName, IsLower};
+ghost use Rattle.regalloc2_parts.specs.Callmoves.CallMoves.{IsNotFree, IsFreeRegister, IsBorrowedTaken, IsNamedSlot, IsFirstInUseOrNone, IsFoundOrNone};
 
 use super::{CallFault, CallFrame};
 use regalloc2_names::{Allocation, PReg, PRegSet, SpillSlot};

@@ -1,6 +1,6 @@
 -- Both interpreters, step by step along one path.
-use Rattle.std.proofs.Common.{ℕ, zero, suc, ◌≡◌, ◌+◌, ◌<◌, Bool, true, false, cond, None, Some, List, [], ◌∷◌, length, refl, sym, ap, arith, nat_eq, subst, ◌∙◌}
-use Rattle.std.proofs.Common.{eqb-true}
+use Rattle.std.proofs.Common.{ℕ, zero, suc, ◌≡◌, ◌+◌, ◌<◌, Bool, true, false, cond, None, Some, List, [], ◌∷◌, length, refl, sym, ap, arith, nat_eq, subst}
+use Rattle.std.proofs.Common.{◌∙◌, eqb-true}
 use Rattle.std.specs.Prelude.{Option, nat_lt, slice_index_or, option_map, option_and_then}
 use Rattle.std.proofs.lemmas.Bool.{ltb-true, and_parts}
 use Rattle.regalloc2_names.specs.Register.{VirtualRegister}
@@ -10,17 +10,16 @@ use Rattle.regalloc2_names.specs.Operand.{OperandValue, is_late, is_reading}
 use Rattle.regalloc2_names.specs.Place.{Place}
 use Rattle.regalloc2_function.specs.FunctionValue.{FunctionValue, block_at, inst_at}
 use Rattle.regalloc2_function.specs.OutputValue.{OutputValue, allocs_of, place_at}
-use Rattle.regalloc2_function.specs.Path.{Way, Onward, ToSuccessor, Location, end_of, next_of, last_inst, IsPath, HasWay}
-use Rattle.regalloc2_function.specs.SourceRun.{Stamp, read_of, source_before, source_after, source_read}
-use Rattle.regalloc2_function.specs.AllocatedRun.{Cells, after_moves, after_writes, moves_at, cells_early, cells_late, cells_before}
-use Rattle.regalloc2_function.specs.Faithful.{ReadsAgree}
-use Rattle.regalloc2_semantics.specs.Values.Interpreters.{History, InstMeaning, State, read_by, is_late_use, edge_to, way_on, vreg_reads, source_told, vreg_written}
-use Rattle.regalloc2_semantics.specs.Values.Interpreters.{source_step, source_run, place_found, place_reads, place_told, place_step, place_run}
-use Rattle.regalloc2_semantics.specs.Values.Interpreters.{passed_over, numbers_moved, written_to, numbers_clobbered}
-use Rattle.regalloc2_semantics.specs.Values.Alike.{AreAlike, HaveRunAlike, ReadsEarlier, FaithfulRunAlike, WellFormedRunAlike}
+use Rattle.regalloc2_semantics.specs.Runs.{Way, Onward, ToSuccessor, Location, end_of, next_of, last_inst, IsPath, HasWay, Stamp, read_of, source_before}
+use Rattle.regalloc2_semantics.specs.Runs.{source_after, source_read, Cells, after_moves, after_writes, moves_at, cells_early, cells_late, cells_before}
+use Rattle.regalloc2_semantics.specs.Faithful.{ReadsAgree}
+use Rattle.regalloc2_semantics.specs.Interpreters.{History, InstMeaning, State, read_by, is_late_use, edge_to, way_on, vreg_reads, source_told, vreg_written}
+use Rattle.regalloc2_semantics.specs.Interpreters.{source_step, source_run, place_found, place_reads, place_told, place_step, place_run, passed_over}
+use Rattle.regalloc2_semantics.specs.Interpreters.{numbers_moved, written_to, numbers_clobbered}
+use Rattle.regalloc2_semantics.specs.Alike.{AreAlike, HaveRunAlike, ReadsEarlier, FaithfulRunAlike, WellFormedRunAlike}
 use Rattle.regalloc2_semantics.specs.Laws.{AgreeingReadsFindEarlier}
-use Rattle.regalloc2_semantics.proofs.ValuesLemmas.Standing.{Stands, HoldNumbers, moves_stand, early_stand, writes_stand, clobbers_stand, defs_hold, edge_holds, Made}
-use Rattle.regalloc2_semantics.proofs.ValuesLemmas.Standing.{more, still, newest, before_defs, before_writes, before_clobbers}
+use Rattle.regalloc2_semantics.proofs.ValuesLemmas.Standing.{Stands, HoldNumbers, moves_stand, early_stand, writes_stand, clobbers_stand, defs_hold}
+use Rattle.regalloc2_semantics.proofs.ValuesLemmas.Standing.{edge_holds, Made, more, still, newest, before_defs, before_writes, before_clobbers}
 
 -- if two assignments of numbers agree at each operand that is read, the lists of the numbers read are equal
 same_reads : (is_read : OperandValue → Bool) (a b : ℕ → OperandValue → ℕ) (n : ℕ) (os : List OperandValue) →

@@ -1,18 +1,16 @@
 -- A place or vreg that holds a write holds the number of the write.
 use Rattle.std.proofs.Common.{ℕ, zero, suc, ◌≡◌, ◌+◌, ◌<◌, Bool, true, false, cond, None, Some, List, [], ◌∷◌, refl, sym, ap, arith, nat_eq, eq-eqb, subst, ◌∙◌}
 use Rattle.std.specs.Prelude.{Option, ◌&&◌, not}
-use Rattle.regalloc2_names.specs.Register.{VirtualRegister, is_vreg}
-use Rattle.regalloc2_names.specs.RegisterSet.{has_register}
+use Rattle.regalloc2_names.specs.Register.{VirtualRegister, is_vreg, has_register}
 use Rattle.regalloc2_names.specs.declared.sets.PRegSet.{PRegSet}
 use Rattle.regalloc2_names.specs.Operand.{OperandValue, is_def, is_late}
 use Rattle.regalloc2_names.specs.Place.{Place, NoPlace, InRegister, InSlot, is_place}
 use Rattle.regalloc2_function.specs.FunctionValue.{FunctionValue}
 use Rattle.regalloc2_function.specs.OutputValue.{MoveValue, place_at}
-use Rattle.regalloc2_function.specs.Path.{Way, Onward, ToSuccessor, Location}
-use Rattle.regalloc2_function.specs.SourceRun.{Stamp, Source, assigned, after_defs, passed, over_edge}
-use Rattle.regalloc2_function.specs.AllocatedRun.{Cells, stored, after_moves, after_early_defs, after_writes, after_clobbers}
-use Rattle.regalloc2_semantics.specs.Values.Interpreters.{number_set, numbers_defined, passed_on, passed_over, place_set, numbers_moved, disturbed, written_to}
-use Rattle.regalloc2_semantics.specs.Values.Interpreters.{numbers_clobbered}
+use Rattle.regalloc2_semantics.specs.Runs.{Way, Onward, ToSuccessor, Location, Stamp, Source, assigned, after_defs, passed, over_edge, Cells, stored}
+use Rattle.regalloc2_semantics.specs.Runs.{after_moves, after_early_defs, after_writes, after_clobbers}
+use Rattle.regalloc2_semantics.specs.Interpreters.{number_set, numbers_defined, passed_on, passed_over, place_set, numbers_moved, disturbed, written_to}
+use Rattle.regalloc2_semantics.specs.Interpreters.{numbers_clobbered}
 
 -- which number a write made
 abbrev pub Value : Type 1

@@ -4,8 +4,8 @@ use Rattle.std.specs.Prelude.{All, Contains, nat_lt, slice_index, slice_index_or
 use Rattle.std.proofs.lemmas.Bool.Decides.{nat_tests}
 use Rattle.std.proofs.lemmas.List.{get_or_default, get_or_past, get_or-map, length-map}
 use Rattle.std.proofs.lemmas.List.FromFn.{get_or-map-range_with_len, length-map-range_with_len}
-use Rattle.regalloc2_function.specs.FunctionValue.{FunctionValue, InstValue, IsLimited, Label, block_at, inst_at, no_inst}
-use Rattle.regalloc2_function.specs.WellFormed.{IsFramed, EndsBlock, last_of}
+use Rattle.regalloc2_function.specs.FunctionValue.{FunctionValue, InstValue, IsLimited, Label, block_at, inst_at, no_inst, last_of}
+use Rattle.regalloc2_function.specs.WellFormed.{IsFramed, EndsBlock}
 use Rattle.regalloc2_serialize.specs.TableFunction.Draft.{DraftValue, declared_with, draft_at}
 use Rattle.regalloc2_serialize.specs.TableFunction.Built.{IsAstray, IsUnbuilt}
 use Rattle.regalloc2_serialize.specs.Rewrite.Laid.{HasDrafts, IsFramedDraft, IsLaidLike}

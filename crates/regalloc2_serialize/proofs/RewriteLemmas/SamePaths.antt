@@ -7,8 +7,8 @@ use Rattle.std.proofs.lemmas.List.Sums.{fails_before_first, passes_at_first}
 use Rattle.regalloc2_names.specs.Register.{VirtualRegister, is_vreg}
 use Rattle.regalloc2_names.specs.Operand.{OperandValue, is_def}
 use Rattle.regalloc2_function.specs.FunctionValue.{FunctionValue, block_at, inst_at}
-use Rattle.regalloc2_function.specs.Path.{Way, Onward, ToSuccessor, Location, first_of, next_of, end_of, HasWay, IsPath, last_inst}
-use Rattle.regalloc2_function.specs.SourceRun.{Stamp, Source, assigned, after_defs, arguments_at, passed, over_edge, source_before}
+use Rattle.regalloc2_semantics.specs.Runs.{Way, Onward, ToSuccessor, Location, first_of, next_of, end_of, HasWay, IsPath, last_inst, Stamp, Source, assigned}
+use Rattle.regalloc2_semantics.specs.Runs.{after_defs, arguments_at, passed, over_edge, source_before}
 use Rattle.regalloc2_function.specs.WellFormed.{IsFramed}
 use Rattle.regalloc2_serialize.specs.Rewrite.Renumbered.{ListsEachOnce, IsRenumberedBlock, HasSamePaths, new_number}
 

@@ -7,9 +7,9 @@ use Rattle.std.proofs.lemmas.Bool.Decides.{nat_tests}
 use Rattle.std.proofs.lemmas.List.{get_or-append-add, get_or-map, get_or_append_left, length-append, length-map}
 use Rattle.std.proofs.lemmas.List.FromFn.{get_or-map-range_with_len, length-map-range_with_len}
 use Rattle.regalloc2_names.specs.declared.sets.PRegSet.{PRegSet}
-use Rattle.regalloc2_function.specs.FunctionValue.{FunctionValue, InstValue, block_at, inst_at, no_inst}
-use Rattle.regalloc2_function.specs.SourceRun.{arguments_at}
-use Rattle.regalloc2_function.specs.WellFormed.{IsFramed, EndsBlock, last_of}
+use Rattle.regalloc2_function.specs.FunctionValue.{FunctionValue, InstValue, block_at, inst_at, no_inst, last_of}
+use Rattle.regalloc2_semantics.specs.Runs.{arguments_at}
+use Rattle.regalloc2_function.specs.WellFormed.{IsFramed, EndsBlock}
 use Rattle.regalloc2_serialize.specs.TableFunction.Draft.{DraftValue, declared_with, draft_at}
 use Rattle.regalloc2_serialize.specs.Rewrite.Laid.{IsFramedDraft, start_of}
 use Rattle.regalloc2_serialize.specs.Rewrite.SplitEdges.{Edge, edges_before, edges_upto, is_critical, jump_on, kept_block, number_on, split_arguments, split_drafts, split_succ}

@@ -6,8 +6,8 @@ use Rattle.regalloc2_index.specs.Range.{Span}
 use Rattle.regalloc2_names.specs.Register.{VirtualRegister, is_vreg}
 use Rattle.regalloc2_names.specs.Operand.{OperandValue, is_def}
 use Rattle.regalloc2_function.specs.FunctionValue.{FunctionValue, InstValue, block_at, inst_at}
-use Rattle.regalloc2_function.specs.Path.{Way, Onward, ToSuccessor, Location, first_of, next_of, end_of, HasWay, IsPath, last_inst}
-use Rattle.regalloc2_function.specs.SourceRun.{Source, Stamp, after_defs, arguments_at, assigned, over_edge, passed, source_after, source_before}
+use Rattle.regalloc2_semantics.specs.Runs.{Way, Onward, ToSuccessor, Location, first_of, next_of, end_of, HasWay, IsPath, last_inst, Source, Stamp}
+use Rattle.regalloc2_semantics.specs.Runs.{after_defs, arguments_at, assigned, over_edge, passed, source_after, source_before}
 use Rattle.regalloc2_function.specs.WellFormed.{IsFramed}
 use Rattle.regalloc2_serialize.specs.Rewrite.SplitEdges.{HasSplitPaths, IsBetween, IsKeptBlock, is_critical, split_stamp, split_step, split_path}
 use Rattle.regalloc2_serialize.proofs.RewriteLemmas.Numbers.{not-same, yes-same}

@@ -7,7 +7,7 @@ use Rattle.std.proofs.lemmas.List.Sums.{sum_by_push}
 use Rattle.regalloc2_names.specs.declared.sets.PRegSet.{PRegSet}
 use Rattle.regalloc2_names.specs.Register.{VirtualRegister}
 use Rattle.regalloc2_function.specs.FunctionValue.{FunctionValue, BlockValue, block_at, no_block}
-use Rattle.regalloc2_function.specs.SourceRun.{arguments_at}
+use Rattle.regalloc2_semantics.specs.Runs.{arguments_at}
 use Rattle.regalloc2_function.specs.WellFormed.{times_in}
 use Rattle.regalloc2_serialize.specs.TableFunction.Draft.{DraftValue}
 use Rattle.regalloc2_serialize.specs.Rewrite.SplitEdges.{AgreeUpToTwo, AreJumps, critical_in, edges_before, edges_upto, entries_into, is_critical, jump_on, kept_block, number_on, split_drafts, split_succ}

@@ -4,8 +4,7 @@ use Rattle.std.specs.Prelude.{ℕ, ◌≡◌, ◌↔◌, ◌+◌, ◌-◌, ◌<�
 use Rattle.std.specs.List.{position_or_len, range_with_len}
 use Rattle.regalloc2_names.specs.Register.{VirtualRegister}
 use Rattle.regalloc2_function.specs.FunctionValue.{FunctionValue, block_at, inst_at}
-use Rattle.regalloc2_function.specs.Path.{Way, IsPath, last_inst}
-use Rattle.regalloc2_function.specs.SourceRun.{arguments_at, source_before}
+use Rattle.regalloc2_semantics.specs.Runs.{Way, IsPath, last_inst, arguments_at, source_before}
 use Rattle.regalloc2_function.specs.WellFormed.{IsFramed, PredecessorsAgree}
 use Rattle.regalloc2_serialize.specs.TableFunction.Draft.{DraftValue}
 use Rattle.regalloc2_serialize.specs.declared.rewrite.error.RewriteError.{RewriteError}

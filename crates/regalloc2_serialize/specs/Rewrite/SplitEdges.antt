@@ -1,16 +1,14 @@
 -- A function whose critical edges are split.
 -- An edge is critical if its block has several successors and its end is entered in several ways, as for upstream;
 -- paths are this project's.
-use Rattle.std.specs.Prelude.{ℕ, zero, suc, ◌≡◌, ◌+◌, ◌-◌, ◌<◌, ◌≤◌, ◌^◌, Bool, true, false, ◌&&◌, if◌then◌else◌, nat_eq, nat_lt, List, [], ◌∷◌, ◌++◌, length, map}
-use Rattle.std.specs.Prelude.{count_by, slice_index, sum_by}
+use Rattle.std.specs.Prelude.{ℕ, zero, suc, ◌≡◌, ◌+◌, ◌-◌, ◌<◌, ◌≤◌, ◌^◌, Bool, true, false, ◌&&◌, if◌then◌else◌, nat_eq, nat_lt, List, [], ◌∷◌, ◌++◌, length}
+use Rattle.std.specs.Prelude.{map, count_by, slice_index, sum_by}
 use Rattle.std.specs.List.{range_with_len}
 use Rattle.std.specs.Option.{option_map}
-use Rattle.regalloc2_names.specs.Register.{Register, VirtualRegister}
-use Rattle.regalloc2_names.specs.RegisterSet.{has_register}
+use Rattle.regalloc2_names.specs.Register.{Register, VirtualRegister, has_register}
 use Rattle.regalloc2_names.specs.declared.sets.PRegSet.{PRegSet}
 use Rattle.regalloc2_function.specs.FunctionValue.{FunctionValue, InstValue, block_at, inst_at}
-use Rattle.regalloc2_function.specs.Path.{Way, Onward, ToSuccessor, IsPath, end_of}
-use Rattle.regalloc2_function.specs.SourceRun.{Stamp, arguments_at, source_before}
+use Rattle.regalloc2_semantics.specs.Runs.{Way, Onward, ToSuccessor, IsPath, end_of, Stamp, arguments_at, source_before}
 use Rattle.regalloc2_function.specs.WellFormed.{IsFramed, NoCriticalEdge, PredecessorsAgree, times_in}
 use Rattle.regalloc2_serialize.specs.TableFunction.Draft.{DraftValue}
 use Rattle.regalloc2_serialize.specs.declared.rewrite.error.RewriteError.{RewriteError}

@@ -2,8 +2,7 @@
 
 ghost use Rattle.std.specs.Prelude.{◌≡◌, ◌<◌, ◌≤◌, ◌^◌, ◌-◌, [], false, IfOk, IsTrue, map, vec_len};
 ghost use Rattle.std.specs.Int.{is_power_of_two};
-ghost use Rattle.regalloc2_names.specs.Register.{Register};
-ghost use Rattle.regalloc2_names.specs.RegisterSet.{has_register};
+ghost use Rattle.regalloc2_names.specs.Register.{Register, has_register};
 ghost use Rattle.regalloc2_serialize.specs.TableFunction.Table.{function_of_table, inst_of_table, block_of_table, sizes_of_table};
 
 use super::super::data::InstOpcode;

@@ -1,6 +1,6 @@
 //! Instructions that require more registers than the machine has.
 //!
-//! An instruction fits as `Fits` says, in `specs/Fitting.antt` of the function's crate.
+//! An instruction fits as `Fits` says, in `specs/Fits.antt` of `regalloc2_semantics`.
 
 use crate::explain::cause::{Cause, Site};
 use crate::explain::operands::is_reused;

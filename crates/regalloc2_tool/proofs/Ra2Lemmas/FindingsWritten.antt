@@ -1,6 +1,6 @@
 -- The text of an output that isn't accepted.
-use Rattle.std.proofs.Common.{◌≡◌, ◌<◌, ◌≤◌, ◌⊎◌, inl, inr, ℕ, ◌+◌, List, [], ◌∷◌, ◌++◌, length, take, Option, Some, Bool, true, false, Result, Ok}
-use Rattle.std.proofs.Common.{Err, sym, subst, ap, ◌∙◌, slice_index_or}
+use Rattle.std.proofs.Common.{◌≡◌, ◌<◌, ◌≤◌, ◌⊎◌, inl, inr, ℕ, ◌+◌, List, [], ◌∷◌, ◌++◌, length, take, Option, Some, Bool, true, false, Result, Ok, Err, sym}
+use Rattle.std.proofs.Common.{subst, ap, ◌∙◌, slice_index_or}
 use Rattle.std.specs.Prelude.{codes, IfOk}
 use Rattle.std.specs.Io.KnownBytes.{Appends}
 use Rattle.std.proofs.KnownBytes.{Appends-trans}
@@ -9,7 +9,7 @@ use Rattle.std.proofs.lemmas.List.{take_more, take_all}
 use Rattle.regalloc2_function.specs.FunctionValue.{FunctionValue}
 use Rattle.regalloc2_function.specs.Machine.{MachineValue}
 use Rattle.regalloc2_function.specs.OutputValue.{OutputValue, IsInOrder}
-use Rattle.regalloc2_function.specs.Faithful.{IsFaithful}
+use Rattle.regalloc2_semantics.specs.Faithful.{IsFaithful}
 use Rattle.regalloc2_checker.specs.Report.{IsReport}
 use Rattle.regalloc2_checker.specs.Text.{fault_text}
 use Rattle.regalloc2_checker.specs.declared.errors.CheckerError.{CheckerError}

@@ -3,7 +3,7 @@ use Rattle.std.specs.Prelude.{ℕ, Bool, true, false, codes, List, [], ◌∷◌
 use Rattle.regalloc2_function.specs.FunctionValue.{FunctionValue}
 use Rattle.regalloc2_function.specs.Machine.{MachineValue}
 use Rattle.regalloc2_function.specs.OutputValue.{OutputValue, IsInOrder}
-use Rattle.regalloc2_function.specs.Faithful.{IsFaithful}
+use Rattle.regalloc2_semantics.specs.Faithful.{IsFaithful}
 use Rattle.regalloc2_checker.specs.Report.{IsReport}
 use Rattle.regalloc2_checker.specs.Text.{fault_text}
 use Rattle.regalloc2_checker.specs.declared.errors.CheckerError.{CheckerError}

@@ -2,9 +2,9 @@
 
 ghost use Rattle.std.specs.Prelude.{◌≡◌, true, false, IfOk, IfSome};
 ghost use Rattle.regalloc2_checker.specs.Cells.{AreCells};
-ghost use Rattle.regalloc2_function.specs.Faithful.{IsFaithful};
+ghost use Rattle.regalloc2_semantics.specs.Faithful.{IsFaithful};
 ghost use Rattle.regalloc2_function.specs.OutputValue.{IsInOrder};
-ghost use Rattle.regalloc2_function.specs.SourceRun.{IsWrittenFirst};
+ghost use Rattle.regalloc2_semantics.specs.Runs.{IsWrittenFirst};
 ghost use Rattle.regalloc2_function.specs.Stored.{NamesValues, output_of_stored};
 ghost use Rattle.regalloc2_function.specs.Views.{machine_of, output_of};
 ghost use Rattle.regalloc2_function.specs.WellFormed.{IsFramed};

@@ -1,6 +1,6 @@
 use Rattle.std.proofs.Common.{ap, ◌+◌, ◌++◌, length}
 use Rattle.regalloc2_function.specs.FunctionValue.{block_at}
-use Rattle.regalloc2_function.specs.Following.{end_within}
+use Rattle.regalloc2_function.proofs.Following.{end_within}
 use Rattle.regalloc2_function.specs.Views.{output_of}
 use Rattle.codegen_machine.specs.Seen.{function_of_procedure, operations}
 use Rattle.codegen_emit.specs.Emitted.{items_code}

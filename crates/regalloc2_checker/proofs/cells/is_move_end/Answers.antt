@@ -5,7 +5,7 @@ use Rattle.regalloc2_names.specs.Place.{InRegister}
 use Rattle.regalloc2_names.specs.Register.{Register}
 use Rattle.regalloc2_names.specs.declared.RegClass.{RegClass}
 use Rattle.regalloc2_names.specs.declared.RegClass.TheVariants.{Int, Float, Vector}
-use Rattle.regalloc2_function.specs.Fitting.{IsMoveEnd}
+use Rattle.regalloc2_semantics.specs.Places.{IsMoveEnd}
 use Rattle.regalloc2_function.specs.Machine.{scratch_of}
 use Rattle.regalloc2_function.specs.Views.{machine_of, output_of}
 use Rattle.regalloc2_checker.proofs.JudgedCells.{last_class}

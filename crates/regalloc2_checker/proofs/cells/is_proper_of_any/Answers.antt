@@ -2,7 +2,7 @@ use Rattle.std.proofs.Common.{◌∙◌, sym}
 use Rattle.std.proofs.lemmas.Bool.{false≢true}
 use Rattle.regalloc2_names.specs.declared.RegClass.{RegClass}
 use Rattle.regalloc2_names.specs.declared.RegClass.TheVariants.{Int, Float, Vector}
-use Rattle.regalloc2_function.specs.Fitting.{IsProperPlace}
+use Rattle.regalloc2_semantics.specs.Places.{IsProperPlace}
 use Rattle.regalloc2_function.specs.Views.{machine_of, output_of}
 use Rattle.regalloc2_checker.proofs.JudgedCells.{last_class}
 use Rattle.regalloc2_checker.proofs.cells.is_proper_of_any.Goals.{then-is_proper, else-is_proper}

@@ -3,7 +3,7 @@ use Rattle.std.proofs.lemmas.List.{length-map}
 use Rattle.regalloc2_index.proofs.Bools.{false_refutes}
 use Rattle.regalloc2_names.specs.Place.{Place, InSlot}
 use Rattle.regalloc2_function.specs.OutputValue.{MoveValue}
-use Rattle.regalloc2_function.specs.Fitting.{IsMoveEnd}
+use Rattle.regalloc2_semantics.specs.Places.{IsMoveEnd}
 use Rattle.regalloc2_function.specs.Views.{edit_of, machine_of, output_of}
 use Rattle.regalloc2_checker.specs.Cells.{move_of_index, units_beside, IsTakenByMove}
 use Rattle.regalloc2_checker.proofs.AddedSlots.{adds_more, adds_both, adds_at, adds_all}

@@ -1,5 +1,5 @@
 use Rattle.std.proofs.Common.{ℕ, ◌≡◌, ◌<◌, ◌≤◌, length}
-use Rattle.regalloc2_function.specs.Fitting.{IsMoveEnd}
+use Rattle.regalloc2_semantics.specs.Places.{IsMoveEnd}
 use Rattle.regalloc2_function.specs.Views.{machine_of, output_of}
 use Rattle.regalloc2_checker.specs.Cells.{IsWithinClass, IsTakenByMove, move_of_index}
 use Rattle.regalloc2_checker.specs.NamedSlots.{AddsSlots}

@@ -1,6 +1,6 @@
-use Rattle.std.proofs.Common.{◌≡◌, ◌∙◌, ◌+◌, ℕ, List, ap, sym, length, map, subst, arith}
+use Rattle.std.proofs.Common.{◌≡◌, ◌∙◌, ◌+◌, ℕ, List, ap, sym, length, map, subst, arith, refl}
 use Rattle.regalloc2_index.specs.Range.{Span}
-use Rattle.regalloc2_names.specs.Point.{before}
+use Rattle.regalloc2_names.specs.Place.{before}
 use Rattle.regalloc2_function.specs.FunctionValue.{FunctionValue, block_at}
 use Rattle.regalloc2_function.specs.OutputValue.{OutputValue, moves_before}
 use Rattle.regalloc2_function.specs.Views.{output_of, edit_of}
@@ -12,7 +12,6 @@ use Rattle.regalloc2_checker.specs.ListingCopied.{IsSplit}
 use Rattle.regalloc2_checker.specs.Listing.{listed_move}
 use Rattle.std.specs.List.{slice_range}
 use Rattle.std.proofs.lemmas.List.{length_push}
-use Rattle.std.proofs.Common.{refl}
 use Rattle.regalloc2_checker.proofs.handle.handle_block.Goals as goal
 
 pub first_from-from-requires : goal.first_from-from-requires

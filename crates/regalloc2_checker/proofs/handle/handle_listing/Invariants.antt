@@ -1,5 +1,5 @@
 use Rattle.std.proofs.Common.{◌≡◌, ◌≤◌, length}
-use Rattle.regalloc2_names.specs.Point.{before}
+use Rattle.regalloc2_names.specs.Place.{before}
 use Rattle.regalloc2_function.specs.Views.{output_of}
 use Rattle.regalloc2_checker.specs.ListingCopied.{AreBeforePoint, IsListedBefore}
 use Rattle.regalloc2_checker.proofs.handle.handle_listing.Given as goal

@@ -2,7 +2,7 @@ use Rattle.std.proofs.Common.{ℕ, List, length, ap, arith, subst}
 use Rattle.std.specs.Prelude.{All}
 use Rattle.regalloc2_names.specs.Register.{VirtualRegister}
 use Rattle.regalloc2_function.specs.FunctionValue.{FunctionValue}
-use Rattle.regalloc2_function.specs.SourceRun.{arguments_at}
+use Rattle.regalloc2_semantics.specs.Runs.{arguments_at}
 use Rattle.regalloc2_checker.specs.TableFacts.{IsListedVReg}
 use Rattle.regalloc2_checker.proofs.NamedBits.{more-same, more-twice, all-vregs-more, up_to}
 use Rattle.regalloc2_checker.proofs.names.list_arguments.Goals as goal

@@ -4,7 +4,7 @@ use Rattle.regalloc2_names.specs.Operand.{OperandValue}
 use Rattle.regalloc2_names.specs.Place.{Place}
 use Rattle.regalloc2_function.specs.FunctionValue.{FunctionValue}
 use Rattle.regalloc2_function.specs.OutputValue.{MoveValue}
-use Rattle.regalloc2_function.specs.AllocatedRun.{moves_at}
+use Rattle.regalloc2_semantics.specs.Runs.{moves_at}
 use Rattle.regalloc2_checker.specs.Listing.{listed_move}
 use Rattle.regalloc2_checker.specs.TableFacts.{facts_now, IsListed, IsListedVReg, IsMissingUnlisted}
 use Rattle.regalloc2_checker.proofs.NamedPlaces.{no-missing, moves-listed, operands-listed}

@@ -9,17 +9,18 @@ use Rattle.regalloc2_names.specs.Register.{VirtualRegister}
 use Rattle.regalloc2_function.specs.FunctionValue.{FunctionValue, IsLimited, inst_at, slot_size}
 use Rattle.regalloc2_function.specs.Machine.{MachineValue}
 use Rattle.regalloc2_function.specs.OutputValue.{OutputValue}
-use Rattle.regalloc2_function.specs.SourceRun.{IsWrittenFirst}
-use Rattle.regalloc2_function.specs.Faithful.{IsFaithful}
-use Rattle.regalloc2_function.specs.DebugPoints.{PassesAt}
+use Rattle.regalloc2_semantics.specs.Runs.{IsWrittenFirst}
+use Rattle.regalloc2_semantics.specs.Faithful.{IsFaithful}
+use Rattle.regalloc2_semantics.specs.Debug.{PassesAt}
 use Rattle.regalloc2_function.specs.Stored.{location_of}
 use Rattle.regalloc2_function.specs.Views.{edit_of, machine_of}
-use Rattle.regalloc2_semantics.proofs.SingleDef.{Made}
+use Rattle.regalloc2_carry.proofs.SingleDef.{Made}
 use Rattle.regalloc2_semantics.proofs.Faithful.{faithful}
 use Rattle.regalloc2_analysis.proofs.LiveRangesLemmas.UsesInSSA.{well_formed_ssa}
 use Rattle.regalloc2_fastalloc_state.specs.OutOfResources.{Lacks, SlotsExhaustedWith}
 use Rattle.regalloc2_fastalloc.specs.Promise.{LiveInSlots, ShowsLabels, SlotsAreBounded, HasRegistersForAll}
-use Rattle.regalloc2_fastalloc.specs.ErrorReason.{SomeDoesNotFit, units_at_most}
+use Rattle.regalloc2_fastalloc.specs.ErrorReason.{SomeDoesNotFit}
+use Rattle.regalloc2_semantics.specs.Places.{units_at_most}
 use Rattle.regalloc2_fastalloc_proofs.specs.InstSteps.{StateValue}
 use Rattle.regalloc2_fastalloc_walk.specs.StateView.{tables_of}
 use Rattle.regalloc2_fastalloc_proofs.specs.BranchSteps.{AddsTempSlotsAtMost}
@@ -42,7 +43,7 @@ use Rattle.regalloc2_fastalloc_proofs.proofs.Slots.ApartSlotsAreOwned.{OwnsSlots
 use Rattle.regalloc2_fastalloc_proofs.proofs.Pressure.OutOfRegs.{AreFresh, walk_stops}
 use Rattle.regalloc2_analysis.specs.LiveRanges.LiveRanges.{IsWanted}
 use Rattle.regalloc2_analysis.specs.LiveRanges.WalkInvariant.{ListsAdding}
-use Rattle.regalloc2_fastalloc_state.specs.Validate.Constraints.{BranchDefinesInPlace}
+use Rattle.regalloc2_function.specs.WellFormed.{BranchDefinesInPlace}
 use Rattle.regalloc2_fastalloc_state.specs.Validate.NoLimits.{AreTaken}
 use Rattle.regalloc2_fastalloc_walk.specs.Findings.{ListsAddingFrom}
 use Rattle.regalloc2_fastalloc_walk.proofs.Findings.{lists_reversed}

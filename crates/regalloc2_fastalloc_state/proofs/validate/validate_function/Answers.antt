@@ -3,9 +3,8 @@ use Rattle.std.proofs.lemmas.Result.{IfErr-weaker, err_from_is_err_and}
 use Rattle.regalloc2_function.specs.FunctionValue.{FunctionValue}
 use Rattle.regalloc2_function.specs.Machine.{MachineValue}
 use Rattle.regalloc2_function.specs.Views.{machine_of}
-use Rattle.regalloc2_fastalloc_state.specs.Validate.Constraints.{IsFixedFault}
-use Rattle.regalloc2_fastalloc_state.specs.Validate.Validated.{IsFunctionFault}
-use Rattle.regalloc2_fastalloc_state.specs.Validate.Validated.IsFunctionFault.{clashing}
+use Rattle.regalloc2_function.specs.Reasons.{IsFixedFault, IsFunctionFault}
+use Rattle.regalloc2_function.specs.Reasons.IsFunctionFault.{clashing}
 use Rattle.regalloc2_fastalloc_state.proofs.ValidateLemmas.ValidatedProof.{tested_on_ok, shape_fault, soundness_fault}
 use Rattle.regalloc2_fastalloc_state.proofs.validate.validate_function.Goals as goal
 

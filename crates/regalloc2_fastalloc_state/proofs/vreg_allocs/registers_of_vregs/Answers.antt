@@ -4,7 +4,7 @@ use Rattle.std.proofs.lemmas.List.{get_or_read}
 use Rattle.std.proofs.lemmas.List.Elements.{All-contains}
 use Rattle.regalloc2_names.specs.Place.{Place, NoPlace, register_of_place}
 use Rattle.regalloc2_names.specs.Register.{VirtualRegister}
-use Rattle.regalloc2_semantics.proofs.Forms.{place_of_register}
+use Rattle.regalloc2_carry.proofs.Forms.{place_of_register}
 use Rattle.regalloc2_fastalloc_state.proofs.RegistersOfVRegs.{is_met, none_more, one_found}
 use Rattle.regalloc2_fastalloc_state.proofs.vreg_allocs.registers_of_vregs.Goals as goal
 

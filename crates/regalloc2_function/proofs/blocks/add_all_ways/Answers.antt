@@ -2,7 +2,7 @@ use Rattle.std.proofs.Common.{◌≡◌, ◌+◌, ◌<◌, arith, ◌∙◌, All
 use Rattle.std.specs.Prelude.{if◌then◌else◌, nat_eq}
 use Rattle.regalloc2_function.specs.FunctionValue.{FunctionValue, block_at}
 use Rattle.regalloc2_function.specs.WellFormed.{times_in}
-use Rattle.regalloc2_function.specs.Ways.{listed_of}
+use Rattle.regalloc2_function.specs.Inside.Ways.{listed_of}
 use Rattle.regalloc2_function.proofs.PredsListed.{all_ways_end, all_ways_more}
 use Rattle.regalloc2_function.proofs.blocks.add_all_ways.Goals as goal
 

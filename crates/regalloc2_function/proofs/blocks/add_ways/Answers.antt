@@ -2,7 +2,7 @@ use Rattle.std.proofs.Common.{◌<◌, length, arith, ◌+◌, ◌∙◌, ap}
 use Rattle.std.specs.Prelude.{if◌then◌else◌, nat_eq}
 use Rattle.std.proofs.lemmas.List.{take_all}
 use Rattle.regalloc2_function.specs.WellFormed.{times_in}
-use Rattle.regalloc2_function.specs.Ways.{listed_of}
+use Rattle.regalloc2_function.specs.Inside.Ways.{listed_of}
 use Rattle.regalloc2_function.proofs.PredsListed.{ways_more}
 use Rattle.regalloc2_function.proofs.blocks.add_ways.Goals as goal
 

@@ -1,7 +1,7 @@
 use Rattle.std.proofs.Common.{ℕ, ◌≡◌, ◌+◌, take}
 use Rattle.std.specs.Prelude.{if◌then◌else◌, nat_eq}
 use Rattle.regalloc2_function.specs.WellFormed.{times_in}
-use Rattle.regalloc2_function.specs.Ways.{listed_of}
+use Rattle.regalloc2_function.specs.Inside.Ways.{listed_of}
 use Rattle.regalloc2_function.proofs.blocks.add_ways.Given as goal
 
 -- the block is listed once for each position so far

@@ -2,7 +2,7 @@ use Rattle.std.proofs.Common.{◌≡◌, ◌<◌, ◌∙◌, length, refl, sym, 
 use Rattle.std.proofs.lemmas.List.{length-replicate}
 use Rattle.regalloc2_function.specs.FunctionValue.{FunctionValue, block_at}
 use Rattle.regalloc2_function.specs.WellFormed.{PredecessorsAt, times_in}
-use Rattle.regalloc2_function.specs.Ways.{listed_of}
+use Rattle.regalloc2_function.specs.Inside.Ways.{listed_of}
 use Rattle.regalloc2_function.proofs.TimesInList.{zeros}
 use Rattle.regalloc2_function.proofs.PredsListed.{are_blocks, listed_here}
 use Rattle.std.proofs.lemmas.Bool.{false≢true}

@@ -4,7 +4,7 @@ use Rattle.std.proofs.lemmas.Bool.{eqb-false, not-false, not-true}
 use Rattle.std.proofs.lemmas.Bool.Decides.{Decides-eqb}
 use Rattle.std.proofs.lemmas.List.{get_or_default}
 use Rattle.regalloc2_function.specs.FunctionValue.{FunctionValue, block_at}
-use Rattle.regalloc2_function.specs.Ways.{ways_of_first}
+use Rattle.regalloc2_function.specs.Inside.Ways.{ways_of_first}
 use Rattle.regalloc2_function.proofs.PredsInOrder.{AreFirst, met_block, met_more, next_met, succ_within}
 use Rattle.regalloc2_function.proofs.blocks.meets_in_order.Goals.{then-met-preds-via-then-met-preds, then-met-preds-via-else-met-preds+then-ne}
 use Rattle.regalloc2_function.proofs.blocks.meets_in_order.Goals as goal

@@ -2,7 +2,7 @@ use Rattle.std.proofs.lemmas.Result.{IfOk-from_err}
 use Rattle.std.proofs.Common.{ℕ, zero, suc, ◌≡◌, ◌+◌, ◌∙◌, List, [], ◌∷◌, ◌++◌, get_or, length, length-append, map, ap, refl, subst, sym, arith}
 use Rattle.std.proofs.lemmas.List.{map-append}
 use Rattle.std.specs.declared.vec.Vec.{Vec}
-use Rattle.regalloc2_function.specs.Ways.{listed_of}
+use Rattle.regalloc2_function.specs.Inside.Ways.{listed_of}
 use Rattle.regalloc2_function.proofs.blocks.no_ways.Goals as goal
 
 -- an empty list more

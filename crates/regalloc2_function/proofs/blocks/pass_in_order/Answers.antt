@@ -2,7 +2,7 @@ use Rattle.std.proofs.Common.{ℕ, ◌≡◌, ◌+◌, ◌∙◌, length, get_or
 use Rattle.std.proofs.lemmas.Bool.{false≢true}
 use Rattle.std.proofs.lemmas.List.{length-replicate}
 use Rattle.regalloc2_function.specs.FunctionValue.{FunctionValue, block_at}
-use Rattle.regalloc2_function.specs.Ways.{MetSoFar}
+use Rattle.regalloc2_function.specs.Inside.Ways.{MetSoFar}
 use Rattle.regalloc2_function.proofs.TimesInList.{zeros}
 use Rattle.regalloc2_function.proofs.PredsInOrder.{all_met}
 use Rattle.regalloc2_function.proofs.blocks.pass_in_order.Goals as goal

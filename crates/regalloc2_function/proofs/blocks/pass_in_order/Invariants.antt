@@ -1,5 +1,5 @@
 use Rattle.std.proofs.Common.{◌≡◌, length}
-use Rattle.regalloc2_function.specs.Ways.{MetSoFar}
+use Rattle.regalloc2_function.specs.Inside.Ways.{MetSoFar}
 use Rattle.regalloc2_function.proofs.blocks.pass_in_order.Given as goal
 
 -- the blocks so far were met

@@ -1,8 +1,8 @@
 use Rattle.std.proofs.Common.{◌≡◌, ◌<◌, ◌≤◌, length, refl, ap, below_more, arith, ◌∙◌, sym}
 use Rattle.regalloc2_names.specs.declared.RegAllocError.TheVariants.{DisallowedBranchArg}
-use Rattle.regalloc2_function.specs.FunctionValue.{FunctionValue, block_at}
-use Rattle.regalloc2_function.specs.WellFormed.{NoOperandsAt, last_of}
-use Rattle.regalloc2_function.specs.Following.{end_within}
+use Rattle.regalloc2_function.specs.FunctionValue.{FunctionValue, block_at, last_of}
+use Rattle.regalloc2_function.specs.WellFormed.{NoOperandsAt}
+use Rattle.regalloc2_function.proofs.Following.{end_within}
 use Rattle.std.proofs.lemmas.Bool.{false≢true}
 use Rattle.regalloc2_function.proofs.blocks.test_branches.Goals as goal
 

@@ -1,9 +1,8 @@
 use Rattle.std.proofs.Common.{◌≡◌, ◌≢◌, ◌-◌, ◌<◌, ◌∙◌, length, ap, arith, sym}
-use Rattle.regalloc2_names.specs.Point.{after, before, invalid_inst}
-use Rattle.regalloc2_function.specs.FunctionValue.{FunctionValue, block_at}
-use Rattle.regalloc2_function.specs.WellFormed.{last_of}
+use Rattle.regalloc2_names.specs.Place.{after, before, invalid_inst}
+use Rattle.regalloc2_function.specs.FunctionValue.{FunctionValue, block_at, last_of}
 use Rattle.regalloc2_function.specs.Tables.{entry_point, exit_point}
-use Rattle.regalloc2_function.specs.Following.{end_within}
+use Rattle.regalloc2_function.proofs.Following.{end_within}
 use Rattle.regalloc2_function.proofs.BlockRanges.{block_is}
 use Rattle.regalloc2_function.proofs.TablesByBlock.{points_more}
 use Rattle.regalloc2_function.proofs.ListsInParts.{map_taken}

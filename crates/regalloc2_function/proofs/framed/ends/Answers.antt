@@ -1,8 +1,7 @@
 use Rattle.std.proofs.Common.{◌≡◌, ◌-◌, ◌<◌, sym, ap, ◌∙◌, subst, arith}
 use Rattle.std.proofs.lemmas.Bool.{false≢true}
 use Rattle.regalloc2_index.specs.Range.{Span}
-use Rattle.regalloc2_function.specs.FunctionValue.{FunctionValue, block_at}
-use Rattle.regalloc2_function.specs.WellFormed.{last_of}
+use Rattle.regalloc2_function.specs.FunctionValue.{FunctionValue, block_at, last_of}
 use Rattle.regalloc2_function.proofs.framed.ends.Goals as goal
 
 pub last-last-requires : goal.last-last-requires

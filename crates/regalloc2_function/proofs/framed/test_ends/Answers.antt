@@ -2,7 +2,7 @@ use Rattle.std.proofs.Common.{◌<◌, length, refl, below_more, arith, sym, ◌
 use Rattle.std.proofs.lemmas.Bool.{false≢true}
 use Rattle.regalloc2_function.specs.FunctionValue.{FunctionValue, block_at}
 use Rattle.regalloc2_function.specs.WellFormed.{EndsAt}
-use Rattle.regalloc2_function.specs.Following.{end_within}
+use Rattle.regalloc2_function.proofs.Following.{end_within}
 use Rattle.regalloc2_function.proofs.framed.test_ends.Goals as goal
 
 pub ends-requires-clause-within : goal.ends-requires-clause-within

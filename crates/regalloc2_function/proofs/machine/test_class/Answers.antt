@@ -1,8 +1,7 @@
 use Rattle.std.proofs.Common.{rules, ◌≡◌, Option, true, false, sym, ap, ◌∙◌}
 use Rattle.std.specs.Prelude.{MatchOption, None, Some, is_some, not}
 use Rattle.std.proofs.lemmas.Bool.{false≢true}
-use Rattle.regalloc2_names.specs.Register.{Register}
-use Rattle.regalloc2_names.specs.RegisterSet.{has_register}
+use Rattle.regalloc2_names.specs.Register.{Register, has_register}
 use Rattle.regalloc2_names.specs.declared.sets.PRegSet.{PRegSet}
 use Rattle.regalloc2_function.specs.Misfit.{IsMisfit}
 use Rattle.regalloc2_function.specs.Views.{machine_of}

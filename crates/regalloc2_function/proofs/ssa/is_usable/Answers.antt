@@ -2,7 +2,7 @@ use Rattle.std.proofs.Common.{◌≡◌, ◌≤◌, ◌<◌, ℕ, length, get_or
 use Rattle.std.specs.Prelude.{Option, Some, None}
 use Rattle.std.proofs.lemmas.Bool.{false≢true}
 use Rattle.std.proofs.lemmas.List.{get_or_past, get_or_default}
-use Rattle.regalloc2_function.specs.Definitions.{Table, entry_of}
+use Rattle.regalloc2_function.specs.Inside.Definitions.{Table, entry_of}
 use Rattle.regalloc2_function.specs.declared.ssa.Definition.{Definition}
 use Rattle.regalloc2_function.proofs.ssa.is_usable.Goals as goal
 

@@ -1,9 +1,9 @@
 use Rattle.std.proofs.Common.{◌≡◌, ◌+◌, [], ◌∷◌, true, false, take, drop, refl, sym, ap, ◌∙◌, append-nil, arith}
 use Rattle.std.specs.Prelude.{filter_map}
 use Rattle.regalloc2_names.specs.Operand.{is_def}
-use Rattle.regalloc2_names.specs.Point.{after}
+use Rattle.regalloc2_names.specs.Place.{after}
 use Rattle.regalloc2_function.specs.Reasons.{operand_definition}
-use Rattle.regalloc2_function.specs.Definitions.NotesDefinitions.{none, more}
+use Rattle.regalloc2_function.specs.Inside.Definitions.NotesDefinitions.{none, more}
 use Rattle.regalloc2_function.proofs.ListsInParts.{filter_split, filter_more}
 use Rattle.regalloc2_function.proofs.NotedInParts.{names_in_part, taken_now}
 use Rattle.regalloc2_names.specs.declared.RegAllocError.TheVariants.{SSA}

@@ -1,7 +1,7 @@
 use Rattle.std.proofs.Common.{take}
 use Rattle.std.specs.Prelude.{All, map}
 use Rattle.regalloc2_function.specs.Reasons.{argument_use}
-use Rattle.regalloc2_function.specs.Definitions.{IsUsable}
+use Rattle.regalloc2_function.specs.Inside.Definitions.{IsUsable}
 use Rattle.regalloc2_function.proofs.ssa.test_arguments.Given as goal
 
 -- the arguments so far are usable

@@ -4,9 +4,9 @@ use Rattle.std.proofs.lemmas.Result.{err_from_is_err_and}
 use Rattle.std.proofs.lemmas.List.Elements.{All-append, All-same}
 use Rattle.regalloc2_function.specs.FunctionValue.{FunctionValue, block_at}
 use Rattle.regalloc2_function.specs.Reasons.{block_uses, uses_in}
-use Rattle.regalloc2_function.specs.Definitions.{IsUsable}
+use Rattle.regalloc2_function.specs.Inside.Definitions.{IsUsable}
 use Rattle.regalloc2_function.proofs.ListsInParts.{flat_split, flat_more, flat_taken}
-use Rattle.regalloc2_function.specs.Following.{end_within}
+use Rattle.regalloc2_function.proofs.Following.{end_within}
 use Rattle.regalloc2_function.proofs.BlockRanges.{block_is}
 use Rattle.regalloc2_function.proofs.NotedInParts.{unusable_in_part}
 use Rattle.regalloc2_function.proofs.ssa.test_blocks.Goals as goal

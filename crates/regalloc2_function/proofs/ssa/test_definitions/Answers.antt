@@ -3,7 +3,7 @@ use Rattle.std.proofs.lemmas.Result.{IfErr-weaker}
 use Rattle.regalloc2_names.specs.declared.RegAllocError.TheVariants.{Memory}
 use Rattle.regalloc2_function.specs.FunctionValue.{FunctionValue}
 use Rattle.regalloc2_function.specs.Reasons.{IsDefinitionFault}
-use Rattle.regalloc2_function.specs.TableLength.{CoversDefinitions}
+use Rattle.regalloc2_function.specs.Inside.TableLength.{CoversDefinitions}
 use Rattle.regalloc2_function.proofs.TableDecidesSSA.{only_memory}
 use Rattle.std.specs.Prelude.{Some}
 use Rattle.regalloc2_function.proofs.ssa.test_definitions.Goals as goal

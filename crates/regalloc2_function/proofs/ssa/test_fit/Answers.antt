@@ -1,7 +1,7 @@
 use Rattle.std.proofs.Common.{◌≡◌, ◌<◌, length, refl, ap, arith, below_more, ◌∙◌, sym}
 use Rattle.regalloc2_names.specs.declared.RegAllocError.TheVariants.{Branch}
-use Rattle.regalloc2_function.specs.FunctionValue.{FunctionValue, block_at}
-use Rattle.regalloc2_function.specs.WellFormed.{ArgumentsFitAt, last_of}
+use Rattle.regalloc2_function.specs.FunctionValue.{FunctionValue, block_at, last_of}
+use Rattle.regalloc2_function.specs.WellFormed.{ArgumentsFitAt}
 use Rattle.std.proofs.lemmas.Bool.{false≢true}
 use Rattle.regalloc2_function.proofs.ssa.test_fit.Goals as goal
 

@@ -2,10 +2,10 @@ use Rattle.std.proofs.Common.{ℕ, ◌≡◌, ◌+◌, [], ◌∷◌, true, fals
 use Rattle.std.specs.Prelude.{filter_map}
 use Rattle.std.proofs.lemmas.List.Elements.{All-push, All-same}
 use Rattle.regalloc2_names.specs.Operand.{is_reading}
-use Rattle.regalloc2_names.specs.Point.{before}
+use Rattle.regalloc2_names.specs.Place.{before}
 use Rattle.regalloc2_names.specs.Register.{VirtualRegister}
 use Rattle.regalloc2_function.specs.Reasons.{UseSite, operand_read}
-use Rattle.regalloc2_function.specs.Definitions.{IsUsable}
+use Rattle.regalloc2_function.specs.Inside.Definitions.{IsUsable}
 use Rattle.regalloc2_function.proofs.ListsInParts.{filter_split, filter_more, filter_taken}
 use Rattle.regalloc2_function.proofs.NotedInParts.{unusable_in_part, unusable_now}
 use Rattle.regalloc2_names.specs.declared.RegAllocError.TheVariants.{SSA}

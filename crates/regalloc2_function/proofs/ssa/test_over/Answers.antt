@@ -2,7 +2,7 @@ use Rattle.std.proofs.Common.{ℕ, None, length, replicate, subst}
 use Rattle.std.proofs.lemmas.Result.{on_ok_weaker, IfErr-weaker, err_from_is_err_and}
 use Rattle.regalloc2_function.specs.FunctionValue.{FunctionValue}
 use Rattle.regalloc2_function.specs.Reasons.{IsDefinitionFault, definitions_in}
-use Rattle.regalloc2_function.specs.Definitions.{NamesTaken, NotesDefinitions, Table}
+use Rattle.regalloc2_function.specs.Inside.Definitions.{NamesTaken, NotesDefinitions, Table}
 use Rattle.regalloc2_function.proofs.TableDecidesSSA.{noted_once, taken_fault, unusable_fault, usable_uses}
 use Rattle.regalloc2_function.proofs.ssa.test_over.Goals as goal
 

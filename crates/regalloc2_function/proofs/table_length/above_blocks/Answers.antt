@@ -3,7 +3,7 @@ use Rattle.std.specs.Prelude.{All}
 use Rattle.std.proofs.lemmas.List.Elements.{All-weaker}
 use Rattle.regalloc2_names.specs.Register.{VirtualRegister}
 use Rattle.regalloc2_function.specs.FunctionValue.{FunctionValue, block_at}
-use Rattle.regalloc2_function.specs.TableLength.{ReachedByParam}
+use Rattle.regalloc2_function.specs.Inside.TableLength.{ReachedByParam}
 use Rattle.regalloc2_function.proofs.TableLengths.{block_more}
 use Rattle.regalloc2_function.proofs.table_length.above_blocks.Goals as goal
 

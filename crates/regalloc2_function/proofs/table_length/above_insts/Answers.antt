@@ -3,7 +3,7 @@ use Rattle.std.specs.Prelude.{All}
 use Rattle.std.proofs.lemmas.List.Elements.{All-weaker}
 use Rattle.regalloc2_names.specs.Operand.{OperandValue}
 use Rattle.regalloc2_function.specs.FunctionValue.{FunctionValue, inst_at}
-use Rattle.regalloc2_function.specs.TableLength.{IsBelow, ReachedByDef}
+use Rattle.regalloc2_function.specs.Inside.TableLength.{IsBelow, ReachedByDef}
 use Rattle.regalloc2_function.proofs.TableLengths.{inst_more}
 use Rattle.regalloc2_function.proofs.table_length.above_insts.Goals as goal
 

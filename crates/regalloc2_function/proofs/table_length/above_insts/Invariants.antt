@@ -1,7 +1,7 @@
 use Rattle.std.proofs.Common.{ℕ, ◌≡◌, ◌<◌, ◌≤◌, length}
 use Rattle.std.specs.Prelude.{All}
 use Rattle.regalloc2_function.specs.FunctionValue.{inst_at}
-use Rattle.regalloc2_function.specs.TableLength.{IsBelow}
+use Rattle.regalloc2_function.specs.Inside.TableLength.{IsBelow}
 use Rattle.regalloc2_function.proofs.TableLengths.{ReachedInInsts}
 use Rattle.regalloc2_function.proofs.table_length.above_insts.Given as goal
 

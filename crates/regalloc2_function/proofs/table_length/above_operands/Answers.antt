@@ -1,7 +1,7 @@
 use Rattle.std.proofs.Common.{ℕ, ◌≤◌, inl, length, take, sym, subst, arith}
 use Rattle.std.proofs.lemmas.List.{take_all}
 use Rattle.std.proofs.lemmas.List.Elements.{All-more, All-nil, All-same, All-weaker}
-use Rattle.regalloc2_function.specs.TableLength.{IsBelow}
+use Rattle.regalloc2_function.specs.Inside.TableLength.{IsBelow}
 use Rattle.regalloc2_function.proofs.TableLengths.{operand_more}
 use Rattle.regalloc2_function.proofs.table_length.above_operands.Goals as goal
 

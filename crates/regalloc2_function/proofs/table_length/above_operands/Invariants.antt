@@ -1,6 +1,6 @@
 use Rattle.std.proofs.Common.{◌≤◌, ◌⊎◌, take}
 use Rattle.std.specs.Prelude.{All}
-use Rattle.regalloc2_function.specs.TableLength.{IsBelow, ReachedByDef}
+use Rattle.regalloc2_function.specs.Inside.TableLength.{IsBelow, ReachedByDef}
 use Rattle.regalloc2_function.proofs.table_length.above_operands.Given as goal
 
 -- the bound is above what the operands so far define

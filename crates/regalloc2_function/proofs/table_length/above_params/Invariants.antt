@@ -1,6 +1,6 @@
 use Rattle.std.proofs.Common.{◌<◌, ◌≤◌, ◌⊎◌, take}
 use Rattle.std.specs.Prelude.{All}
-use Rattle.regalloc2_function.specs.TableLength.{ReachedByParam}
+use Rattle.regalloc2_function.specs.Inside.TableLength.{ReachedByParam}
 use Rattle.regalloc2_function.proofs.table_length.above_params.Given as goal
 
 -- the bound is above the parameters so far

@@ -1,7 +1,6 @@
 use Rattle.std.proofs.Common.{rules, ◌≡◌, get_or, subst, arith, ◌||◌}
 use Rattle.std.proofs.lemmas.List.{take_all}
-use Rattle.regalloc2_names.specs.Register.{Register, is_register}
-use Rattle.regalloc2_names.specs.RegisterSet.{has_register}
+use Rattle.regalloc2_names.specs.Register.{Register, is_register, has_register}
 use Rattle.regalloc2_serialize.specs.Decoded.{HasIndexes}
 use Rattle.regalloc2_serialize.proofs.Indexes.{indexes-more}
 use Rattle.regalloc2_serialize.proofs.decode.set_from.Goals as goal

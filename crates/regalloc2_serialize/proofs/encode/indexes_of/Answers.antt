@@ -1,8 +1,7 @@
 use Rattle.std.proofs.Common.{rules, refl, ◌≡◌, ◌++◌, ◌∙◌, true, sym, subst, ap, map, List}
 use Rattle.std.specs.Prelude.{◌↔◌, Contains}
 use Rattle.std.proofs.lemmas.List.{append-nil}
-use Rattle.regalloc2_names.specs.Register.{Register}
-use Rattle.regalloc2_names.specs.RegisterSet.{has_register}
+use Rattle.regalloc2_names.specs.Register.{Register, has_register}
 use Rattle.std.proofs.lemmas.List.Elements.{All-nil, All-push}
 use Rattle.regalloc2_names.specs.Packing.{IsRegisterIndex, register_of_bits}
 use Rattle.regalloc2_serialize.proofs.Lists.{walked-more}

@@ -1,11 +1,10 @@
 -- The function and the machine that columns lay out.
-use Rattle.std.specs.Prelude.{ℕ, zero, suc, ◌≡◌, ◌+◌, ◌-◌, ◌*◌, ◌/◌, ◌%◌, ◌<◌, ◌^◌, Bool, false, ◌&&◌, nat_eq, nat_lt, Option, None, Some}
-use Rattle.std.specs.Prelude.{List, ◌∷◌, length, map, slice_index, slice_index_or, slice_range}
+use Rattle.std.specs.Prelude.{ℕ, zero, suc, ◌≡◌, ◌+◌, ◌-◌, ◌*◌, ◌/◌, ◌%◌, ◌<◌, ◌^◌, Bool, false, ◌&&◌, nat_eq, nat_lt, Option, None, Some, List, ◌∷◌, length}
+use Rattle.std.specs.Prelude.{map, slice_index, slice_index_or, slice_range}
 use Rattle.std.specs.Int.{bit_at}
 use Rattle.std.specs.List.{range_with_len}
-use Rattle.regalloc2_names.specs.Register.{Register, VirtualRegister}
+use Rattle.regalloc2_names.specs.Register.{Register, VirtualRegister, has_register}
 use Rattle.regalloc2_names.specs.RegisterBits.{register_of_bits, bits_of_register, vreg_of_bits}
-use Rattle.regalloc2_names.specs.RegisterSet.{has_register}
 use Rattle.regalloc2_names.specs.Packing.{operand_of_bits}
 use Rattle.regalloc2_names.specs.Operand.{OperandValue}
 use Rattle.regalloc2_names.specs.declared.sets.PRegSet.{PRegSet}

@@ -1,7 +1,7 @@
 use Rattle.std.proofs.lemmas.Result.{IfOk-from_err}
 use Rattle.std.proofs.Common.{ℕ, ◌≡◌, ◌+◌, ◌<◌, List, length, map, get_or, drop, sym, ap, ◌∙◌, arith}
 use Rattle.std.proofs.lemmas.List.{length-map}
-use Rattle.regalloc2_semantics.specs.Values.Interpreters.{passed_on}
+use Rattle.regalloc2_semantics.specs.Interpreters.{passed_on}
 use Rattle.codegen.specs.Run.States.{numbers_by_vreg}
 use Rattle.codegen.proofs.RunLemmas.Written.{pass_more, pass_end}
 use Rattle.codegen.proofs.run.procedure.pass.Goals as goal

@@ -1,5 +1,5 @@
 use Rattle.std.proofs.Common.{◌≡◌, drop}
-use Rattle.regalloc2_semantics.specs.Values.Interpreters.{passed_on}
+use Rattle.regalloc2_semantics.specs.Interpreters.{passed_on}
 use Rattle.codegen.specs.Run.States.{numbers_by_vreg}
 use Rattle.codegen.proofs.run.procedure.pass.Given as goal
 

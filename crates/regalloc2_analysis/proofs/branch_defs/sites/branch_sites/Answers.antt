@@ -1,6 +1,6 @@
 use Rattle.std.proofs.Common.{◌≡◌, ◌∙◌, length, sym, subst, arith}
 use Rattle.std.proofs.lemmas.List.{with_items_is}
-use Rattle.regalloc2_function.specs.TableLength.{CoversDefinitions}
+use Rattle.regalloc2_function.specs.Inside.TableLength.{CoversDefinitions}
 use Rattle.regalloc2_analysis.proofs.branch_defs.sites.branch_sites.Goals as goal
 
 pub note_branches-requires-clause-room : goal.note_branches-requires-clause-room

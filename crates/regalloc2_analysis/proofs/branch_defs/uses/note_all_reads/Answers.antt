@@ -2,7 +2,7 @@ use Rattle.std.proofs.Common.{ℕ, ◌≡◌, length, subst, arith}
 use Rattle.regalloc2_function.specs.FunctionValue.{FunctionValue}
 use Rattle.regalloc2_analysis.specs.BranchDefs.Notes.{ReadsIn}
 use Rattle.regalloc2_analysis.proofs.BranchDefsLemmas.UseNotes.{insts_more}
-use Rattle.regalloc2_function.specs.MarkedNumbers.{Marks}
+use Rattle.regalloc2_function.specs.Inside.MarkedNumbers.{Marks}
 use Rattle.regalloc2_analysis.proofs.branch_defs.uses.note_all_reads.Goals as goal
 
 pub loop-i-preserved : goal.loop-i-preserved

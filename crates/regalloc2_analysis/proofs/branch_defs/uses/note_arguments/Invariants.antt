@@ -1,5 +1,5 @@
 use Rattle.regalloc2_analysis.specs.BranchDefs.Notes.{PassesAmong}
-use Rattle.regalloc2_function.specs.MarkedNumbers.{Marks}
+use Rattle.regalloc2_function.specs.Inside.MarkedNumbers.{Marks}
 use Rattle.regalloc2_analysis.proofs.branch_defs.uses.note_arguments.Given as goal
 
 -- the arguments so far that the instruction doesn't define are marked

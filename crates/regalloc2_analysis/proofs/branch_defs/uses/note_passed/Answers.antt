@@ -1,12 +1,11 @@
 use Rattle.std.proofs.Common.{ℕ, ◌≡◌, ◌<◌, ◌-◌, length, refl, ap, sym, ◌∙◌, subst, arith}
 use Rattle.regalloc2_index.specs.Range.{Span}
-use Rattle.regalloc2_function.specs.FunctionValue.{FunctionValue, block_at}
-use Rattle.regalloc2_function.specs.WellFormed.{last_of}
+use Rattle.regalloc2_function.specs.FunctionValue.{FunctionValue, block_at, last_of}
 use Rattle.regalloc2_analysis.specs.BranchDefs.Notes.{PassesOut}
 use Rattle.regalloc2_analysis.proofs.BranchDefsLemmas.BlockEnds.{within_function}
 use Rattle.regalloc2_analysis.proofs.BranchDefsLemmas.UseNotes.{edges_more}
 use Rattle.regalloc2_analysis.proofs.MarkedItems.{marks_nothing}
-use Rattle.regalloc2_function.specs.MarkedNumbers.{Marks}
+use Rattle.regalloc2_function.specs.Inside.MarkedNumbers.{Marks}
 use Rattle.regalloc2_analysis.proofs.branch_defs.uses.note_passed.Goals as goal
 
 pub loop-k-preserved : goal.loop-k-preserved

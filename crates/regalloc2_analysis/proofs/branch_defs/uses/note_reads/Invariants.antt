@@ -1,5 +1,5 @@
 use Rattle.regalloc2_analysis.specs.BranchDefs.Notes.{ReadsAmong}
-use Rattle.regalloc2_function.specs.MarkedNumbers.{Marks}
+use Rattle.regalloc2_function.specs.Inside.MarkedNumbers.{Marks}
 use Rattle.regalloc2_analysis.proofs.branch_defs.uses.note_reads.Given as goal
 
 -- what the operands so far read is marked

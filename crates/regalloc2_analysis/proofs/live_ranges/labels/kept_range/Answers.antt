@@ -1,5 +1,5 @@
 use Rattle.std.proofs.Common.{◌≡◌, ◌∙◌, List, Option, Some, sym, ap, arith}
-use Rattle.regalloc2_names.specs.Point.{inst_of_point}
+use Rattle.regalloc2_names.specs.Place.{inst_of_point}
 use Rattle.regalloc2_function.specs.FunctionValue.{FunctionValue, Label, label_of}
 use Rattle.regalloc2_analysis.specs.declared.live_ranges.LiveRange.{LiveRange}
 use Rattle.regalloc2_analysis.specs.LiveRanges.LiveRanges.{range_at}

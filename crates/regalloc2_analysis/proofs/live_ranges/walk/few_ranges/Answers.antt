@@ -1,7 +1,7 @@
 use Rattle.std.proofs.Common.{List, Option, ℕ, ◌≡◌, ◌∙◌, length, sym, ap, subst, arith}
 use Rattle.std.proofs.lemmas.List.{with_items_is}
 use Rattle.regalloc2_function.specs.FunctionValue.{FunctionValue}
-use Rattle.regalloc2_function.specs.TableLength.{CoversDefinitions}
+use Rattle.regalloc2_function.specs.Inside.TableLength.{CoversDefinitions}
 use Rattle.regalloc2_analysis.specs.declared.live_ranges.LiveRange.{LiveRange}
 use Rattle.regalloc2_analysis.specs.LiveRanges.LiveRanges.{AreLiveRanges, IsWanted}
 use Rattle.regalloc2_analysis.specs.LiveRanges.Entries.{AreEntryIndexes, spread}

@@ -1,7 +1,7 @@
 use Rattle.std.proofs.Common.{ℕ, ◌≡◌, ◌+◌, ◌-◌, ◌∙◌, List, length, sym, subst, arith}
 use Rattle.regalloc2_index.proofs.Bools.{not_both}
 use Rattle.regalloc2_function.specs.FunctionValue.{FunctionValue}
-use Rattle.regalloc2_semantics.proofs.Order.{ends_within}
+use Rattle.regalloc2_carry.proofs.Order.{ends_within}
 use Rattle.regalloc2_analysis.specs.LiveRanges.LiveRanges.{IsWanted}
 use Rattle.regalloc2_analysis.specs.LiveRanges.Entries.{spread}
 use Rattle.regalloc2_analysis.specs.LiveRanges.WalkInvariant.{AddsNothing, ListsAdding}

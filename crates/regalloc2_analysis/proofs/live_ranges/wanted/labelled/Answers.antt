@@ -2,7 +2,7 @@ use Rattle.std.proofs.Common.{ℕ, Bool, List, ◌≡◌, ◌<◌, false, length
 use Rattle.std.specs.Prelude.{◌↔◌}
 use Rattle.std.proofs.lemmas.List.{with_items_is}
 use Rattle.regalloc2_function.specs.FunctionValue.{FunctionValue}
-use Rattle.regalloc2_function.specs.TableLength.{CoversDefinitions}
+use Rattle.regalloc2_function.specs.Inside.TableLength.{CoversDefinitions}
 use Rattle.regalloc2_analysis.specs.LiveRanges.LiveRanges.{IsLabelled, IsWanted}
 use Rattle.regalloc2_analysis.proofs.LiveRangesLemmas.Labelled.{labelled_are}
 use Rattle.regalloc2_analysis.proofs.live_ranges.wanted.labelled.Goals as goal

@@ -1,6 +1,6 @@
 use Rattle.std.proofs.Common.{ℕ, ◌≡◌, ◌∙◌, sym, ap, subst}
 use Rattle.regalloc2_names.specs.Register.{VirtualRegister}
-use Rattle.regalloc2_function.specs.MarkedNumbers.{Marks}
+use Rattle.regalloc2_function.specs.Inside.MarkedNumbers.{Marks}
 use Rattle.regalloc2_analysis.proofs.LiveRangesLemmas.Labelled.{named_more}
 use Rattle.regalloc2_analysis.proofs.live_ranges.wanted.mark_labelled.Goals as goal
 

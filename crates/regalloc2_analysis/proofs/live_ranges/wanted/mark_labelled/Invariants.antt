@@ -1,5 +1,5 @@
 use Rattle.regalloc2_analysis.specs.LiveRanges.Marks.{NamedAmong}
-use Rattle.regalloc2_function.specs.MarkedNumbers.{Marks}
+use Rattle.regalloc2_function.specs.Inside.MarkedNumbers.{Marks}
 use Rattle.regalloc2_analysis.proofs.live_ranges.wanted.mark_labelled.Given as goal
 
 -- the numbers of the labels so far are marked

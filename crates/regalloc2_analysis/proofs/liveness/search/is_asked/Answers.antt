@@ -2,7 +2,7 @@ use Rattle.std.proofs.Common.{ℕ, ◌≡◌, ◌<◌, ◌∙◌, ap, subst, ari
 use Rattle.regalloc2_index.proofs.Bools.{false_refutes}
 use Rattle.regalloc2_index.specs.Range.{Span}
 use Rattle.regalloc2_function.specs.FunctionValue.{FunctionValue, block_at}
-use Rattle.regalloc2_function.specs.Following.{end_within}
+use Rattle.regalloc2_function.proofs.Following.{end_within}
 use Rattle.regalloc2_analysis.specs.Liveness.LiveIn.{IsUnwrittenTo}
 use Rattle.regalloc2_analysis.proofs.LivenessLemmas.SearchedBack.{asked_early, asked_late, asked_passed, unwritten_next}
 use Rattle.regalloc2_analysis.proofs.liveness.search.is_asked.Goals as goal

@@ -2,7 +2,7 @@ use Rattle.std.proofs.Common.{ℕ, ◌≡◌, ◌∙◌, [], eqb-true, subst, sy
 use Rattle.std.proofs.lemmas.List.Elements.{All-nil, All-push}
 use Rattle.std.proofs.lemmas.Result.{IfOk-weaker}
 use Rattle.regalloc2_function.specs.FunctionValue.{FunctionValue}
-use Rattle.regalloc2_function.specs.Path.{first_of}
+use Rattle.regalloc2_semantics.specs.Runs.{first_of}
 use Rattle.regalloc2_analysis.specs.Liveness.LiveIn.{IsNeeded}
 use Rattle.regalloc2_analysis.specs.Liveness.Search.{LeadsBack}
 use Rattle.regalloc2_analysis.proofs.liveness.search.reads_early.Goals as goal

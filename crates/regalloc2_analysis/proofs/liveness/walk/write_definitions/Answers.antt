@@ -1,7 +1,7 @@
 use Rattle.std.proofs.Common.{◌∙◌, ◌+◌, [], sym, take, List, length, ◌≤◌, subst, arith}
 use Rattle.std.proofs.lemmas.List.{take_all}
 use Rattle.regalloc2_names.specs.Register.{is_vreg}
-use Rattle.regalloc2_semantics.specs.Listing.{defines}
+use Rattle.regalloc2_carry.specs.Listing.{defines}
 use Rattle.regalloc2_names.specs.Operand.{OperandValue}
 use Rattle.regalloc2_analysis.specs.Liveness.BlockVRegPairs.{Gains, holds}
 use Rattle.regalloc2_analysis.proofs.LivenessLemmas.PairLists.{gains_more, gains_none, gains_same}

@@ -9,7 +9,7 @@ use Rattle.regalloc2_function.specs.Machine.{MachineValue}
 use Rattle.regalloc2_function.specs.OutputValue.{OutputValue}
 use Rattle.regalloc2_function.specs.Views.{machine_of, output_of}
 use Rattle.regalloc2_function.specs.WellFormed.{IsFramed}
-use Rattle.regalloc2_function.specs.Faithful.{IsFaithful}
+use Rattle.regalloc2_semantics.specs.Faithful.{IsFaithful}
 use Rattle.regalloc2_checker.specs.Report.{IsReport}
 use Rattle.regalloc2_checker.specs.declared.errors.CheckerError.{CheckerError}
 use Rattle.regalloc2_checker.proofs.NoErrorsIsFaithful.{report_verdict}

@@ -1,8 +1,7 @@
 use Rattle.std.proofs.Common.{◌≡◌, ◌∙◌, ◌++◌, ℕ, List, ap, refl, map, append_assoc}
 use Rattle.std.specs.List.{flat_map}
 use Rattle.regalloc2_names.specs.Place.{InRegister}
-use Rattle.regalloc2_names.specs.Register.{Register}
-use Rattle.regalloc2_names.specs.RegisterSet.{registers_of}
+use Rattle.regalloc2_names.specs.Register.{Register, registers_of}
 use Rattle.regalloc2_checker.specs.NamedPlaces.{bits_unless_missing}
 use Rattle.regalloc2_checker.proofs.PlacesListed.{bits_of_registers, bits-more, walked}
 use Rattle.regalloc2_checker.proofs.place_list.PlaceList.into_numbers.Goals as goal

@@ -1,6 +1,6 @@
 use Rattle.std.proofs.Common.{List, ℕ, ◌++◌, map, subst}
 use Rattle.regalloc2_names.specs.Place.{InRegister}
-use Rattle.regalloc2_names.specs.RegisterSet.{registers_of}
+use Rattle.regalloc2_names.specs.Register.{registers_of}
 use Rattle.regalloc2_checker.specs.NamedBits.{ArePlacesAdded}
 use Rattle.regalloc2_checker.proofs.PlacesListed.{bits_of_registers, set-listed}
 use Rattle.regalloc2_checker.proofs.place_list.PlaceList.list_registers.Goals as goal

@@ -17,8 +17,13 @@ pub index_mut-more-requires : goal.index_mut-more-requires
 index_mut-more-requires g c =
     let grown = c.loop-k.self-inside.grown.items in
     let less : c.loop-k.k < length grown = omega (arith, c.loop-k-test.true, c.loop-k.invariant.last) in
-    omega (arith, c.loop-k.invariant.left.within c.loop-k.k less, c.index.ensures, get_or_default grown c.loop-k.k c.index.result.now 0 less,
-    c.loop-k.self-inside.items.ok.0)
+    omega (
+      arith,
+      c.loop-k.invariant.left.within c.loop-k.k less,
+      c.index.ensures,
+      get_or_default grown c.loop-k.k c.index.result.now 0 less,
+      c.loop-k.self-inside.items.ok.0,
+    )
 
 pub loop-k-preserved : goal.loop-k-preserved
 loop-k-preserved g c =

@@ -1,6 +1,6 @@
 use Rattle.std.proofs.Common.{ap, ◌∙◌}
 use Rattle.std.specs.Prelude.{◌||◌}
-use Rattle.regalloc2_names.specs.RegisterSet.{has_register}
+use Rattle.regalloc2_names.specs.Register.{has_register}
 use Rattle.regalloc2_fastalloc_state.specs.StateParts.{AllocatableRegsValue}
 use Rattle.regalloc2_fastalloc_state.proofs.allocatable.AllocatableRegs.available_regs.Goals as goal
 

@@ -2,8 +2,7 @@ use Rattle.std.proofs.Common.{◌≡◌, ◌<◌, false, List, [], length, ap, �
 use Rattle.std.specs.Prelude.{All, Option, IfNone, IfSome, Contains, find, reverse}
 use Rattle.std.proofs.lemmas.List.{get_or_read}
 use borrow.Author.Rules.{scaled_Fits}
-use Rattle.regalloc2_names.specs.Register.{Register, class_code}
-use Rattle.regalloc2_names.specs.RegisterSet.{has_register}
+use Rattle.regalloc2_names.specs.Register.{Register, class_code, has_register}
 use Rattle.regalloc2_fastalloc_state.specs.Choice.{chosen}
 use Rattle.regalloc2_fastalloc_state.specs.StateParts.{AllocatableRegsValue, IsLeastRecentIn, NoneIsIn, lru_of}
 use Rattle.regalloc2_fastalloc_state.proofs.LrusByClass.{found_in, none_free}

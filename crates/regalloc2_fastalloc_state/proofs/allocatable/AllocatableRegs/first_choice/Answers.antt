@@ -2,8 +2,7 @@ use Rattle.std.proofs.Common.{◌≡◌, ◌<◌, Bool, true, List, [], length, 
 use Rattle.std.specs.Prelude.{Option, None, Some, IfSome, IfNone, Contains}
 use Rattle.std.proofs.lemmas.List.{get_or_read}
 use borrow.Author.Rules.{scaled_Fits}
-use Rattle.regalloc2_names.specs.Register.{Register, class_code}
-use Rattle.regalloc2_names.specs.RegisterSet.{has_register}
+use Rattle.regalloc2_names.specs.Register.{Register, class_code, has_register}
 use Rattle.regalloc2_fastalloc_state.specs.Choice.{chosen}
 use Rattle.regalloc2_fastalloc_state.specs.StateParts.{AllocatableRegsValue, NoneIsFrom, lru_of}
 use Rattle.regalloc2_fastalloc_state.proofs.LrusByClass.{member_in, none_in}

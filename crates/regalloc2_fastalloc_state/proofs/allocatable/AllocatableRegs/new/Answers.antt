@@ -3,8 +3,7 @@ use Rattle.std.specs.Prelude.{◌||◌, ◌↔◌, Contains}
 use Rattle.regalloc2_names.specs.declared.RegClass.{RegClass}
 use Rattle.regalloc2_names.specs.declared.RegClass.TheVariants.{Int, Float, Vector}
 use Rattle.regalloc2_names.specs.declared.sets.PRegSet.{PRegSet}
-use Rattle.regalloc2_names.specs.Register.{Register}
-use Rattle.regalloc2_names.specs.RegisterSet.{has_register}
+use Rattle.regalloc2_names.specs.Register.{Register, has_register}
 use Rattle.regalloc2_names.specs.Listed.{has_register-small}
 use Rattle.regalloc2_function.specs.Machine.{is_allocatable}
 use Rattle.regalloc2_function.specs.Views.{machine_of}

@@ -2,8 +2,7 @@ use Rattle.std.proofs.Common.{ℕ, ◌≡◌, ◌<◌, true, List, [], ◌∷◌
 use Rattle.std.specs.Prelude.{Contains, ◌↔◌, filter, not}
 use Rattle.std.proofs.lemmas.List.{get_or_read}
 use borrow.Author.Rules.{scaled_Fits}
-use Rattle.regalloc2_names.specs.Register.{Register, class_code, is_register}
-use Rattle.regalloc2_names.specs.RegisterSet.{has_register}
+use Rattle.regalloc2_names.specs.Register.{Register, class_code, is_register, has_register}
 use Rattle.regalloc2_fastalloc_state.specs.StateParts.{AllocatableRegsValue, lru_of}
 use Rattle.regalloc2_fastalloc_state.proofs.LrusByClass.{rings_kept, ring_replaced, other_ring}
 use Rattle.regalloc2_fastalloc_state.proofs.allocatable.AllocatableRegs.poke.Given.{Over}

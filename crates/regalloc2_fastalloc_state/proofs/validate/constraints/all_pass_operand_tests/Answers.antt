@@ -1,7 +1,7 @@
 use Rattle.std.proofs.Common.{below_more}
 use Rattle.regalloc2_function.specs.FunctionValue.{FunctionValue, inst_at}
 use Rattle.std.specs.Prelude.{All}
-use Rattle.regalloc2_fastalloc_state.specs.Validate.Constraints.{AreUnlimited, BranchDefinesInPlace}
+use Rattle.regalloc2_function.specs.WellFormed.{AreUnlimited, BranchDefinesInPlace}
 use Rattle.regalloc2_fastalloc_state.specs.Validate.NoLimits.{IsTakenOperand}
 use Rattle.regalloc2_fastalloc_state.proofs.validate.constraints.all_pass_operand_tests.Goals as goal
 

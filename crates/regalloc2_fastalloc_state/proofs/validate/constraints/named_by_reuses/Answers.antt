@@ -1,6 +1,6 @@
 use Rattle.std.proofs.Common.{ℕ, List, false, length-set, refl, sym, ap, ◌∙◌, arith}
 use Rattle.regalloc2_names.specs.Operand.{OperandValue}
-use Rattle.regalloc2_semantics.proofs.Plain.{always}
+use Rattle.regalloc2_carry.proofs.Plain.{always}
 use Rattle.regalloc2_fastalloc_state.proofs.ValidateLemmas.ConstraintTests.{named_none, named_same, named_more, all_named}
 use Rattle.regalloc2_fastalloc_state.proofs.ValidateLemmas.OperandReads.{read_operand}
 use Rattle.regalloc2_fastalloc_state.proofs.validate.constraints.named_by_reuses.Goals as goal

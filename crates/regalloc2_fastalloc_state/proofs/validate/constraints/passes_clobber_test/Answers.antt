@@ -1,5 +1,5 @@
 use Rattle.std.proofs.Common.{ap, ◌∙◌, sym}
-use Rattle.regalloc2_names.specs.RegisterSet.{has_register}
+use Rattle.regalloc2_names.specs.Register.{has_register}
 use Rattle.regalloc2_fastalloc_state.proofs.validate.constraints.passes_clobber_test.Goals as goal
 
 pub returns-then-eq : goal.returns-then-eq

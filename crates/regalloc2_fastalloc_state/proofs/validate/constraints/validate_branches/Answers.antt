@@ -1,6 +1,6 @@
 use Rattle.std.proofs.Common.{◌<◌, length, refl, arith, below_more, sym, ◌∙◌}
 use Rattle.regalloc2_function.specs.FunctionValue.{FunctionValue, inst_at}
-use Rattle.regalloc2_fastalloc_state.specs.Validate.Constraints.{BranchDefinesInPlace}
+use Rattle.regalloc2_function.specs.WellFormed.{BranchDefinesInPlace}
 use Rattle.std.proofs.lemmas.Bool.{false≢true}
 use Rattle.regalloc2_fastalloc_state.proofs.validate.constraints.validate_branches.Goals as goal
 

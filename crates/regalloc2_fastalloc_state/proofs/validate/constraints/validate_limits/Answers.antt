@@ -1,7 +1,7 @@
 use Rattle.std.proofs.Common.{◌<◌, length, refl, arith, below_more, sym, ◌∙◌}
 use Rattle.regalloc2_function.specs.FunctionValue.{FunctionValue, inst_at}
 use Rattle.std.specs.Prelude.{All}
-use Rattle.regalloc2_fastalloc_state.specs.Validate.Constraints.{AreUnlimited}
+use Rattle.regalloc2_function.specs.WellFormed.{AreUnlimited}
 use Rattle.regalloc2_fastalloc_state.specs.Validate.NoLimits.{IsTakenOperand}
 use Rattle.std.proofs.lemmas.Bool.{false≢true}
 use Rattle.regalloc2_fastalloc_state.proofs.validate.constraints.validate_limits.Goals as goal

@@ -1,8 +1,7 @@
 use Rattle.std.proofs.Common.{◌≡◌, ◌<◌, subst, true}
 use Rattle.std.specs.Prelude.{Some, slice_index_or, ◌↔◌}
 use Rattle.std.proofs.lemmas.List.Elements.{Contains-get_or}
-use Rattle.regalloc2_names.specs.Register.{Register, VirtualRegister}
-use Rattle.regalloc2_names.specs.RegisterSet.{has_register}
+use Rattle.regalloc2_names.specs.Register.{Register, VirtualRegister, has_register}
 use Rattle.regalloc2_fastalloc_state.specs.StateParts.{VRegAllocsValue, vreg_of_preg}
 use Rattle.regalloc2_fastalloc_state.proofs.RegistersOfVRegs.{filled_are}
 use Rattle.regalloc2_fastalloc_state.proofs.vreg_allocs.VRegAllocs.filled.Goals as goal

@@ -3,7 +3,7 @@ use Rattle.std.proofs.lemmas.List.{length-take}
 use Rattle.std.proofs.lemmas.Result.{MatchResult-weaker}
 use Rattle.regalloc2_names.specs.Place.{Place, NoPlace}
 use Rattle.regalloc2_fastalloc_proofs.proofs.Walk.ListParts.{blank_part}
-use Rattle.regalloc2_semantics.proofs.Plain.{inside_part, below_part, above_part, length_part}
+use Rattle.regalloc2_carry.proofs.Plain.{inside_part, below_part, above_part, length_part}
 use Rattle.regalloc2_fastalloc_walk.proofs.state.State.alloc_inst_at.Goals as goal
 
 pub alloc_inst-requires : goal.alloc_inst-requires

@@ -1,7 +1,6 @@
 use Rattle.std.proofs.Common.{◌≡◌, List, [], append_assoc, refl, sym, ◌∙◌, subst, rules}
 use Rattle.regalloc2_names.specs.declared.sets.PRegSet.{PRegSet}
-use Rattle.regalloc2_names.specs.Register.{Register}
-use Rattle.regalloc2_names.specs.RegisterSet.{has_register, registers_of}
+use Rattle.regalloc2_names.specs.Register.{Register, has_register, registers_of}
 use Rattle.regalloc2_fastalloc_state.specs.StateParts.{vreg_of_preg}
 use Rattle.regalloc2_fastalloc_proofs.specs.InstSteps.{StateValue, EvictsEach, none_left}
 use Rattle.regalloc2_fastalloc_proofs.proofs.Evictions.PushedAndRemoved.{no_some}

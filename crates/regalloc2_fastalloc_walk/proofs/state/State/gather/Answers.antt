@@ -1,11 +1,11 @@
 use Rattle.std.proofs.Common.{ℕ, ◌≡◌, ◌+◌, ◌<◌, true, List, [], length, refl, sym, ap, ◌∙◌, subst, arith, rules, slice_index}
 use Rattle.std.proofs.lemmas.List.{get_or_read}
-use Rattle.regalloc2_names.specs.Point.{before}
+use Rattle.regalloc2_names.specs.Place.{before}
 use Rattle.regalloc2_names.specs.Register.{VirtualRegister}
 use Rattle.regalloc2_function.specs.FunctionValue.{FunctionValue, block_at, inst_at}
-use Rattle.regalloc2_function.specs.SourceRun.{arguments_at}
-use Rattle.regalloc2_function.specs.Following.{end_within}
-use Rattle.regalloc2_semantics.specs.Blocks.{target_at}
+use Rattle.regalloc2_semantics.specs.Runs.{arguments_at}
+use Rattle.regalloc2_function.proofs.Following.{end_within}
+use Rattle.regalloc2_semantics.specs.Live.{target_at}
 use Rattle.regalloc2_fastalloc_proofs.specs.BranchSteps.{GathersMoves, no_edge, one_edge, IsOwnDef, GatherEdge}
 use Rattle.regalloc2_fastalloc_proofs.specs.InstSteps.{StateValue, no_register}
 use Rattle.std.proofs.lemmas.Result.{err_from_is_err_and}

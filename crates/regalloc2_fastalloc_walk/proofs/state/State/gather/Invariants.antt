@@ -1,5 +1,5 @@
 use Rattle.std.proofs.Common.{◌≡◌, List, length}
-use Rattle.regalloc2_names.specs.Point.{before}
+use Rattle.regalloc2_names.specs.Place.{before}
 use Rattle.regalloc2_fastalloc_proofs.specs.BranchSteps.{AreOf, ClassMove, GathersMoves}
 use Rattle.regalloc2_fastalloc_proofs.specs.InstSteps.{SameMachine}
 use Rattle.regalloc2_fastalloc_walk.specs.StateView.{tables_of}

@@ -1,12 +1,11 @@
 use Rattle.std.proofs.Common.{ℕ, ◌≡◌, List, length, sym, ap, ◌∙◌, subst, rules, arith, slice_index}
 use Rattle.std.proofs.lemmas.Result.{err_from_is_err_and}
-use Rattle.regalloc2_names.specs.Register.{class_code}
-use Rattle.regalloc2_names.specs.RegisterSet.{registers_of}
-use Rattle.regalloc2_names.specs.Point.{after}
+use Rattle.regalloc2_names.specs.Register.{class_code, registers_of}
+use Rattle.regalloc2_names.specs.Place.{after}
 use Rattle.regalloc2_names.specs.Operand.{OperandValue}
 use Rattle.regalloc2_fastalloc_state.specs.StateParts.{AllAtOrAfter}
-use Rattle.regalloc2_fastalloc_proofs.specs.InstSteps.{StateValue, EvictsFixed, EvictsEach}
-use Rattle.regalloc2_fastalloc_proofs.specs.InstSteps.{no_register, EvictFixed, EvictEach, in_reserve, in_fixed, in_clobbers}
+use Rattle.regalloc2_fastalloc_proofs.specs.InstSteps.{StateValue, EvictsFixed, EvictsEach, no_register, EvictFixed, EvictEach, in_reserve, in_fixed}
+use Rattle.regalloc2_fastalloc_proofs.specs.InstSteps.{in_clobbers}
 use Rattle.regalloc2_fastalloc_proofs.proofs.Evictions.PushedAndRemoved.{same_then}
 use Rattle.regalloc2_fastalloc_proofs.proofs.Evictions.FixedUsed.{fails_from, evicts_fixed_from, same_used}
 use Rattle.regalloc2_fastalloc_walk.proofs.Steps.{fails_with, step_then_fails}

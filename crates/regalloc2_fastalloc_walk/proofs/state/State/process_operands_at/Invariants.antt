@@ -1,5 +1,5 @@
 use Rattle.std.proofs.Common.{◌≡◌, length}
-use Rattle.regalloc2_names.specs.Point.{after}
+use Rattle.regalloc2_names.specs.Place.{after}
 use Rattle.regalloc2_fastalloc_state.specs.StateParts.{AllAtOrAfter}
 use Rattle.regalloc2_fastalloc_proofs.specs.InstSteps.{SameMachine}
 use Rattle.regalloc2_fastalloc_walk.specs.StateView.{tables_of}

@@ -1,8 +1,7 @@
 use Rattle.std.proofs.Common.{ℕ, ◌≡◌, List, refl, sym, ap, ◌∙◌, subst, arith, false, slice_index_or}
 use Rattle.std.proofs.lemmas.Result.{err_from_is_err_and}
 use Rattle.regalloc2_names.specs.Register.{Register, VirtualRegister}
-use Rattle.regalloc2_names.specs.Place.{Place, NoPlace, InRegister, InSlot}
-use Rattle.regalloc2_names.specs.Point.{after}
+use Rattle.regalloc2_names.specs.Place.{Place, NoPlace, InRegister, InSlot, after}
 use Rattle.regalloc2_names.specs.Operand.{OperandValue}
 use Rattle.regalloc2_fastalloc_state.specs.Positions.{positions_of}
 use Rattle.regalloc2_fastalloc_state.specs.declared.positions.Positions.{Positions}

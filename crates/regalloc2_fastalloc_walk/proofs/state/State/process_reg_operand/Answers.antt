@@ -1,6 +1,5 @@
 use Rattle.std.proofs.Common.{ℕ, ◌≡◌, ◌<◌, List, length, sym, ap, ◌∙◌, subst, arith, rules, false}
-use Rattle.regalloc2_names.specs.Place.{NoPlace}
-use Rattle.regalloc2_names.specs.Point.{after}
+use Rattle.regalloc2_names.specs.Place.{NoPlace, after}
 use Rattle.regalloc2_names.specs.Operand.{OperandValue, is_def}
 use Rattle.regalloc2_names.specs.declared.OperandConstraint.TheVariants.{Reg}
 use Rattle.regalloc2_fastalloc_state.specs.StateParts.{AllAtOrAfter}

@@ -7,7 +7,7 @@ use Rattle.regalloc2_fastalloc_state.specs.StateParts.{alloc_of, SetsAlloc}
 use Rattle.regalloc2_fastalloc_proofs.specs.InstSteps.{StateValue, AddMoveIf, AddsMoveIf, no_register}
 use Rattle.regalloc2_fastalloc_walk.specs.StateView.{tables_of}
 use Rattle.regalloc2_fastalloc_proofs.specs.BlockStart.{nowhere, comes}
-use Rattle.regalloc2_semantics.proofs.Forms.{NoPlace-from_test, NoPlace-not_false}
+use Rattle.regalloc2_carry.proofs.Forms.{NoPlace-from_test, NoPlace-not_false}
 use Rattle.regalloc2_fastalloc_walk.proofs.state.State.reload_param.Goals as goal
 
 pub returns-then-is_none-clause-outcome : goal.returns-then-is_none-clause-outcome

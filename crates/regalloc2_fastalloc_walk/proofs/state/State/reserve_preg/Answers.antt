@@ -1,4 +1,4 @@
-use Rattle.regalloc2_names.specs.RegisterSet.{has_register}
+use Rattle.regalloc2_names.specs.Register.{has_register}
 use Rattle.std.proofs.Common.{sym, ◌∙◌, refl, ap, inl, inr}
 use Rattle.regalloc2_fastalloc_walk.specs.StateView.{tables_of}
 use Rattle.regalloc2_fastalloc_walk.proofs.RegsReserved.{shrinks_held, takes_held, reserved_held, known_of}

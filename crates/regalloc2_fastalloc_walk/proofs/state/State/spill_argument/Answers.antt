@@ -6,7 +6,7 @@ use Rattle.regalloc2_fastalloc_proofs.proofs.Evictions.PushedAndRemoved.{same_th
 use Rattle.regalloc2_fastalloc_state.proofs.SlotsAsPlaces.{slot_is_no_register}
 use Rattle.std.proofs.lemmas.Result.{err_from_is_err_and}
 use Rattle.regalloc2_fastalloc_walk.specs.StateView.{tables_of}
-use Rattle.regalloc2_semantics.proofs.Forms.{place_of_register}
+use Rattle.regalloc2_carry.proofs.Forms.{place_of_register}
 use Rattle.regalloc2_fastalloc_walk.proofs.Steps.{fails_with}
 use Rattle.regalloc2_fastalloc_walk.proofs.Clashes.{none_is_nothing, slots_are_no_registers}
 use Rattle.regalloc2_fastalloc_walk.proofs.state.State.spill_argument.Goals as goal

@@ -4,12 +4,12 @@ use Rattle.std.proofs.lemmas.List.Elements.{All-weaker}
 use Rattle.std.proofs.lemmas.Result.{err_from_is_err_and, MatchResult-weaker}
 use Rattle.regalloc2_index.specs.Range.{Span}
 use Rattle.regalloc2_names.specs.Operand.{OperandValue}
-use Rattle.regalloc2_names.specs.Point.{before}
+use Rattle.regalloc2_names.specs.Place.{before}
 use Rattle.regalloc2_names.specs.Register.{VirtualRegister}
 use Rattle.regalloc2_function.specs.FunctionValue.{FunctionValue, block_at, inst_at, op_at}
 use Rattle.regalloc2_function.specs.OutputValue.{MoveValue}
-use Rattle.regalloc2_function.specs.Following.{end_within}
-use Rattle.regalloc2_analysis.specs.BranchDefs.BranchDefs.{IsEdgeInto}
+use Rattle.regalloc2_function.proofs.Following.{end_within}
+use Rattle.regalloc2_semantics.specs.Live.{IsEdgeInto}
 use Rattle.regalloc2_analysis.proofs.BranchDefsLemmas.BlockEnds.{last_within}
 use Rattle.regalloc2_fastalloc_state.specs.StateParts.{AllAtOrAfter, NoneIsFrom, SpillSlotsValue}
 use Rattle.regalloc2_fastalloc_proofs.specs.BlockSteps.{DefinesBelow, MayBeAllocated}

@@ -1,7 +1,7 @@
 use Rattle.std.proofs.Common.{◌≡◌, ◌*◌, ◌-◌, ℕ, map, rules, of_calls, nat_lt, arith}
 use Rattle.std.proofs.lemmas.Fn.{always_returns_same}
 use Rattle.std.proofs.lemmas.List.Sorted.{IsPartitionedBy-ltb}
-use Rattle.regalloc2_names.specs.Point.{before}
+use Rattle.regalloc2_names.specs.Place.{before}
 use Rattle.regalloc2_function.specs.Views.{edit_of, output_of}
 use Rattle.regalloc2_function.proofs.ListingLaws.{sorted_items, listing_of_items, listed_within}
 use Rattle.regalloc2_function.proofs.listing.Output.block_insts_and_edits.Goals as goal

@@ -1,7 +1,6 @@
 use Rattle.std.proofs.Common.{◌≡◌, ◌&&◌, Bool, true, false, ◌∙◌, sym, ap}
 use Rattle.std.proofs.lemmas.Bool.{and_parts}
-use Rattle.regalloc2_names.specs.Register.{invalid_register}
-use Rattle.regalloc2_names.specs.RegisterSet.{has_register}
+use Rattle.regalloc2_names.specs.Register.{invalid_register, has_register}
 use Rattle.regalloc2_function.specs.Machine.{is_preferred, is_non_preferred}
 use Rattle.regalloc2_function.specs.Views.{machine_of}
 use Rattle.regalloc2_function.proofs.machine.MachineEnv.test_registers.Goals as goal

@@ -1,7 +1,6 @@
 use Rattle.std.proofs.Common.{◌≡◌, ap, rules, sym, tests, ◌∙◌}
 use Rattle.std.specs.Prelude.{Some}
-use Rattle.regalloc2_names.specs.Register.{Register}
-use Rattle.regalloc2_names.specs.RegisterSet.{has_register}
+use Rattle.regalloc2_names.specs.Register.{Register, has_register}
 use Rattle.regalloc2_function.proofs.Tests.{same_some}
 use Rattle.regalloc2_function.proofs.machine.MachineEnv.test_scratch.Goals as goal
 

@@ -1,5 +1,5 @@
 use Rattle.std.proofs.Common.{length, ◌<◌, rules}
-use Rattle.regalloc2_names.specs.RegisterSet.{has_register}
+use Rattle.regalloc2_names.specs.Register.{has_register}
 use Rattle.regalloc2_names.proofs.SetBits.{words_add}
 use Rattle.regalloc2_names.proofs.sets.PRegSet.add.Goals as goal
 

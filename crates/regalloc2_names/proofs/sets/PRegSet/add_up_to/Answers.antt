@@ -1,5 +1,5 @@
 use Rattle.std.proofs.Common.{◌<◌, arith}
-use Rattle.regalloc2_names.specs.RegisterSet.{has_register}
+use Rattle.regalloc2_names.specs.Register.{has_register}
 use Rattle.regalloc2_names.proofs.SetBits.{words_up_int, words_up_float, words_up_vector}
 use Rattle.regalloc2_names.proofs.sets.PRegSet.add_up_to.Goals as goal
 use Rattle.regalloc2_names.proofs.sets.PRegSet.add_up_to.Goals.{in-Int, in-Float, in-Vector}

@@ -1,4 +1,4 @@
-use Rattle.regalloc2_names.specs.RegisterSet.{has_register}
+use Rattle.regalloc2_names.specs.Register.{has_register}
 use Rattle.regalloc2_names.proofs.SetBits.{words_meet}
 use Rattle.regalloc2_names.proofs.sets.PRegSet.intersect_from.Goals as goal
 

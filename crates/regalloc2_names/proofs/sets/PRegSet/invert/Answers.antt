@@ -1,6 +1,6 @@
 use Rattle.std.proofs.Common.{ℕ, ◌<◌, ◌^◌, rules}
 use Rattle.std.specs.Prelude.{slice_index}
-use Rattle.regalloc2_names.specs.RegisterSet.{has_register}
+use Rattle.regalloc2_names.specs.Register.{has_register}
 use Rattle.regalloc2_names.proofs.SetBits.{words_invert}
 use Rattle.regalloc2_names.proofs.sets.PRegSet.invert.Goals as goal
 

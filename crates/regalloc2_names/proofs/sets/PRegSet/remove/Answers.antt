@@ -1,5 +1,5 @@
 use Rattle.std.proofs.Common.{length, ◌<◌, rules, slice_index_or}
-use Rattle.regalloc2_names.specs.RegisterSet.{has_register}
+use Rattle.regalloc2_names.specs.Register.{has_register}
 use Rattle.regalloc2_names.proofs.SetBits.{words_remove}
 use Rattle.regalloc2_names.proofs.sets.PRegSet.remove.Goals as goal
 

@@ -1,6 +1,6 @@
 use Rattle.std.proofs.Common.{◌≡◌, ◌++◌}
 use Rattle.std.specs.Fmt.{HasWritten, IsPlainFormatter}
-use Rattle.regalloc2_names.specs.RegisterSet.{registers_of}
+use Rattle.regalloc2_names.specs.Register.{registers_of}
 use Rattle.regalloc2_names.specs.Text.{members_text}
 use Rattle.regalloc2_names.proofs.texts.PRegSetDisplay.fmt.Given as goal
 

@@ -1,8 +1,7 @@
 use borrow.Author.Count.{falls}
 use Rattle.std.proofs.Common.{◌≡◌, ◌<◌, length, sym, ap, ◌∙◌, below_more, arith}
 use Rattle.std.specs.Prelude.{◌||◌}
-use Rattle.regalloc2_names.specs.Register.{Register, is_register}
-use Rattle.regalloc2_names.specs.RegisterSet.{has_register}
+use Rattle.regalloc2_names.specs.Register.{Register, is_register, has_register}
 use Rattle.regalloc2_parts.specs.Callmoves.Frame.{free_at}
 use Rattle.regalloc2_parts.proofs.CallmovesLemmas.CallPlaces.{read_free, taken_more, taken_not}
 use Rattle.regalloc2_parts.proofs.callmoves.fault.find_taken.Goals as goal

@@ -1,7 +1,7 @@
 use Rattle.std.proofs.Common.{ap, ◌∙◌}
 use Rattle.std.specs.Prelude.{◌||◌}
 use Rattle.regalloc2_names.specs.Place.{Place, InRegister, is_place}
-use Rattle.regalloc2_names.specs.RegisterSet.{has_register}
+use Rattle.regalloc2_names.specs.Register.{has_register}
 use Rattle.regalloc2_parts.proofs.CallmovesLemmas.CallPlaces.{named_more}
 use Rattle.regalloc2_parts.proofs.callmoves.fault.named_registers.Goals as goal
 

@@ -2,8 +2,7 @@ use Rattle.std.proofs.Common.{◌∙◌, reverse, rules, sym}
 use Rattle.std.proofs.lemmas.Iterator.Adapters.{option_map_id}
 use Rattle.std.proofs.lemmas.Iterator.Consumers.{YieldsList-from_first}
 use Rattle.std.proofs.lemmas.Iterator.Search.{find_from_yields_List}
-use Rattle.regalloc2_names.specs.Register.{Register}
-use Rattle.regalloc2_names.specs.RegisterSet.{has_register}
+use Rattle.regalloc2_names.specs.Register.{Register, has_register}
 use Rattle.regalloc2_parts.proofs.OldestFirst.{if_found, if_none, if_passes}
 use Rattle.regalloc2_parts.proofs.lru.Lru.last.Goals as goal
 

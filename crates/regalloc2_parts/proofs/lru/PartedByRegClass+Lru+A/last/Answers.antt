@@ -1,8 +1,7 @@
 use Rattle.std.proofs.Common.{◌≡◌, ◌∙◌, ap, subst, arith, List, Contains, IfSome, IfNone, All, false}
 use Rattle.std.specs.Prelude.{find, reverse}
 use Rattle.std.specs.List.{IsDistinct}
-use Rattle.regalloc2_names.specs.Register.{Register, is_register}
-use Rattle.regalloc2_names.specs.RegisterSet.{has_register}
+use Rattle.regalloc2_names.specs.Register.{Register, is_register, has_register}
 use Rattle.regalloc2_parts.proofs.ByClass.{tag-lt, tag-le, tag-within, read_ring}
 use Rattle.regalloc2_parts.proofs.lru.PartedByRegClass+Lru+A.last.Goals as goal
 

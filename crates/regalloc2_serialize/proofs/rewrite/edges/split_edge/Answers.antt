@@ -2,7 +2,7 @@ use Rattle.std.proofs.Common.{arith, ◌≡◌, ◌∙◌, ◌<◌, ◌++◌, �
 use Rattle.std.specs.Prelude.{slice_index}
 use Rattle.std.proofs.lemmas.List.{get_or_default, length-map, map-append}
 use Rattle.regalloc2_function.specs.FunctionValue.{FunctionValue, block_at}
-use Rattle.regalloc2_function.specs.SourceRun.{arguments_at}
+use Rattle.regalloc2_semantics.specs.Runs.{arguments_at}
 use Rattle.regalloc2_serialize.specs.TableFunction.Draft.{DraftValue, draft_of}
 use Rattle.regalloc2_serialize.specs.Rewrite.SplitEdges.{is_critical, jump_on}
 use Rattle.regalloc2_serialize.proofs.RewriteLemmas.EdgeLists.{edge}

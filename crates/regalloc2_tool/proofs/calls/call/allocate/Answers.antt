@@ -1,5 +1,5 @@
 use Rattle.std.proofs.Common.{refl}
-use Rattle.regalloc2_function.specs.Following.{end_within}
+use Rattle.regalloc2_function.proofs.Following.{end_within}
 use Rattle.regalloc2_function.specs.Views.{output_of}
 use Rattle.regalloc2_tool.proofs.Accepting.{accepted_more}
 use Rattle.regalloc2_tool.proofs.calls.call.allocate.Goals as goal

@@ -1,5 +1,5 @@
 use Rattle.std.proofs.Common.{rules}
-use Rattle.regalloc2_function.specs.Following.{end_within}
+use Rattle.regalloc2_function.proofs.Following.{end_within}
 use Rattle.regalloc2_function.specs.Views.{output_of}
 use Rattle.regalloc2_tool.specs.Ra2.Outcome.{refused}
 use Rattle.regalloc2_tool.proofs.Ra2Lemmas.Outcomes.{check_outcome}

@@ -1,5 +1,5 @@
 use Rattle.std.proofs.Common.{refl}
-use Rattle.regalloc2_function.specs.Following.{end_within}
+use Rattle.regalloc2_function.proofs.Following.{end_within}
 use Rattle.regalloc2_tests.proofs.units.parts.refused.copied.Goals as goal
 
 pub new-requires-2 : goal.new-requires-2

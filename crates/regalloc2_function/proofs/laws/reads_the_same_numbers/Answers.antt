@@ -1,5 +1,0 @@
-use Rattle.regalloc2_function.proofs.ValueLaws.{same_numbers}
-use Rattle.regalloc2_function.proofs.laws.reads_the_same_numbers.Goals as goal
-
-pub returns : goal.returns
-returns c = same_numbers

@@ -1,0 +1,80 @@
+-- Held values, and faithful outputs: on every path each use reads what the function's own run reads.
+-- Constraints are as in upstream's `OperandConstraint`. Its checker tests that reads agree, and keeps a set of vregs for each place; here
+-- both are defined along paths.
+use Rattle.std.specs.Prelude.{◌≡◌, List, length, Option, IsSome, ℕ, ◌<◌, ◌≤◌, true, All, slice_index_or}
+use Rattle.regalloc2_names.specs.declared.OperandPos.{OperandPos}
+use Rattle.regalloc2_names.specs.declared.OperandConstraint.{OperandConstraint}
+use Rattle.regalloc2_names.specs.declared.OperandConstraint.TheVariants.{Any, Reg, Stack, FixedReg, Reuse, Limit}
+use Rattle.regalloc2_names.specs.Place.{Place, NoPlace, InRegister, InSlot}
+use Rattle.regalloc2_names.specs.Register.{VirtualRegister}
+use Rattle.regalloc2_names.specs.Operand.{OperandValue, is_reading}
+use Rattle.regalloc2_function.specs.FunctionValue.{FunctionValue, block_at, inst_at}
+use Rattle.regalloc2_function.specs.OutputValue.{OutputValue, MoveValue, allocs_of, place_at, is_listed_at}
+use Rattle.regalloc2_function.specs.Machine.{MachineValue, IsStackPlace, IsPlainRegister}
+use Rattle.regalloc2_semantics.specs.Runs.{Way, Location, IsPath, end_of, Stamp, read_of, source_before, source_after, Cells, cells_early, cells_late}
+use Rattle.regalloc2_semantics.specs.Runs.{cells_before, last_inst, source_read, allocated_read, moves_at}
+
+-- what a place holds at the position at which the early or the late uses of a path's last step are read
+abbrev pub cell_at : FunctionValue → OutputValue → List Way → OperandPos → Place → Option Stamp
+cell_at f o ws position p =
+    let early : Cells = cells_early f o (end_of f ws) (cells_before f o ws) in
+    read_of position (early p) (cells_late f o (end_of f ws) (length ws) early p)
+
+-- on every path that reaches the position, the place holds the write that the vreg has
+abbrev pub Holds : FunctionValue → OutputValue → Location → OperandPos → Place → VirtualRegister → Type 0
+Holds f o l position p v = (ws : List Way) → IsPath f ws → end_of f ws ≡ l →
+    IsSome (cell_at f o ws position p) × (cell_at f o ws position p ≡ read_of position (source_before f ws v) (source_after f ws v))
+
+-- at the last step of a path each reading use finds in its place the write that its vreg has, and there is one
+abbrev pub ReadsAgree : FunctionValue → OutputValue → List Way → Type 0
+ReadsAgree f out ws = (k : ℕ) (d : OperandValue) → k < length (last_inst f ws).operands →
+    let o : OperandValue = slice_index_or (last_inst f ws).operands k d in
+    is_reading o ≡ true → IsSome (source_read f ws o) × (allocated_read f out ws k o ≡ source_read f ws o)
+
+-- a register below a bound
+abbrev pub IsNumberedBelow : Place → ℕ → Type 0
+IsNumberedBelow NoPlace n = ⊥
+IsNumberedBelow (InRegister r) n = r.number < n
+IsNumberedBelow (InSlot m) n = ⊥
+
+-- the place of an operand meets its constraint; `places` are the places of the instruction's `count` operands
+abbrev pub Meets : MachineValue → ℕ → List Place → OperandConstraint → Place → Type 0
+Meets env count places Any p = p ≡ NoPlace → ⊥
+Meets env count places Reg p = IsPlainRegister env p
+Meets env count places Stack p = IsStackPlace env p
+Meets env count places (FixedReg r) p = p ≡ InRegister r
+Meets env count places (Reuse n) p = IsRegister p × (n < count) × (p ≡ place_at places n)
+  where
+    IsRegister : Place → Type 0
+    IsRegister NoPlace = ⊥
+    IsRegister (InRegister r) = Unit {0}
+    IsRegister (InSlot m) = ⊥
+Meets env count places (Limit n) p = IsPlainRegister env p × IsNumberedBelow p n
+
+-- the place of every operand of an instruction meets the operand's constraint
+abbrev pub ConstraintsMet : FunctionValue → MachineValue → OutputValue → ℕ → Type 0
+ConstraintsMet f env out i = (k : ℕ) (d : OperandValue) → k < length (inst_at f i).operands →
+    Meets env (length (inst_at f i).operands) (allocs_of out i) (slice_index_or (inst_at f i).operands k d).constraint (place_at (allocs_of out i) k)
+
+-- a move between two stack places
+abbrev pub IsStackToStack : MachineValue → MoveValue → Type 0
+IsStackToStack env m = IsStackPlace env m.from × IsStackPlace env m.to
+
+-- the last step of a path is faithful
+pub record StepIsFaithful (f : FunctionValue) (env : MachineValue) (out : OutputValue) (ws : List Way) : Type 0 where
+  pub reads : ReadsAgree f out ws
+  pub constraints : ConstraintsMet f env out (end_of f ws).inst
+  pub moves : All (λ m. IsStackToStack env m → ⊥) (moves_at f out (end_of f ws))
+
+-- every step of every path is faithful
+abbrev pub IsFaithful : FunctionValue → MachineValue → OutputValue → Type 0
+IsFaithful f env out = (ws : List Way) → IsPath f ws → StepIsFaithful f env out ws
+
+-- no move at all goes from a stack place to another, on a path or not
+abbrev pub HasNoStackToStack : MachineValue → OutputValue → Type 0
+HasNoStackToStack env out = All (λ e. IsStackToStack env e.1 → ⊥) out.edits
+
+-- each edit is listed before or after an instruction of a block, and none after a block's last one
+abbrev pub EditsAreListed : FunctionValue → OutputValue → Type 0
+EditsAreListed f out = All (λ e. (b i : ℕ) × (b < length f.blocks) × ((block_at f b).range.first ≤ i) × (i < (block_at f b).range.end)
+    × (is_listed_at (block_at f b).range.first i e.0 ≡ true)) out.edits

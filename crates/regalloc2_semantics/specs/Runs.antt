@@ -1,0 +1,179 @@
+-- Paths through a function, and the two runs along them: who wrote each vreg last, and who wrote each place last.
+-- Blocks and successors are as in upstream's trait `Function`; paths, and the names of writes, are this project's own. Operands are read and
+-- written as upstream's `OperandKind` and `OperandPos` say, parameters take arguments as its `Function::branch_blockparams` says, and moves run
+-- where its `OutputIter` lists them. That a move copies absence, and that early definitions empty their places before early uses are read, is
+-- this project's own choice.
+use Rattle.std.specs.Prelude.{ℕ, ◌≡◌, ◌+◌, ◌<◌, List, [], ◌∷◌, length, slice_index, true, if◌then◌else◌, slice_index_or, Option, None, Some, IsSome, ◌&&◌}
+use Rattle.std.specs.Prelude.{not}
+use Rattle.regalloc2_names.specs.declared.OperandPos.{OperandPos}
+use Rattle.regalloc2_names.specs.declared.OperandPos.TheVariants.{Early, Late}
+use Rattle.regalloc2_names.specs.declared.sets.PRegSet.{PRegSet}
+use Rattle.regalloc2_names.specs.Register.{VirtualRegister, is_vreg, has_register}
+use Rattle.regalloc2_names.specs.Operand.{OperandValue, is_def, is_reading, is_late}
+use Rattle.regalloc2_names.specs.Place.{Place, NoPlace, InRegister, InSlot, is_place}
+use Rattle.regalloc2_function.specs.FunctionValue.{FunctionValue, block_at, inst_at, InstValue}
+use Rattle.regalloc2_function.specs.OutputValue.{OutputValue, MoveValue, allocs_of, place_at, moves_before}
+
+-- how a path goes on: to the next instruction of the block, or by the edge to the successor at a position
+pub data Way : Type 0 where
+  Onward : Way
+  ToSuccessor : ℕ → Way
+
+-- an instruction, with its block
+pub record Location : Type 0 where
+  pub block : ℕ
+  pub inst : ℕ
+
+-- the first instruction of a block
+abbrev pub first_of : FunctionValue → ℕ → Location
+first_of f b = record { block = b; inst = (block_at f b).range.first }
+
+-- one step further
+abbrev pub next_of : FunctionValue → Location → Way → Location
+next_of f l Onward = record { block = l.block; inst = l.inst + 1 }
+next_of f l (ToSuccessor k) = first_of f (slice_index (block_at f l.block).succs k)
+
+-- A path is the list of the edges and fall-throughs (`Way`) from the entry, the last one first. Its last location:
+abbrev pub end_of : FunctionValue → List Way → Location
+end_of f [] = first_of f f.entry
+end_of f (w ∷ ws) = next_of f (end_of f ws) w
+
+-- the function has the edge or fall-through
+abbrev pub HasWay : FunctionValue → Location → Way → Type 0
+HasWay f l Onward = l.inst + 1 < (block_at f l.block).range.end
+HasWay f l (ToSuccessor k) = (l.inst + 1 ≡ (block_at f l.block).range.end) × (k < length (block_at f l.block).succs)
+
+-- the list is a path of the function
+abbrev pub IsPath : FunctionValue → List Way → Type 0
+IsPath f [] = Unit {0}
+IsPath f (w ∷ ws) = IsPath f ws × HasWay f (end_of f ws) w
+
+-- the instruction of the last location of a path; its step is the length of the list
+abbrev pub last_inst : FunctionValue → List Way → InstValue
+last_inst f ws = inst_at f (end_of f ws).inst
+
+-- a path reaches a location
+abbrev pub IsReached : FunctionValue → Location → Type 0
+IsReached f l = (ws : List Way) × IsPath f ws × (end_of f ws ≡ l)
+
+-- the name of one write: the step at which it was made, and the index of the operand that made it
+pub record Stamp : Type 0 where
+  pub step : ℕ
+  pub operand : ℕ
+
+-- who wrote each vreg last, if anyone
+abbrev pub Source : Type 0
+Source = VirtualRegister → Option Stamp
+
+-- the map with one vreg changed
+abbrev pub assigned : Source → VirtualRegister → Option Stamp → Source
+assigned m v s q = if is_vreg v q then s else m q
+
+-- the map after a step's definitions, in operand order from index k on
+unfoldable pub after_defs : ℕ → ℕ → List OperandValue → Source → Source
+after_defs step k [] m = m
+after_defs step k (o ∷ os) m = after_defs step (k + 1) os (if is_def o.kind then assigned m o.vreg (Some (record { step = step; operand = k })) else m)
+
+-- The parameters take what the arguments had before, all at once. Where a parameter is listed twice, the last listing counts.
+unfoldable pub passed : List VirtualRegister → List VirtualRegister → Source → Source → Source
+passed [] arguments before after = after
+passed (p ∷ ps) [] before after = after
+passed (p ∷ ps) (a ∷ rest) before after = passed ps rest before (assigned after p (before a))
+
+-- the arguments for the successor at a position
+abbrev pub arguments_at : FunctionValue → ℕ → ℕ → List VirtualRegister
+arguments_at f b k = slice_index_or (block_at f b).arguments k []
+
+-- the map after an edge or fall-through
+unfoldable pub over_edge : FunctionValue → Location → Way → Source → Source
+over_edge f l Onward m = m
+over_edge f l (ToSuccessor k) m = passed (block_at f (slice_index (block_at f l.block).succs k)).params (arguments_at f l.block k) m m
+
+-- who wrote what before the last step of a path reads
+unfoldable pub source_before : FunctionValue → List Way → Source
+source_before f [] = λ v. None
+source_before f (w ∷ ws) = over_edge f (end_of f ws) w (after_defs (length ws) 0 (last_inst f ws).operands (source_before f ws))
+
+-- the vregs after the definitions of the last instruction of a path
+abbrev pub source_after : FunctionValue → List Way → Source
+source_after f ws = after_defs (length ws) 0 (last_inst f ws).operands (source_before f ws)
+
+-- what the operand reads of the two maps, before and after the definitions
+abbrev pub read_of : OperandPos → Option Stamp → Option Stamp → Option Stamp
+read_of Early before after = before
+read_of Late before after = after
+
+abbrev pub source_read : FunctionValue → List Way → OperandValue → Option Stamp
+source_read f ws o = read_of o.position (source_before f ws o.vreg) (source_after f ws o.vreg)
+
+-- every use of the last step finds a write
+abbrev pub UsesWritten : FunctionValue → List Way → Type 0
+UsesWritten f ws = (k : ℕ) (d : OperandValue) → k < length (last_inst f ws).operands →
+    let o : OperandValue = slice_index_or (last_inst f ws).operands k d in
+    is_reading o ≡ true → IsSome (source_read f ws o)
+
+-- every argument that is passed on an edge was written
+abbrev pub ArgumentsWritten : FunctionValue → List Way → Type 0
+ArgumentsWritten f ws = (k j : ℕ) (d : VirtualRegister) → HasWay f (end_of f ws) (ToSuccessor k) → j < length (arguments_at f (end_of f ws).block k) →
+    IsSome (source_after f ws (slice_index_or (arguments_at f (end_of f ws).block k) j d))
+
+-- each vreg is definitely assigned: no path reads or passes it before writing it
+abbrev pub IsWrittenFirst : FunctionValue → Type 0
+IsWrittenFirst f = (ws : List Way) → IsPath f ws → UsesWritten f ws × ArgumentsWritten f ws
+
+-- who wrote each place last, if anyone
+abbrev pub Cells : Type 0
+Cells = Place → Option Stamp
+
+-- the cells with one place changed; a missing place is never written
+unfoldable pub stored : Cells → Place → Option Stamp → Cells
+stored c NoPlace s = c
+stored c (InRegister r) s = λ q. if is_place (InRegister r) q then s else c q
+stored c (InSlot n) s = λ q. if is_place (InSlot n) q then s else c q
+
+-- a move copies, and empties its destination where its source holds nothing
+unfoldable pub after_moves : List MoveValue → Cells → Cells
+after_moves [] c = c
+after_moves (m ∷ ms) c = after_moves ms (stored c m.to (c m.from))
+
+-- the places of early definitions are emptied
+unfoldable pub after_early_defs : List Place → ℕ → List OperandValue → Cells → Cells
+after_early_defs places k [] c = c
+after_early_defs places k (o ∷ os) c = after_early_defs places (k + 1) os
+    (if is_def o.kind && not (is_late o.position) then stored c (place_at places k) None else c)
+
+-- the definitions are written, in operand order
+unfoldable pub after_writes : List Place → ℕ → ℕ → List OperandValue → Cells → Cells
+after_writes places step k [] c = c
+after_writes places step k (o ∷ os) c =
+    after_writes places step (k + 1) os (if is_def o.kind then stored c (place_at places k) (Some (record { step = step; operand = k })) else c)
+
+-- the clobbered registers are emptied
+unfoldable pub after_clobbers : PRegSet → Cells → Cells
+after_clobbers clobbers c NoPlace = c NoPlace
+after_clobbers clobbers c (InRegister r) = if has_register clobbers r then None else c (InRegister r)
+after_clobbers clobbers c (InSlot n) = c (InSlot n)
+
+-- the moves that run before the last step of a path
+abbrev pub moves_at : FunctionValue → OutputValue → Location → List MoveValue
+moves_at f o l = moves_before o (block_at f l.block).range.first l.inst
+
+-- the cells that the early uses of an instruction read, from the cells before its moves
+abbrev pub cells_early : FunctionValue → OutputValue → Location → Cells → Cells
+cells_early f o l c = after_early_defs (allocs_of o l.inst) 0 (inst_at f l.inst).operands (after_moves (moves_at f o l) c)
+
+-- the cells that the late uses of an instruction read, from the cells that its early uses read
+abbrev pub cells_late : FunctionValue → OutputValue → Location → ℕ → Cells → Cells
+cells_late f o l step c = after_clobbers (inst_at f l.inst).clobbers (after_writes (allocs_of o l.inst) step 0 (inst_at f l.inst).operands c)
+
+-- the cells before the moves of the last step of a path; an edge changes nothing
+unfoldable pub cells_before : FunctionValue → OutputValue → List Way → Cells
+cells_before f o [] = λ p. None
+cells_before f o (w ∷ ws) = cells_late f o (end_of f ws) (length ws) (cells_early f o (end_of f ws) (cells_before f o ws))
+
+-- what the operand of an index reads at the last step of a path
+abbrev pub allocated_read : FunctionValue → OutputValue → List Way → ℕ → OperandValue → Option Stamp
+allocated_read f o ws k op =
+    let early : Cells = cells_early f o (end_of f ws) (cells_before f o ws) in
+    let place : Place = place_at (allocs_of o (end_of f ws).inst) k in
+    read_of op.position (early place) (cells_late f o (end_of f ws) (length ws) early place)
