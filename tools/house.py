@@ -16,28 +16,28 @@ FLOORS = [
     [("Names and functions", [
         ("regalloc2_index", "instructions, blocks"),
         ("regalloc2_names", "vregs, operands, places"),
-        ("regalloc2_function", "Function, Output, specs")]),
+        ("regalloc2_function", "Function, Output, tests")]),
      ("Moves", [
          ("regalloc2_parts", "lists, parallel moves")])],
-    [("Stored forms", [
-        ("regalloc2_serialize", "numbers, JSON, words"),
-        ("regalloc2_text", "texts, causes of errors")]),
-     ("Analysis", [
-         ("regalloc2_semantics", "what the theorem speaks of"),
-         ("regalloc2_carry", "from blocks to paths"),
-         ("regalloc2_analysis", "liveness, ranges, branches")])],
-    [("Checker", [
-        ("regalloc2_checker_sets", "sets, saved copies"),
-        ("regalloc2_checker", "Checker, test_cells")])],
+    [("Analysis", [
+        ("regalloc2_semantics", "the theorem's terms"),
+        ("regalloc2_carry", "from blocks to paths"),
+        ("regalloc2_analysis", "liveness, debug ranges")]),
+     ("Stored forms", [
+         ("regalloc2_serialize", "numbers, JSON, words"),
+         ("regalloc2_text", "texts, causes of errors")])],
     [("Allocator", [
         ("regalloc2_fastalloc_state", "tests, tables of the walk"),
         ("regalloc2_fastalloc_proofs", "steps as relations"),
         ("regalloc2_fastalloc_walk", "the walk"),
         ("regalloc2_fastalloc", "run, the output")])],
+    [("Checker", [
+        ("regalloc2_checker_sets", "sets, saved copies"),
+        ("regalloc2_checker", "Checker, test_cells")])],
     [("Front", [("regalloc2", "allocate, run_tested, run_checked, and all items under upstream's paths")])],
     [("Tools", [
         ("command_line", "tables of arguments"),
-        ("regalloc2_tool", "listings, pictures, subcommands")]),
+        ("regalloc2_tool", "listings, subcommands")]),
      ("C library", [
          ("regalloc2_c", "calls, statuses, words")])],
     [("Programs", [
@@ -142,7 +142,7 @@ def rooms_drawn():
 
 
 def way_drawn(at):
-    """The data's way: into the front, down to the tests, along the floor, up from the checker, and out."""
+    """The data's way: into the front, down to the tests, along their floor, up to the checker and the front, and out."""
     (fx, fy, fw), drawn = at["regalloc2"], []
     middle = fy + HIGH / 2
     drawn.append(arrow([(6, middle), (fx - 2, middle)]))
@@ -154,10 +154,14 @@ def way_drawn(at):
     (x, y), (_, words) = centres[0], WAY[0]
     drawn.append(arrow([(x + 26, fy + HIGH), (x + 26, y - 2)]))
     drawn.append(text(x + 33, fy + HIGH + 17, words, 10.5, "start"))
-    for (start, y), (end, _), (_, words) in zip(centres, centres[1:], WAY[1:]):
-        low = y + HIGH + 16
-        drawn.append(arrow([(start + 18, y + HIGH), (start + 18, low), (end - 18, low), (end - 18, y + HIGH + 2)]))
-        drawn.append(text((start + end) / 2, low + 13, words, 10.5))
+    for (start, y), (end, above), (_, words) in zip(centres, centres[1:], WAY[1:]):
+        if above == y:
+            low = y + HIGH + 16
+            drawn.append(arrow([(start + 18, y + HIGH), (start + 18, low), (end - 18, low), (end - 18, y + HIGH + 2)]))
+            drawn.append(text((start + end) / 2, low + 13, words, 10.5))
+        else:
+            drawn.append(arrow([(start, y), (start, above + HIGH / 2), (end + ROOM / 2 + 2, above + HIGH / 2)]))
+            drawn.append(text(start + 7, above + HIGH + 17, words, 10.5, "start"))
     x, y = centres[-1]
     drawn.append(arrow([(x + 26, y), (x + 26, fy + HIGH + 2)]))
     drawn.append(text(x + 19, fy + HIGH + 17, "faithful output", 10.5, "end"))
