@@ -155,15 +155,15 @@ static int wrong_allocations(void) {
     return differs("the function", fine, RA2_OK, fine.needed, NULL)
         + differs("without the checker", made(regalloc2_c_run, SAME, LEN, ROOM), RA2_OK, fine.needed, fine.words)
         + differs("a float register for integers", made(regalloc2_c_allocate, AT(RA2_PREFERRED, 2), 1, LEN, ROOM), RA2_BAD_MACHINE,
-                  WORDS(2, 0, 64))
+                  WORDS(RA2_MISFIT_OTHER_CLASS, 0, 64))
         + differs("no room", made(regalloc2_c_allocate, SAME, LEN, 0), RA2_NO_ROOM, fine.needed, NULL)
         + differs("a word too little room", made(regalloc2_c_allocate, SAME, LEN, fine.needed - 1), RA2_NO_ROOM, fine.needed, NULL)
         + differs("just enough room", made(regalloc2_c_allocate, SAME, LEN, fine.needed), RA2_OK, fine.needed, fine.words)
         + differs("no room for an error", made(regalloc2_c_allocate, RA2_AT_ENTRY, 1, LEN, 3), RA2_NO_ROOM, 4, NULL)
-        + differs("another entry", made(regalloc2_c_allocate, RA2_AT_ENTRY, 1, LEN, ROOM), RA2_REFUSED + 3, WORDS(1, RA2_NONE, RA2_NONE, RA2_NONE))
+        + differs("another entry", made(regalloc2_c_allocate, RA2_AT_ENTRY, 1, LEN, ROOM), RA2_BAD_BLOCK, WORDS(1, RA2_NONE, RA2_NONE, RA2_NONE))
         + differs("a path that reads first", of_forked(regalloc2_c_run), RA2_READ_BEFORE_WRITTEN, 0, NULL)
         + differs("the same with the checker", of_forked(regalloc2_c_allocate), RA2_FAULTS,
-                  WORDS(1, 2, 3, 0, LOW(USE), HIGH(USE), ra2_in_register(1), 0, 0, 0))
+                  WORDS(1, RA2_FAULT_NO_VALUE, 3, 0, LOW(USE), HIGH(USE), ra2_in_register(1), 0, 0, 0))
         + differs("the text", text(GOOD), RA2_OK, fine.needed, NULL)
         + differs("a line of the text", text("regs p0i..p1i\nblock0:\n  op: Dof: v0i reg\n"), RA2_BAD_TEXT, WORDS(3, 7))
         + differs("bytes that aren't UTF-8", text("regs \xff"), RA2_UNREADABLE, 0, NULL)
@@ -183,18 +183,18 @@ static int wrong_words(void) {
         {"other flags", RA2_AT_FLAGS, 4, RA2_UNREADABLE},
         {"four sizes", RA2_AT_SIZES, 1 << 24, RA2_UNREADABLE},
         {"too many operands", RA2_AT_OPERANDS, none, RA2_UNREADABLE},
-        {"ends that fall", AT(RA2_OPERAND_ENDS, 0), 2, RA2_BAD_FUNCTION + 1},
-        {"an operand left over", AT(RA2_OPERAND_ENDS, 2), 1, RA2_BAD_FUNCTION + 1},
-        {"an argument left over", AT(RA2_ARGUMENT_ENDS, 0), 0, RA2_BAD_FUNCTION + 1},
-        {"no entry", RA2_AT_ENTRY, 2, RA2_BAD_FUNCTION + 2},
-        {"no predecessor", AT(RA2_PREDS, 0), 2, RA2_BAD_FUNCTION + 2},
-        {"no set", AT(RA2_KINDS, 0), ra2_kind(1, RA2_OP), RA2_BAD_FUNCTION + 2},
-        {"no kind", AT(RA2_KINDS, 0), 3, RA2_BAD_FUNCTION + 3},
-        {"no operand", AT(RA2_OPERANDS, 0), none, RA2_BAD_FUNCTION + 3},
-        {"no parameter", AT(RA2_PARAMS, 0), none, RA2_BAD_FUNCTION + 3},
-        {"no scratch register", AT(RA2_SCRATCH, 0), 193, RA2_BAD_FUNCTION + 3},
-        {"a slot too large", RA2_AT_SIZES, ra2_sizes(25, 0, 0), RA2_BAD_FUNCTION + 4},
-        {"too many vregs", RA2_AT_VREGS, 1 << 30, RA2_BAD_FUNCTION + 4},
+        {"ends that fall", AT(RA2_OPERAND_ENDS, 0), 2, RA2_BAD_FUNCTION_LENGTHS},
+        {"an operand left over", AT(RA2_OPERAND_ENDS, 2), 1, RA2_BAD_FUNCTION_LENGTHS},
+        {"an argument left over", AT(RA2_ARGUMENT_ENDS, 0), 0, RA2_BAD_FUNCTION_LENGTHS},
+        {"no entry", RA2_AT_ENTRY, 2, RA2_BAD_FUNCTION_INDEX},
+        {"no predecessor", AT(RA2_PREDS, 0), 2, RA2_BAD_FUNCTION_INDEX},
+        {"no set", AT(RA2_KINDS, 0), ra2_kind(1, RA2_OP), RA2_BAD_FUNCTION_INDEX},
+        {"no kind", AT(RA2_KINDS, 0), 3, RA2_BAD_FUNCTION_BITS},
+        {"no operand", AT(RA2_OPERANDS, 0), none, RA2_BAD_FUNCTION_BITS},
+        {"no parameter", AT(RA2_PARAMS, 0), none, RA2_BAD_FUNCTION_BITS},
+        {"no scratch register", AT(RA2_SCRATCH, 0), 193, RA2_BAD_FUNCTION_BITS},
+        {"a slot too large", RA2_AT_SIZES, ra2_sizes(25, 0, 0), RA2_BAD_FUNCTION_LIMIT},
+        {"too many vregs", RA2_AT_VREGS, 1 << 30, RA2_BAD_FUNCTION_LIMIT},
     };
     int wrong = differs("no words", made(regalloc2_c_allocate, SAME, 0, ROOM), RA2_UNREADABLE, 0, NULL)
         + differs("a word less", made(regalloc2_c_allocate, SAME, LEN - 1, ROOM), RA2_UNREADABLE, 0, NULL)
@@ -218,33 +218,33 @@ static int wrong_nulls(void) {
     s.status = regalloc2_c_run(NULL, 0, NULL, 0, &s.needed), wrong += differs("run: null", s, RA2_UNREADABLE, 0, NULL);
     s.status = regalloc2_c_run(good, LEN, NULL, 0, &s.needed), wrong += differs("run: no room", s, RA2_NO_ROOM, s.needed, NULL);
     s.status = regalloc2_c_allocate_json(NULL, 0, NULL, 0, &s.needed), wrong += differs("JSON: null", s, RA2_UNREADABLE, 0, NULL);
-    s.status = regalloc2_c_allocate_text(NULL, 0, NULL, 0, &s.needed), wrong += differs("text: null", s, RA2_BAD_FUNCTION + 2, 0, NULL);
+    s.status = regalloc2_c_allocate_text(NULL, 0, NULL, 0, &s.needed), wrong += differs("text: null", s, RA2_BAD_FUNCTION_INDEX, 0, NULL);
     s.status = regalloc2_c_judge(NULL, 0, 0, NULL, 0, NULL, 0, NULL, 0, NULL, 0, &s.needed);
     wrong += differs("judge: null", s, RA2_UNREADABLE, 0, NULL);
     s.status = regalloc2_c_judge(good, LEN, 0, NULL, 0, NULL, 0, NULL, 0, s.words, ROOM, &s.needed);
-    return wrong + differs("no output", s, RA2_FAULTS, WORDS(1, 12, RA2_NONE, RA2_NONE, 0, 0, 0, 0, 0, 0));
+    return wrong + differs("no output", s, RA2_FAULTS, WORDS(1, RA2_FAULT_ORDER, RA2_NONE, RA2_NONE, 0, 0, 0, 0, 0, 0));
 }
 
-#define REFUSED(n, lines, ...) differs(lines, text(lines), RA2_REFUSED + n, WORDS(__VA_ARGS__))
+#define REFUSED(status, lines, ...) differs(lines, text(lines), status, WORDS(__VA_ARGS__))
 
 /* All but 8, which 2^32 operands come to. A header can't count them, and as JSON or text they take more than 8
    gigabytes. 11 is memory's. */
 static int wrong_refusals(void) {
-    return REFUSED(1, "block0:\n  branch block1, block2\nblock1:\n  branch block2\nblock2:\n  ret\n", 0, 2, RA2_NONE, RA2_NONE)
-        + REFUSED(2, "block0:\n  op: Def: v0i reg\n  ret: Use: v1i reg\n", RA2_NONE, RA2_NONE, 1, ra2_vreg(RA2_INT, 1))
-        + REFUSED(3, "block0:\n  ret\n  ret\n", 0, RA2_NONE, RA2_NONE, RA2_NONE)
-        + REFUSED(4, "block0:\n  branch block1\nblock1(v0i):\n  ret\n", RA2_NONE, RA2_NONE, 0, RA2_NONE)
-        + REFUSED(5, "block0(v0i):\n  ret\n", RA2_NONE, RA2_NONE, RA2_NONE, RA2_NONE)
-        + REFUSED(6, "block0:\n  op: Def: v0i reg\n  branch block0: Use: v0i reg\n", RA2_NONE, RA2_NONE, 1, RA2_NONE)
-        + REFUSED(7, "regs p0i\nblock0:\n  op: Def: v0i reg, Def: v1i reg\n  ret\n", RA2_NONE, RA2_NONE, RA2_NONE, RA2_NONE)
-        + REFUSED(9, "block0:\n  op: Def: v0i reuse(3)\n  ret\n", RA2_NONE, RA2_NONE, 0, RA2_NONE)
-        + REFUSED(10, "sizes int 16777216\nblock0:\n  op: Def: v0i stack, Def: v1i stack\n  ret\n", RA2_NONE, RA2_NONE, RA2_NONE, RA2_NONE)
-        + differs("slots too large", made(regalloc2_c_run, RA2_AT_SIZES, ra2_sizes(24, 0, 0), LEN, ROOM), RA2_REFUSED + 10,
+    return REFUSED(RA2_CRITICAL_EDGE, "block0:\n  branch block1, block2\nblock1:\n  branch block2\nblock2:\n  ret\n", 0, 2, RA2_NONE, RA2_NONE)
+        + REFUSED(RA2_NOT_SSA, "block0:\n  op: Def: v0i reg\n  ret: Use: v1i reg\n", RA2_NONE, RA2_NONE, 1, ra2_vreg(RA2_INT, 1))
+        + REFUSED(RA2_BAD_BLOCK, "block0:\n  ret\n  ret\n", 0, RA2_NONE, RA2_NONE, RA2_NONE)
+        + REFUSED(RA2_BAD_BRANCH, "block0:\n  branch block1\nblock1(v0i):\n  ret\n", RA2_NONE, RA2_NONE, 0, RA2_NONE)
+        + REFUSED(RA2_ENTRY_HAS_PARAMS, "block0(v0i):\n  ret\n", RA2_NONE, RA2_NONE, RA2_NONE, RA2_NONE)
+        + REFUSED(RA2_BRANCH_HAS_OPERANDS, "block0:\n  op: Def: v0i reg\n  branch block0: Use: v0i reg\n", RA2_NONE, RA2_NONE, 1, RA2_NONE)
+        + REFUSED(RA2_TOO_MANY_LIVE_REGISTERS, "regs p0i\nblock0:\n  op: Def: v0i reg, Def: v1i reg\n  ret\n", RA2_NONE, RA2_NONE, RA2_NONE, RA2_NONE)
+        + REFUSED(RA2_UNSUPPORTED, "block0:\n  op: Def: v0i reuse(3)\n  ret\n", RA2_NONE, RA2_NONE, 0, RA2_NONE)
+        + REFUSED(RA2_TOO_MANY_SLOTS, "sizes int 16777216\nblock0:\n  op: Def: v0i stack, Def: v1i stack\n  ret\n", RA2_NONE, RA2_NONE, RA2_NONE, RA2_NONE)
+        + differs("slots too large", made(regalloc2_c_run, RA2_AT_SIZES, ra2_sizes(24, 0, 0), LEN, ROOM), RA2_TOO_MANY_SLOTS,
                   WORDS(RA2_NONE, RA2_NONE, RA2_NONE, RA2_NONE));
 }
 
-/* Refuses memory from the first request on, then from the second one, and so on, until a call needs no more. It has
-   to be said by `status` once, which is RA2_BAD_FUNCTION + 5 where a text's numbers are read. */
+/* Refuses memory from the first request on, then from the second one, and so on, until a call needs no more. It has to be said by `status` once,
+   which is RA2_BAD_FUNCTION_MEMORY where a text's numbers are read. */
 static int wrong_memory(call *made_by, uint32_t status) {
     struct seen fine = made(made_by, SAME, LEN, ROOM), s;
     size_t times = 0;
@@ -256,7 +256,7 @@ static int wrong_memory(call *made_by, uint32_t status) {
         requests = SIZE_MAX;
         said |= s.status == status;
         wrong += s.status == RA2_NO_MEMORY || s.status == status ? s.needed != 0
-            : s.status == RA2_REFUSED + 11                       ? s.needed != 4 || s.words[2] != RA2_NONE
+            : s.status == RA2_REFUSED_MEMORY                       ? s.needed != 4 || s.words[2] != RA2_NONE
                                                                  : s.status != fine.status;
     } while (s.status != fine.status && wrong == 0);
     if (wrong || !said || times < 10)
@@ -269,40 +269,73 @@ static int wrong_judgements(void) {
     size_t places = 3 + 3 * fine.words[2];
     return differ("the output", SAME, ROOM, 0, RA2_OK, 0, NULL)
         + differ("a place that is missing", SAME, places + 1, 0, RA2_FAULTS,
-                 WORDS(2, 1, 0, 0, LOW(DEF), HIGH(DEF), 0, 0, 0, 0, 2, 2, 0, LOW(USE + 1), HIGH(USE + 1), fine.words[places + 2], 0, 0, 0))
+                 WORDS(2, RA2_FAULT_MISSING, 0, 0, LOW(DEF), HIGH(DEF), 0, 0, 0, 0, RA2_FAULT_NO_VALUE, 2, 0, LOW(USE + 1), HIGH(USE + 1), fine.words[places + 2], 0, 0, 0))
         + differs("no places", made(judge_no_places, SAME, LEN, ROOM), RA2_FAULTS,
-                  WORDS(2, 1, 0, 0, LOW(DEF), HIGH(DEF), 0, 0, 0, 0, 1, 2, 0, LOW(USE + 1), HIGH(USE + 1), 0, 0, 0, 0))
+                  WORDS(2, RA2_FAULT_MISSING, 0, 0, LOW(DEF), HIGH(DEF), 0, 0, 0, 0, RA2_FAULT_MISSING, 2, 0, LOW(USE + 1), HIGH(USE + 1), 0, 0, 0, 0))
         + differ("a place of no kind", SAME, places + 1, 0xffffffff, RA2_BAD_OUTPUT, 0, NULL)
         + differ("a block without an end", AT(RA2_INST_ENDS, 0), 1, ROOM, 0, RA2_NOT_FRAMED, 0, NULL)
         + differ("a frame of no units", SAME, 0, 0, RA2_FAULTS, 10, NULL);
 }
 
-/* The text of each of RA2_REFUSED + 1 to 11, from the tests that docs/SEMANTICS.md lists. */
-static const char *const causes[] = {
-    "an edge is critical (its block has several successors, and the successor several incoming edges, counting the start)",
-    "a vreg is defined twice, isn't below the count of vregs, or is used without an earlier definition",
-    "a block doesn't exist, has a wrong instruction range, wrong predecessors or wrong terminators, or is the entry but not block 0",
-    "a branch passes arguments that don't fit the parameters",
-    "the entry has parameters",
-    "a branch with operands leads to a block with several incoming edges, counting the start",
-    "an instruction needs more registers than there are",
-    "there are 2^32 operands or more",
-    ("an operand isn't supported: a limit, an unsound reuse, a definition or late use fixed to a clobber, "
-     "or a branch's definition in any register or by a reuse"),
-    "spill slots would take more than 2^24 units",
-    "out of memory",
+/* The texts of statuses and faults by their names, from the tests that docs/SEMANTICS.md lists. */
+struct named {
+    uint32_t number;
+    const char *text;
+};
+static const struct named causes[] = {
+    {RA2_CRITICAL_EDGE, "an edge is critical (its block has several successors, and the successor several incoming edges, counting the start)"},
+    {RA2_NOT_SSA, "a vreg is defined twice, isn't below the count of vregs, or is used without an earlier definition"},
+    {RA2_BAD_BLOCK, "a block doesn't exist, has a wrong instruction range, wrong predecessors or wrong terminators, or is the entry but not block 0"},
+    {RA2_BAD_BRANCH, "a branch passes arguments that don't fit the parameters"},
+    {RA2_ENTRY_HAS_PARAMS, "the entry has parameters"},
+    {RA2_BRANCH_HAS_OPERANDS, "a branch with operands leads to a block with several incoming edges, counting the start"},
+    {RA2_TOO_MANY_LIVE_REGISTERS, "an instruction needs more registers than there are"},
+    {RA2_TOO_MANY_OPERANDS, "there are 2^32 operands or more"},
+    {RA2_UNSUPPORTED, ("an operand isn't supported: a limit, an unsound reuse, a definition or late use fixed to a clobber, "
+                       "or a branch's definition in any register or by a reuse")},
+    {RA2_TOO_MANY_SLOTS, "spill slots would take more than 2^24 units"},
+    {RA2_REFUSED_MEMORY, "out of memory"},
+    {RA2_BAD_FUNCTION_LENGTHS, "bad function: lists by block or by class have different lengths"},
+    {RA2_BAD_FUNCTION_INDEX, "bad function: a block, a range or a label is out of range"},
+    {RA2_BAD_FUNCTION_BITS, "bad function: a word names nothing"},
+    {RA2_BAD_FUNCTION_LIMIT, "bad function: a limit is passed"},
+    {RA2_BAD_FUNCTION_MEMORY, "bad function: out of memory"},
+};
+static const struct named faults[] = {
+    {RA2_FAULT_MISSING, "an operand has no place"},
+    {RA2_FAULT_NO_VALUE, "the place doesn't hold a value on every path"},
+    {RA2_FAULT_CONFLICTING_VALUES, "the place holds values that conflict"},
+    {RA2_FAULT_OTHER_VALUES, "the place holds the values of other vregs"},
+    {RA2_FAULT_NO_SUCH_OPERAND, "a reuse names no operand"},
+    {RA2_FAULT_NOT_REGISTER, "the place is no register"},
+    {RA2_FAULT_NOT_FIXED_REGISTER, "the place isn't the fixed register"},
+    {RA2_FAULT_NOT_REUSED, "the place isn't that of the reused operand"},
+    {RA2_FAULT_NOT_STACK, "the place isn't on the stack"},
+    {RA2_FAULT_STACK_TO_STACK, "a move goes from one stack place to another"},
+    {RA2_FAULT_OUTSIDE_LIMIT, "the register's number isn't below the limit"},
+    {RA2_FAULT_ORDER, "the output isn't in order"},
+    {RA2_FAULT_MEMORY, "out of memory"},
+    {RA2_FAULT_NO_CELL, "no register for the class, and no slot of the frame"},
+    {RA2_FAULT_OTHER_CLASS, "a move goes from a register to one of another class"},
+    {RA2_FAULT_OUTSIDE_FRAME, "a slot isn't within the frame"},
+    {RA2_FAULT_SHARED_UNIT, "two slots share a unit"},
 };
 
-static int is_text(uint32_t status, const char *expected) {
+typedef size_t texts(uint32_t, uint8_t *, size_t);
+
+static int is_text(texts *texts_of, uint32_t number, const char *expected) {
     uint8_t bytes[256];
-    size_t count = regalloc2_c_status_text(status, bytes, sizeof bytes), length = strlen(expected);
+    size_t count = texts_of(number, bytes, sizeof bytes), length = strlen(expected);
     return count == length && length <= sizeof bytes && memcmp(bytes, expected, length) == 0;
 }
 
-static int wrong_causes(void) {
-    int wrong = !is_text(RA2_REFUSED, "no status") + !is_text(RA2_LAST_STATUS + 1, "no status") + !is_text(RA2_REFUSED + 256 + 1, "no status");
-    for (uint32_t n = 1; n <= RA2_LAST_STATUS - RA2_REFUSED; n++)
-        wrong += !is_text(RA2_REFUSED + n, causes[n - 1]);
+static int wrong_named(void) {
+    int wrong = !is_text(regalloc2_c_status_text, RA2_REFUSED, "no status") + !is_text(regalloc2_c_status_text, RA2_LAST_STATUS + 1, "no status")
+        + !is_text(regalloc2_c_status_text, RA2_REFUSED + 256 + 1, "no status") + !is_text(regalloc2_c_fault_text, RA2_FAULT_SHARED_UNIT + 1, "no fault");
+    for (size_t k = 0; k < sizeof causes / sizeof *causes; k++)
+        wrong += !is_text(regalloc2_c_status_text, causes[k].number, causes[k].text);
+    for (size_t k = 0; k < sizeof faults / sizeof *faults; k++)
+        wrong += !is_text(regalloc2_c_fault_text, faults[k].number, faults[k].text);
     return wrong;
 }
 
@@ -318,7 +351,7 @@ static int is_left_behind(void) {
 
 static int wrong_texts(void) {
     uint8_t bytes[256];
-    int wrong = (regalloc2_c_version() != RA2_VERSION) + wrong_causes() + !is_left_behind();
+    int wrong = (regalloc2_c_version() != RA2_VERSION) + wrong_named() + !is_left_behind();
     for (uint32_t n = 0; n <= RA2_LAST_STATUS; n++) {
         size_t count = regalloc2_c_status_text(n, bytes, sizeof bytes);
         wrong += count == 0 || count > sizeof bytes || regalloc2_c_status_text(n, bytes, 3) != count;
@@ -334,7 +367,7 @@ static void *calls(void *wrong) {
     for (int i = 0; i < ROUNDS && *(int *)wrong == 0; i++)
         *(int *)wrong = wrong_allocations() + wrong_words() + wrong_nulls() + wrong_refusals()
             + wrong_memory(regalloc2_c_allocate, RA2_NO_MEMORY) + wrong_memory(regalloc2_c_run, RA2_NO_MEMORY)
-            + wrong_memory(judge_no_places, RA2_NO_MEMORY) + wrong_memory(allocate_good_text, RA2_BAD_FUNCTION + 5) + wrong_judgements()
+            + wrong_memory(judge_no_places, RA2_NO_MEMORY) + wrong_memory(allocate_good_text, RA2_BAD_FUNCTION_MEMORY) + wrong_judgements()
             + wrong_texts();
     return NULL;
 }

@@ -123,12 +123,74 @@ enum {
     RA2_BAD_OUTPUT = 7,   /* the output's numbers name none */
     RA2_READ_BEFORE_WRITTEN = 8, /* some path reads or passes a vreg before writing it */
     RA2_BAD_TEXT = 9,     /* a line of the text can't be read */
-    RA2_BAD_FUNCTION = 10,/* and 1 to 5: as above */
-    RA2_REFUSED = 20,     /* and 1 to 11: as `refused` of docs/INPUT.md; the text of each has its cause */
+    RA2_BAD_FUNCTION = 10,/* and 1 to 5: as above, by the names below */
+    RA2_REFUSED = 20,     /* and 1 to 11: the allocator's errors, by the names below; the text of each has its cause */
     RA2_LAST_STATUS = 31
 };
 
-/* 65536 times the version of the layouts, and how many calls this header declares. */
+/* The statuses above RA2_BAD_FUNCTION. */
+enum {
+    RA2_BAD_FUNCTION_LENGTHS = RA2_BAD_FUNCTION + 1,
+    RA2_BAD_FUNCTION_INDEX = RA2_BAD_FUNCTION + 2,
+    RA2_BAD_FUNCTION_BITS = RA2_BAD_FUNCTION + 3,
+    RA2_BAD_FUNCTION_LIMIT = RA2_BAD_FUNCTION + 4,
+    RA2_BAD_FUNCTION_MEMORY = RA2_BAD_FUNCTION + 5
+};
+
+/* The statuses above RA2_REFUSED, and what their results name. */
+enum {
+    RA2_CRITICAL_EDGE = RA2_REFUSED + 1,         /* both blocks */
+    RA2_NOT_SSA = RA2_REFUSED + 2,               /* the vreg and the instruction, which is RA2_NONE for a block's parameter */
+    RA2_BAD_BLOCK = RA2_REFUSED + 3,             /* the block */
+    RA2_BAD_BRANCH = RA2_REFUSED + 4,            /* the branch */
+    RA2_ENTRY_HAS_PARAMS = RA2_REFUSED + 5,
+    RA2_BRANCH_HAS_OPERANDS = RA2_REFUSED + 6,   /* the branch */
+    RA2_TOO_MANY_LIVE_REGISTERS = RA2_REFUSED + 7,
+    RA2_TOO_MANY_OPERANDS = RA2_REFUSED + 8,
+    RA2_UNSUPPORTED = RA2_REFUSED + 9,           /* the instruction */
+    RA2_TOO_MANY_SLOTS = RA2_REFUSED + 10,
+    RA2_REFUSED_MEMORY = RA2_REFUSED + 11
+};
+
+/* The first word of the result of RA2_BAD_MACHINE, and what the others name. */
+enum {
+    RA2_MISFIT_INVALID_SLOT = 1,           /* a fixed stack slot is an invalid register */
+    RA2_MISFIT_OTHER_CLASS = 2,            /* the class, and its register of another class */
+    RA2_MISFIT_LISTED_TWICE = 3,           /* the class, and the register that is preferred and non-preferred */
+    RA2_MISFIT_INVALID_REGISTER = 4,       /* the class that has an invalid register */
+    RA2_MISFIT_SCRATCH_OF_OTHER_CLASS = 5, /* the class, and its scratch register of another class */
+    RA2_MISFIT_SCRATCH_ALLOCATABLE = 6,    /* the class, and its scratch register, which is preferred or non-preferred too */
+    RA2_MISFIT_INVALID_SCRATCH = 7,        /* the class whose scratch register is invalid */
+    RA2_MISFIT_SLOT_ALLOCATABLE = 8,       /* the class, and a fixed stack slot, which is preferred or non-preferred too */
+    RA2_MISFIT_SLOT_IS_SCRATCH = 9,        /* the class, and its scratch register, which is a fixed stack slot too */
+    RA2_MISFIT_NO_REGISTER = 10            /* the class without a register, of which the function names a vreg */
+};
+
+/* The numbers of faults. No call reports RA2_FAULT_CONFLICTING_VALUES or RA2_FAULT_MEMORY. */
+enum {
+    RA2_FAULT_MISSING = 1,
+    RA2_FAULT_NO_VALUE = 2,
+    RA2_FAULT_CONFLICTING_VALUES = 3,
+    RA2_FAULT_OTHER_VALUES = 4,
+    RA2_FAULT_NO_SUCH_OPERAND = 5,
+    RA2_FAULT_NOT_REGISTER = 6,
+    RA2_FAULT_NOT_FIXED_REGISTER = 7,
+    RA2_FAULT_NOT_REUSED = 8,
+    RA2_FAULT_NOT_STACK = 9,
+    RA2_FAULT_STACK_TO_STACK = 10,
+    RA2_FAULT_OUTSIDE_LIMIT = 11,
+    RA2_FAULT_ORDER = 12,
+    RA2_FAULT_MEMORY = 13,
+    RA2_FAULT_NO_CELL = 14,
+    RA2_FAULT_OTHER_CLASS = 15,
+    RA2_FAULT_OUTSIDE_FRAME = 16,
+    RA2_FAULT_SHARED_UNIT = 17
+};
+
+/* The version of the library that this header is shipped with, as CHANGELOG.md counts. */
+#define RA2_RELEASE "0.1.0"
+
+/* 65536 times the version of the layouts, and how many calls this header declares. The shared library is named by the version of the layouts. */
 #define RA2_VERSION 0x00020009u
 uint32_t regalloc2_c_version(void);
 
@@ -197,8 +259,22 @@ static inline uint64_t ra2_operand(uint32_t class_, uint32_t number, uint32_t ki
 static inline uint32_t ra2_in_register(uint32_t reg) { return 1u << 29 | reg; }
 static inline uint32_t ra2_in_slot(uint32_t slot) { return 2u << 29 | slot; }
 
-/* Words of functions: kinds by the number of a set, the logarithms of a slot's units, and registers added to the six
-   words of a set. */
+/* Vregs, operands and places in parts. A definition is late and a use early, if the name doesn't say otherwise. */
+enum { RA2_PLACE_NONE = 0, RA2_PLACE_REGISTER = 1, RA2_PLACE_SLOT = 2 };
+static inline uint32_t ra2_class_of_vreg(uint32_t vreg) { return vreg & 3; }
+static inline uint32_t ra2_number_of_vreg(uint32_t vreg) { return vreg >> 2; }
+static inline uint64_t ra2_def(uint32_t vreg, uint32_t constraint) { return ra2_operand(vreg & 3, vreg >> 2, RA2_DEF, RA2_LATE, constraint); }
+static inline uint64_t ra2_use(uint32_t vreg, uint32_t constraint) { return ra2_operand(vreg & 3, vreg >> 2, RA2_USE, RA2_EARLY, constraint); }
+static inline uint64_t ra2_early_def(uint32_t vreg, uint32_t constraint) { return ra2_operand(vreg & 3, vreg >> 2, RA2_DEF, RA2_EARLY, constraint); }
+static inline uint64_t ra2_late_use(uint32_t vreg, uint32_t constraint) { return ra2_operand(vreg & 3, vreg >> 2, RA2_USE, RA2_LATE, constraint); }
+static inline uint32_t ra2_vreg_of_operand(uint64_t operand) { return (uint32_t)operand << 2 | (uint32_t)(operand >> 32 & 3); }
+static inline bool ra2_is_def(uint64_t operand) { return (operand >> 35 & 1) == RA2_DEF; }
+static inline uint32_t ra2_place_kind(uint32_t place) { return place >> 29; }
+static inline uint32_t ra2_place_number(uint32_t place) { return place & 0x1fffffff; } /* a register's index, or a slot's number */
+static inline uint32_t ra2_class_of_register(uint32_t reg) { return reg >> 6; }
+static inline uint32_t ra2_number_of_register(uint32_t reg) { return reg & 63; }
+
+/* Words of functions: kinds by the number of a set, the logarithms of a slot's units, and registers added to the six words of a set. */
 static inline uint32_t ra2_kind(uint32_t set, uint32_t what) { return set << 2 | what; }
 static inline uint32_t ra2_sizes(uint32_t int_, uint32_t float_, uint32_t vector) { return int_ | float_ << 8 | vector << 16; }
 static inline void ra2_add(uint32_t *set, uint32_t reg) { set[reg / 32] |= 1u << reg % 32; }

@@ -86,6 +86,21 @@ transcript() {
     done
 }
 
+# Packs the library, and builds demo.c from the archive alone, over each form of the library.
+packed() {
+    make -C "$here" dist LIB="$library" DISTDIR="$made" && cd "$made" && tar -xzf regalloc2_c-*.tar.gz && cd regalloc2_c-*[0-9a-f] &&
+        sha256sum --quiet -c SHA256SUMS && cmp LICENSE "$top/LICENSE" &&
+        "$cc" -Iinclude -o demo examples/demo.c lib/libregalloc2_c.a lib/libregalloc2_c_heap.a && ./demo examples/loop.json &&
+        "$cc" -Iinclude -o demo examples/demo.c -Llib -lregalloc2_c -Wl,-rpath,"$PWD/lib" && ./demo examples/loop.txt
+}
+
+# Whether header, installed library and programs have the version of CHANGELOG.md.
+versions() {
+    version=$(sed -n 's/^## \([0-9.]*\)$/\1/p' "$top/CHANGELOG.md" | head -n 1)
+    grep "^#define RA2_RELEASE \"$version\"\$" "$here/regalloc2_c.h" && grep "^Version: $version\$" "$made/installed/lib/pkgconfig/regalloc2_c.pc" &&
+        [ "$("$made/bin/ra2_text" --version)" = "ra2_text $version" ] && [ "$("$made/bin/compile" --version)" = "compile $version" ]
+}
+
 mkdir "$made/bin"
 step "what the documents name is there, and their commands are run" python3 "$top/tools/check_docs.py"
 echo "If the libraries aren't proved yet, the first step proves them, which takes most of an hour on four cores."
@@ -97,9 +112,15 @@ for name in ra2 ra2_text example_toy compile; do
 done
 
 compiled_c demo "$here/demo.c" "$library" "$memory" || exit 1
-if command -v "${CXX:-c++}" >/dev/null; then
-    step "demo.c compiles as C++" "${CXX:-c++}" -std=c++11 -Wall -Wextra -Werror -fsyntax-only -x c++ "$here/demo.c"
-fi
+for name in demo jit tools; do
+    step "$name.c compiles as C99" "$cc" -std=c99 -pedantic -Wall -Wextra -Werror -fsyntax-only "$here/$name.c"
+    if command -v "${CXX:-c++}" >/dev/null; then
+        step "$name.c compiles as C++" "${CXX:-c++}" -std=c++11 -Wall -Wextra -Werror -fsyntax-only -x c++ "$here/$name.c"
+    fi
+done
+compiled_c tools -g -fsanitize=address,undefined "$here/tools.c" "$here/regalloc2_c_heap.c" "$library" &&
+    step "the builder and the reader, under two sanitizers" "$made/bin/tools"
+compiled_c jit "$here/jit.c" "$library" "$memory"
 compiled_c errors -pthread "$here/errors.c" "$library" &&
     step "each status once, from ten threads" "$made/bin/errors"
 compiled_c random -g -fsanitize=address "$here/random.c" "$here/regalloc2_c_heap.c" "$library" &&
@@ -111,6 +132,8 @@ if command -v pkg-config >/dev/null; then
     # shellcheck disable=SC2046
     compiled_c installed "$here/demo.c" $(pkg-config --cflags --libs regalloc2_c)
 fi
+step "the library is packed, and demo.c is built from the archive" packed
+step "the versions agree" versions
 "$made/bin/example_toy" >"$made/toy.s" && compiled_c toy "$here/toy.c" -x assembler "$made/toy.s"
 "$made/bin/compile" "$top/crates/compile/data/sum.txt" >"$made/compiled.s" &&
     compiled_c compiled "$here/compiled.c" -x assembler "$made/compiled.s"
