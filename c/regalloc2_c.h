@@ -54,10 +54,10 @@
      16  arguments' ends            E     for each successor of each block
      17  arguments                  A     vregs
      18  labels                   4 L     each a vreg, its first instruction, the one past its last, a label
-   An end counts members, not words, up to the last one of its instruction, block or edge: the operands of instruction k
-   are those from end k - 1, or from 0, up to end k. So ends don't fall, and the last is the count in the header;
-   without ends the count is 0. The instructions of blocks, which therefore follow one another, and all others lie in
-   the same way. demo.c has a small function.
+   An end counts members, not words, up to the last one of its instruction, block or edge: the operands of instruction k are those from end
+   k - 1, or from 0, up to end k. So ends don't fall, and the last is the count in the header; without ends the count is 0. The instructions of
+   blocks, which therefore follow one another, and all others lie in the same way. regalloc2_c_tools.h has a builder of these words, and demo.c a
+   small function.
 
    Words that aren't such a header and its columns are RA2_UNREADABLE: word 0 isn't 2, there are fewer or more words than
    the header says, flags are 4 or more, or sizes 2^24 or more. Else the status is RA2_BAD_FUNCTION plus the first of
@@ -77,9 +77,7 @@
    and what is behind them stays as it was; else the status is RA2_NO_ROOM, nothing is written, and a second call with
    room for `*needed` words gives the result: so a call is made twice at most. The result by status:
      RA2_OK              the output; of regalloc2_c_judge none
-     RA2_BAD_MACHINE     3 words: which condition fails, from 1 to 10 (InvalidSlot, OtherClass, ListedTwice, InvalidRegister,
-                         ScratchOfOtherClass, ScratchAllocatable, InvalidScratch, SlotAllocatable, SlotIsScratch, NoRegister); the class;
-                         the register
+     RA2_BAD_MACHINE     3 words: which condition fails, from RA2_MISFIT_INVALID_SLOT to RA2_MISFIT_NO_REGISTER; the class; the register
      RA2_FAULTS          a list of faults: how many, and each as below
      RA2_BAD_TEXT        2 words: the line and the column, in bytes, both counted from 1
      RA2_REFUSED + n     4 words: two blocks, an instruction, a vreg
@@ -88,8 +86,9 @@
    length, is 2^32 or more.
 
    A FAULT is 8 words and a list of vregs:
-     0   its number: 1, 2 or 4 to 12 as `error` of docs/INPUT.md; 14 a place that is no register for the class and no slot of the frame, 15 a
-         move between classes, 16 a slot that isn't within the frame, 17 slots that share a unit; regalloc2_c_fault_text has them in words
+     0   its number, from RA2_FAULT_MISSING to RA2_FAULT_SHARED_UNIT: 1, 2 or 4 to 12 as `error` of docs/INPUT.md; 14 a place that is no register for
+         the class and no slot of the frame, 15 a move between classes, 16 a slot that isn't within the frame, 17 slots that share a unit;
+         regalloc2_c_fault_text has them in words
      1   the instruction, or RA2_NONE
      2   of 1 to 9 and 11 the index of the first operand of the instruction with the word and the place below; of 14 the operand's index, or
          without an instruction the move's; of 15 the move's index; of 16 and 17 the slot; else RA2_NONE
