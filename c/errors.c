@@ -238,7 +238,8 @@ static int wrong_refusals(void) {
         + REFUSED(RA2_BRANCH_HAS_OPERANDS, "block0:\n  op: Def: v0i reg\n  branch block0: Use: v0i reg\n", RA2_NONE, RA2_NONE, 1, RA2_NONE)
         + REFUSED(RA2_TOO_MANY_LIVE_REGISTERS, "regs p0i\nblock0:\n  op: Def: v0i reg, Def: v1i reg\n  ret\n", RA2_NONE, RA2_NONE, RA2_NONE, RA2_NONE)
         + REFUSED(RA2_UNSUPPORTED, "block0:\n  op: Def: v0i reuse(3)\n  ret\n", RA2_NONE, RA2_NONE, 0, RA2_NONE)
-        + REFUSED(RA2_TOO_MANY_SLOTS, "sizes int 16777216\nblock0:\n  op: Def: v0i stack, Def: v1i stack\n  ret\n", RA2_NONE, RA2_NONE, RA2_NONE, RA2_NONE)
+        + REFUSED(RA2_TOO_MANY_SLOTS, "sizes int 16777216\nblock0:\n  op: Def: v0i stack, Def: v1i stack\n  ret\n", RA2_NONE, RA2_NONE, RA2_NONE,
+                  RA2_NONE)
         + differs("slots too large", made(regalloc2_c_run, RA2_AT_SIZES, ra2_sizes(24, 0, 0), LEN, ROOM), RA2_TOO_MANY_SLOTS,
                   WORDS(RA2_NONE, RA2_NONE, RA2_NONE, RA2_NONE));
 }
@@ -269,9 +270,11 @@ static int wrong_judgements(void) {
     size_t places = 3 + 3 * fine.words[2];
     return differ("the output", SAME, ROOM, 0, RA2_OK, 0, NULL)
         + differ("a place that is missing", SAME, places + 1, 0, RA2_FAULTS,
-                 WORDS(2, RA2_FAULT_MISSING, 0, 0, LOW(DEF), HIGH(DEF), 0, 0, 0, 0, RA2_FAULT_NO_VALUE, 2, 0, LOW(USE + 1), HIGH(USE + 1), fine.words[places + 2], 0, 0, 0))
+                 WORDS(2, RA2_FAULT_MISSING, 0, 0, LOW(DEF), HIGH(DEF), 0, 0, 0, 0,
+                       RA2_FAULT_NO_VALUE, 2, 0, LOW(USE + 1), HIGH(USE + 1), fine.words[places + 2], 0, 0, 0))
         + differs("no places", made(judge_no_places, SAME, LEN, ROOM), RA2_FAULTS,
-                  WORDS(2, RA2_FAULT_MISSING, 0, 0, LOW(DEF), HIGH(DEF), 0, 0, 0, 0, RA2_FAULT_MISSING, 2, 0, LOW(USE + 1), HIGH(USE + 1), 0, 0, 0, 0))
+                  WORDS(2, RA2_FAULT_MISSING, 0, 0, LOW(DEF), HIGH(DEF), 0, 0, 0, 0,
+                        RA2_FAULT_MISSING, 2, 0, LOW(USE + 1), HIGH(USE + 1), 0, 0, 0, 0))
         + differ("a place of no kind", SAME, places + 1, 0xffffffff, RA2_BAD_OUTPUT, 0, NULL)
         + differ("a block without an end", AT(RA2_INST_ENDS, 0), 1, ROOM, 0, RA2_NOT_FRAMED, 0, NULL)
         + differ("a frame of no units", SAME, 0, 0, RA2_FAULTS, 10, NULL);
@@ -285,7 +288,8 @@ struct named {
 static const struct named causes[] = {
     {RA2_CRITICAL_EDGE, "an edge is critical (its block has several successors, and the successor several incoming edges, counting the start)"},
     {RA2_NOT_SSA, "a vreg is defined twice, isn't below the count of vregs, or is used without an earlier definition"},
-    {RA2_BAD_BLOCK, "a block doesn't exist, has a wrong instruction range, wrong predecessors or wrong terminators, or is the entry but not block 0"},
+    {RA2_BAD_BLOCK, ("a block doesn't exist, has a wrong instruction range, wrong predecessors or wrong terminators, "
+                     "or is the entry but not block 0")},
     {RA2_BAD_BRANCH, "a branch passes arguments that don't fit the parameters"},
     {RA2_ENTRY_HAS_PARAMS, "the entry has parameters"},
     {RA2_BRANCH_HAS_OPERANDS, "a branch with operands leads to a block with several incoming edges, counting the start"},
@@ -330,8 +334,10 @@ static int is_text(texts *texts_of, uint32_t number, const char *expected) {
 }
 
 static int wrong_named(void) {
-    int wrong = !is_text(regalloc2_c_status_text, RA2_REFUSED, "no status") + !is_text(regalloc2_c_status_text, RA2_LAST_STATUS + 1, "no status")
-        + !is_text(regalloc2_c_status_text, RA2_REFUSED + 256 + 1, "no status") + !is_text(regalloc2_c_fault_text, RA2_FAULT_SHARED_UNIT + 1, "no fault");
+    static const uint32_t none[] = {RA2_BAD_FUNCTION, RA2_REFUSED, RA2_LAST_STATUS + 1, RA2_REFUSED + 256 + 1};
+    int wrong = !is_text(regalloc2_c_fault_text, 0, "no fault") + !is_text(regalloc2_c_fault_text, RA2_FAULT_SHARED_UNIT + 1, "no fault");
+    for (size_t k = 0; k < sizeof none / sizeof *none; k++)
+        wrong += !is_text(regalloc2_c_status_text, none[k], "no status");
     for (size_t k = 0; k < sizeof causes / sizeof *causes; k++)
         wrong += !is_text(regalloc2_c_status_text, causes[k].number, causes[k].text);
     for (size_t k = 0; k < sizeof faults / sizeof *faults; k++)

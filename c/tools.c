@@ -141,12 +141,15 @@ static void test_output(void) {
 }
 
 static void test_faults(void) {
-    static const uint32_t words[] = {2, RA2_FAULT_OTHER_VALUES, 7, 1, 5, 24, 9, 0, 0, 2, 8, 12, RA2_FAULT_ORDER, RA2_NONE, RA2_NONE, 0, 0, 0, 0, 0, 0};
+    static const uint32_t words[] = {2, RA2_FAULT_OTHER_VALUES, 7, 1, 5, 24, 9, 0, 0, 2, 8, 12,
+                                     RA2_FAULT_ORDER, RA2_NONE, RA2_NONE, 0, 0, 0, 0, 0, 0};
     struct ra2_fault fault;
     size_t at = 0;
-    check(ra2_next_fault(words, COUNT(words), &at, &fault) && fault.number == RA2_FAULT_OTHER_VALUES && fault.inst == 7 && fault.index == 1, "a fault");
+    check(ra2_next_fault(words, COUNT(words), &at, &fault) && fault.number == RA2_FAULT_OTHER_VALUES, "a fault");
+    check(fault.inst == 7 && fault.index == 1, "a fault's instruction");
     check(fault.operand == 5 + (24ull << 32) && fault.place == 9 && fault.num_vregs == 2 && fault.vregs[1] == 12, "a fault's operand");
-    check(ra2_next_fault(words, COUNT(words), &at, &fault) && fault.number == RA2_FAULT_ORDER && fault.num_vregs == 0, "the second fault");
+    check(ra2_next_fault(words, COUNT(words), &at, &fault) && fault.number == RA2_FAULT_ORDER, "the second fault");
+    check(fault.inst == RA2_NONE && fault.num_vregs == 0, "the second fault's parts");
     check(!ra2_next_fault(words, COUNT(words), &at, &fault), "a third fault");
     at = 0, check(!ra2_next_fault(words, 11, &at, &fault), "a fault cut short");
     at = 0, check(!ra2_next_fault(NULL, 0, &at, &fault), "no result");
@@ -204,9 +207,9 @@ static void test_room(void) {
     result.words = (uint32_t *)malloc(sizeof *result.words);
     result.room = result.words ? 1 : 0;
     uint32_t status = RA2_NO_ROOM;
-    result.len = 9, check(ra2_needs_more(&status, &result) && result.room == 9, "room for nine words");
-    result.len = 0, check(!ra2_needs_more(&status, &result) && status == RA2_NO_ROOM, "no room that helps");
-    result.len = SIZE_MAX, check(!ra2_needs_more(&status, &result) && status == RA2_NO_MEMORY, "more room than there is");
+    result.len = 9, check(ra2_needs_more_(&status, &result) && result.room == 9, "room for nine words");
+    result.len = 0, check(!ra2_needs_more_(&status, &result) && status == RA2_NO_ROOM, "no room that helps");
+    result.len = SIZE_MAX, check(!ra2_needs_more_(&status, &result) && status == RA2_NO_MEMORY, "more room than there is");
     check(ra2_allocate_text(text, sizeof text - 1, &result) == RA2_OK && result.len > 2, "a text");
     check(ra2_allocate_json("{}", 2, &result) == RA2_UNREADABLE && result.len == 0, "JSON");
     ra2_free_result(&result);
