@@ -6,6 +6,8 @@ use regalloc2::{
     RegallocOptions, VReg, run,
 };
 use regalloc2_conform::functions::{Code, Kind, Line, Part, int, machine, options, straight};
+use std::panic;
+use std::sync::atomic::{AtomicBool, Ordering};
 
 fn v(number: usize) -> VReg {
     VReg::new(number, RegClass::Int)
@@ -117,11 +119,19 @@ fn upstream_does_it() {
     }
 }
 
-/// Upstream's fast allocator panics over limits, which is caught. The error names the instruction.
+/// Upstream's fast allocator panics over limits, and isn't called. The error names the instruction.
 #[test]
 fn a_form_that_nobody_does() {
+    static PANICS: AtomicBool = AtomicBool::new(false);
+    let hook = panic::take_hook();
+    panic::set_hook(Box::new(move |info| {
+        let is_limit = info.payload_as_str().is_some_and(|text| text.contains("limit constraints"));
+        PANICS.fetch_or(is_limit, Ordering::Relaxed);
+        hook(info);
+    }));
     let limit = Operand::new(v(0), OperandConstraint::Limit(4), OperandKind::Use, OperandPos::Early);
     let code = straight(&[&[Operand::reg_def(v(0))], &[limit]], 1);
     let error = run(&code, &machine(), &options(Algorithm::Fastalloc)).unwrap_err();
     assert!(matches!(error, RegAllocError::SSA(vreg, inst) if vreg == VReg::invalid() && inst == Inst::new(1)), "{error:?}");
+    assert!(!PANICS.load(Ordering::Relaxed));
 }

@@ -5,7 +5,8 @@
 use regalloc2::judged::{Fault, Judge, MoveFault, OperandFault, Rejection, Unjudged};
 use regalloc2::{Algorithm, Output, run};
 use regalloc2_conform::functions::{Code, Random, generated, machine, options};
-use regalloc2_conform::{forge, json, places};
+use regalloc2_conform::{forge, places};
+use regalloc2_judge::dump;
 use std::env;
 use std::io::Write;
 use std::process::{Command, Stdio};
@@ -55,7 +56,7 @@ struct Counts([usize; 4]);
 fn compare(program: &str, judge: &mut Judge, seed: u64, code: &Code, output: &Output) -> usize {
     let env = machine();
     let verdict = judge.judge(code, &env, output);
-    let (status, text) = replayed(program, &format!("[{}, {}]", json::function(code, &env), json::output(output)));
+    let (status, text) = replayed(program, &dump::json(code, &env, output));
     let checked = status == Some(0);
     match &verdict {
         Ok(()) => {

@@ -155,6 +155,8 @@ pub enum Unjudged {
     BadOutput,
     /// The library or `regalloc2` has other encodings than this crate expects.
     Encoding,
+    /// There is no library for this target, and the feature `optional` is set.
+    Absent,
     /// The library returned a status that the call doesn't document.
     Library(Status),
 }
@@ -290,6 +292,7 @@ impl fmt::Display for Unjudged {
             Unjudged::BadFunction(number) => write!(f, "{}", Status::BadFunction(*number)),
             Unjudged::BadOutput => write!(f, "a number of the output is no encoding"),
             Unjudged::Encoding => write!(f, "the library or regalloc2 has another version"),
+            Unjudged::Absent => write!(f, "there is no library for this target"),
             Unjudged::Library(status) => write!(f, "the library returned {}: {status}", status.number()),
         }
     }

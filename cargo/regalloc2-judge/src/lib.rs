@@ -2,6 +2,7 @@
 #![deny(missing_docs)]
 #![forbid(unsafe_code)]
 
+pub mod dump;
 mod fault;
 mod locate;
 mod order;
@@ -25,15 +26,16 @@ pub fn judge(f: &impl Function, env: &MachineEnv, output: &Output) -> Result<(),
     Judge::new().judge(f, env, output)
 }
 
-/// Panics if [`judge`] rejects an output, for tests.
+/// Panics if [`judge`] rejects an output, for tests. Returns without a verdict where there is no library ([`Unjudged::Absent`]).
 ///
 /// # Panics
 ///
 /// With the text of the rejection.
 #[track_caller]
 pub fn assert_faithful(f: &impl Function, env: &MachineEnv, output: &Output) {
-    if let Err(rejection) = judge(f, env, output) {
-        panic!("{rejection}");
+    match judge(f, env, output) {
+        Ok(()) | Err(Rejection::Unjudged(Unjudged::Absent)) => {}
+        Err(rejection) => panic!("{rejection}"),
     }
 }
 
@@ -60,6 +62,23 @@ impl Judge {
     ///
     /// As [`judge`].
     pub fn judge(&mut self, f: &impl Function, env: &MachineEnv, output: &Output) -> Result<(), Rejection> {
+        let verdict = self.verdict(f, env, output);
+        if let Err(Rejection::Faulty(_)) = verdict {
+            dump::keep(f, env, output);
+        }
+        verdict
+    }
+
+    /// Returns `true` if the judge gives verdicts on outputs of a function, unless memory runs out.
+    pub fn can_judge(&mut self, f: &impl Function, env: &MachineEnv) -> bool {
+        let verdict = self.verdict(f, env, &Output::default());
+        !matches!(verdict, Err(Rejection::Unjudged(why)) if why != Unjudged::NoMemory)
+    }
+
+    fn verdict(&mut self, f: &impl Function, env: &MachineEnv, output: &Output) -> Result<(), Rejection> {
+        if !sys::PRESENT {
+            return Err(Unjudged::Absent.into());
+        }
         if !words::agree() {
             return Err(Unjudged::Encoding.into());
         }

@@ -1,8 +1,15 @@
 //! The calls, as `regalloc2_c.h` declares them, over slices.
 
 use crate::Status;
+#[cfg(regalloc2_c_absent)]
+use crate::absent as raw;
 use crate::heap::with_pool;
 
+/// Whether the library is linked. It isn't on another target than x86-64 Linux, with the feature `optional`: then each call returns
+/// [`Status::Unknown`] and no words.
+pub const PRESENT: bool = cfg!(not(regalloc2_c_absent));
+
+#[cfg(not(regalloc2_c_absent))]
 mod raw {
     unsafe extern "C" {
         pub fn regalloc2_c_version() -> u32;

@@ -2,10 +2,10 @@
 
 use crate::hook::{Cause, report};
 use crate::library::{Library, Refusal};
-use regalloc2_judge::{Fault, Judge, Rejection, Unjudged};
+use regalloc2_judge::{Fault, Judge};
 use std::borrow::Borrow;
 use std::panic::{AssertUnwindSafe, catch_unwind};
-use upstream::{Algorithm, Function, MachineEnv, Output, RegAllocError, VReg};
+use upstream::{Algorithm, Function, Inst, MachineEnv, Operand, Output, RegAllocError, VReg};
 
 /// The proved side: its memory, and the last output of the proved allocator.
 #[derive(Default)]
@@ -71,7 +71,7 @@ impl Proved {
             Ok(()) => return Ok(Choice::Own),
             Err(refusal) => refusal,
         };
-        if !self.can_judge(f, env) {
+        if has_limit(f) || !self.judge.can_judge(f, env) {
             return Err(error_of(refusal, None));
         }
         match self.asked(f, env, upstream) {
@@ -119,12 +119,13 @@ impl Proved {
             },
         }
     }
+}
 
-    /// Whether the judge can give a verdict on the function. If not, no output of upstream's would be returned.
-    fn can_judge<F: Function>(&mut self, f: &F, env: &MachineEnv) -> bool {
-        let verdict = self.judge.judge(f, env, &Output::default());
-        !matches!(verdict, Err(Rejection::Unjudged(why)) if why != Unjudged::NoMemory)
-    }
+/// Whether an operand is under `Limit`. Upstream's fast allocator panics over it.
+fn has_limit(f: &impl Function) -> bool {
+    // `Operand::constraint` panics for a number that is no encoding
+    let is_limit = |op: &Operand| op.bits() >> 40 & 0b111 == 0b001;
+    (0..f.num_insts()).any(|inst| f.inst_operands(Inst::new(inst)).iter().any(is_limit))
 }
 
 /// Returns the error if no output is accepted: the proved allocator's if upstream has it, else the operand at fault,
