@@ -1,6 +1,6 @@
-/* The allocator and its checker. Link libregalloc2_c.a, and libregalloc2_c_heap.a (regalloc2_c_heap.c), the
-   toolchain's liblibc_c.a, or three functions of your own: rattle_alloc, rattle_realloc and rattle_dealloc, declared
-   below.
+/* The allocator and its checker. Link libregalloc2_c.a, and libregalloc2_c_heap.a (regalloc2_c_heap.c), the toolchain's liblibc_c.a, or
+   three functions of your own: rattle_alloc, rattle_realloc and rattle_dealloc, declared below. The shared object libregalloc2_c.so.2 has
+   the library with malloc's memory.
 
    POINTERS. Each names memory of its length in words or bytes, aligned as its type, and may be null if that length is 0.
    `needed` has no length and is never null. What a call writes (`text`, `result`, `needed`) overlaps nothing else

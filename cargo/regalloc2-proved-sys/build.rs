@@ -31,11 +31,12 @@ fn main() {
     let library = folder.join("libregalloc2_c.a");
     println!("cargo::rerun-if-changed={}", library.display());
     if !library.exists() {
-        println!(
-            "cargo::error={} isn't there. The proved library is built for x86-64 Linux alone; `make -C c cargo-lib` puts it there, or \
-             REGALLOC2_C names its folder",
-            library.display()
-        );
+        let remedy = if is_supported() {
+            "`make -C c cargo-lib` puts it there, or REGALLOC2_C names its folder"
+        } else {
+            "the feature `optional` builds other targets without it"
+        };
+        println!("cargo::error={} isn't there. The proved library is built for x86-64 Linux alone; {remedy}", library.display());
         return;
     }
     println!("cargo::rustc-link-search=native={}", folder.display());

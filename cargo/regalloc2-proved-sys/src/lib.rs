@@ -10,8 +10,8 @@ mod status;
 mod write;
 
 pub use calls::{
-    Answer, PRESENT, Parts, Room, VERSION, agrees, allocate, allocate_json, allocate_text, check, fault_text, judge, run, status_text,
-    version,
+    Answer, PRESENT, Parts, Room, VERSION, agrees, allocate, allocate_json, allocate_text, check, fault_text, judge, run,
+    status_text, version,
 };
 pub use read::{FaultWords, MisfitWords, NONE, OutputWords, ReadFault, RefusalWords, faults};
 pub use status::Status;
