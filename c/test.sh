@@ -87,12 +87,12 @@ transcript() {
 }
 
 # Packs the library, and builds demo.c from the archive alone, over each form of the library.
-packed() {
+packed() (
     make -C "$here" dist LIB="$library" DISTDIR="$made" && cd "$made" && tar -xzf regalloc2_c-*.tar.gz && cd regalloc2_c-*[0-9a-f] &&
         sha256sum --quiet -c SHA256SUMS && cmp LICENSE "$top/LICENSE" &&
         "$cc" -Iinclude -o demo examples/demo.c lib/libregalloc2_c.a lib/libregalloc2_c_heap.a && ./demo examples/loop.json &&
         "$cc" -Iinclude -o demo examples/demo.c -Llib -lregalloc2_c -Wl,-rpath,"$PWD/lib" && ./demo examples/loop.txt
-}
+)
 
 # Whether header, installed library and programs have the version of CHANGELOG.md.
 versions() {
