@@ -1,7 +1,6 @@
-/* Tests regalloc2_c_tools.h: the builder's words beside words laid by hand, in memory of each size; each of its errors; the reader of outputs and
-   faults on all prefixes; and the numbers of machines that don't fit. */
-#include "regalloc2_c_tools.h"
-#include <stdio.h>
+/* Tests regalloc2_c_tools.h and regalloc2_c_json.h: the builder's words beside words laid by hand, in memory of each size; each of its errors; the
+   reader of outputs and faults on all prefixes; the numbers of machines that don't fit; and a function's JSON, which gives the same output. */
+#include "regalloc2_c_json.h"
 
 static int wrong;
 
@@ -215,6 +214,67 @@ static void test_room(void) {
     ra2_free_result(&result);
 }
 
+/* A function that is allocated, with the machine of the one above, a set of clobbers, an argument and a label. */
+static int build_allocatable(struct ra2_builder *b, const uint32_t **words, size_t *len) {
+    const uint32_t v0 = ra2_vreg(RA2_INT, 0), v1 = ra2_vreg(RA2_INT, 1), set[6] = {1 << 1};
+    const uint64_t first = ra2_def(v0, RA2_REG), last = ra2_use(v1, RA2_FIXED + 1);
+    ra2_add_preferred(b, INT(0)), ra2_add_preferred(b, INT(1)), ra2_add_non_preferred(b, ra2_register(RA2_VECTOR, 62));
+    ra2_set_scratch(b, INT(3)), ra2_add_slot(b, INT(5)), ra2_add_label(b, v0, 0, 2, 7);
+    ra2_add_block(b, NULL, 0);
+    ra2_add_inst(b, RA2_OP, &first, 1), ra2_add_inst(b, ra2_kind(ra2_add_set(b, set), RA2_OP), NULL, 0), ra2_add_inst(b, RA2_BRANCH, NULL, 0);
+    ra2_add_edge(b, 1, &v0, 1);
+    ra2_add_block(b, &v1, 1);
+    ra2_add_inst(b, RA2_RETURN, &last, 1);
+    return ra2_finish(b, words, len);
+}
+
+/* The JSON of a function ends as its words do, with the same result. */
+static uint32_t both(const uint32_t *words, size_t len, struct ra2_result *of_words) {
+    static char json[1 << 14];
+    struct ra2_result of_json = {NULL, 0, 0};
+    FILE *const file = tmpfile();
+    const uint32_t status = ra2_allocate(words, len, of_words);
+    check(file && ra2_write_json(file, words, len, NULL), "JSON is written");
+    if (file) {
+        rewind(file);
+        check(ra2_allocate_json(json, fread(json, 1, sizeof json, file), &of_json) == status && of_json.len == of_words->len, "the JSON's status");
+        check(of_json.len == of_words->len && memcmp(of_json.words, of_words->words, of_words->len * sizeof *words) == 0, "the JSON's result");
+        fclose(file);
+    }
+    ra2_free_result(&of_json);
+    return status;
+}
+
+/* Words that aren't a header and columns have no JSON, and others have one, whatever they name. */
+static void test_json_of_any(FILE *file) {
+    uint32_t words[COUNT(by_hand)];
+    for (size_t n = 0; n < COUNT(by_hand); n++) {
+        memcpy(words, by_hand, sizeof words);
+        words[n] ^= 1u << 20;
+        (void)ra2_write_json(file, words, COUNT(by_hand), NULL);
+        check(!ra2_write_json(file, by_hand, n, NULL), "a function cut short");
+    }
+}
+
+static void test_json(void) {
+    struct ra2_result result = {NULL, 0, 0};
+    struct ra2_output output;
+    struct ra2_builder b;
+    const uint32_t *words;
+    size_t len;
+    FILE *const file = tmpfile();
+    ra2_begin(&b, NULL, 0);
+    check(build_allocatable(&b, &words, &len) == RA2_BUILT && both(words, len, &result) == RA2_OK, "a function that is allocated");
+    if (file) {
+        check(ra2_read_output(&output, result.words, result.len) && ra2_write_json(file, words, len, &output), "an output's JSON");
+        test_json_of_any(file);
+        fclose(file);
+    }
+    check(both(by_hand, COUNT(by_hand), &result) == RA2_CRITICAL_EDGE, "a function that is refused");
+    ra2_free(&b);
+    ra2_free_result(&result);
+}
+
 int main(void) {
     test_builder();
     test_blocks();
@@ -223,6 +283,7 @@ int main(void) {
     test_faults();
     test_misfits();
     test_room();
+    test_json();
     printf("%d differences\n", wrong);
     return wrong != 0;
 }
