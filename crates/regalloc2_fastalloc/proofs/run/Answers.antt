@@ -71,7 +71,7 @@ allocate-requires g c =
     record {
       machine = c.requires.machine;
       well_formed = valid;
-      found = c.in_ok-found.ensures.ok;
+      survey = c.in_ok-found.ensures.ok;
     }
 
 pub returns-in-Ok-clause-allocation : goal.returns-in-Ok-clause-allocation
