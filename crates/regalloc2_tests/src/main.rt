@@ -5,7 +5,7 @@
 //!
 //! Without an argument, the cases of the current folder are followed by calls of the library's parts, the allocator, the
 //! checker, `ra2` and the code generator that no case file can make, with their results. The file `stdout` has the
-//! expected output. The current folder also has the files that [`Texts`] lists. Randomly generated functions, from fixed
+//! expected output. The current folder also has the files that [`TestFiles`] lists. Randomly generated functions, from fixed
 //! seeds, have up to twelve blocks, operands of every kind but `Limit`, and registers enough for each of their
 //! instructions, most of which require all registers; on no path is a value read before it is written.
 //!
@@ -151,7 +151,7 @@ fn show_rows<W: Write>(alloc: Global, out: &mut W) -> io::Result<()> {
 
 /// The texts of the files that the tests read in the current folder.
 #[derive(Drop)]
-struct Texts {
+struct TestFiles {
     /// A function as JSON: `stored_function.json`.
     function: String,
     /// An output as JSON: `stored_output.json`.
@@ -162,10 +162,10 @@ struct Texts {
     ra2: String,
 }
 
-impl Texts {
+impl TestFiles {
     /// Reads the files.
-    fn read(rt: &HostRuntime) -> io::Result<Texts> {
-        Ok(Texts {
+    fn read(rt: &HostRuntime) -> io::Result<TestFiles> {
+        Ok(TestFiles {
             function: fs::read_to_string(rt, "stored_function.json")?,
             output: fs::read_to_string(rt, "stored_output.json")?,
             failed_allocations: fs::read_to_string(rt, "failed_allocations.txt")?,
@@ -174,15 +174,15 @@ impl Texts {
     }
 }
 
-/// Writes the results of all tests but the cases; `texts` is what they read.
-fn show_all<W: Write>(alloc: Global, texts: &Texts, out: &mut W) -> io::Result<()> {
-    let stored = (texts.function.as_str(), texts.output.as_str());
+/// Writes the results of all tests but the cases on `files`.
+fn show_all<W: Write>(alloc: Global, files: &TestFiles, out: &mut W) -> io::Result<()> {
+    let stored = (files.function.as_str(), files.output.as_str());
     units::write_all(alloc, stored, out)?;
     show_rows(alloc, out)?;
-    refusing::show_all(alloc, texts.failed_allocations.as_str(), out)?;
+    refusing::show_all(alloc, files.failed_allocations.as_str(), out)?;
     let count = agreeing(alloc, 200);
     writeln!(out, "{count} of 200 modules and their codes end alike")?;
-    fuzz::show_fuzz(alloc, texts.ra2.as_str(), out)
+    fuzz::show_fuzz(alloc, files.ra2.as_str(), out)
 }
 
 /// Runs the cases of a folder, or else all tests.
@@ -190,7 +190,7 @@ fn run<O: Write>(rt: &HostRuntime, out: &mut O) -> Result<Tally, CallError> {
     let folder = env::args(rt)?.nth(1);
     let tally = run_folder(rt, folder.as_deref().unwrap_or("."), out)?;
     if folder.is_none() {
-        show_all(rt.alloc(), &Texts::read(rt)?, out)?;
+        show_all(rt.alloc(), &TestFiles::read(rt)?, out)?;
     }
     out.flush()?;
     Ok(tally)

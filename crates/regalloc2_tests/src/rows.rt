@@ -177,7 +177,8 @@ pub fn verdict<F: Function>(
     if !is_framed(f) {
         return None;
     }
-    let checker = Checker::new(alloc, f, &integer_machine(alloc, 10)).ok()?;
+    let env = integer_machine(alloc, 10);
+    let checker = Checker::new(alloc, f, &env).ok()?;
     report(checker, given)
 }
 
