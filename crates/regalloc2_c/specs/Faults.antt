@@ -42,27 +42,10 @@ abbrev pub operand_index : FunctionValue → OutputValue → ℕ → OperandValu
 operand_index f out i op p = if nat_lt i (length f.insts)
     then first_index (is_placed (inst_at f i).operands (allocs_of out i) op p) 0 (length (inst_at f i).operands) else none
 
--- a fault of an operand: its number, the instruction, the operand's index, its encoding, the lower half first, its
--- place, another place, and a bound
+-- a fault of an operand: its number, the instruction, the operand's index, its encoding, the lower half first, its place, another place, and a bound
 abbrev pub operand_head : FunctionValue → OutputValue → ℕ → ℕ → OperandValue → Place → Place → ℕ → List ℕ
 operand_head f out number inst op p other bound = number ∷ inst ∷ operand_index f out inst op p ∷ bits_of_operand op % 2 ^ 32 ∷ bits_of_operand op / 2 ^ 32
     ∷ bits_of_place p ∷ bits_of_place other ∷ bound ∷ []
-
--- the number of a fault in the checker's texts
-abbrev pub fault_number : {A : Type 0} → CheckerError A → ℕ
-fault_number (MissingAllocation inst op) = 1
-fault_number (UnknownValueInAllocation inst op p) = 2
-fault_number (ConflictedValueInAllocation inst op p) = 3
-fault_number (IncorrectValuesInAllocation inst op p actual) = 4
-fault_number (ConstraintViolated inst op p) = 5
-fault_number (AllocationIsNotReg inst op p) = 6
-fault_number (AllocationIsNotFixedReg inst op p) = 7
-fault_number (AllocationIsNotReuse inst op p expected) = 8
-fault_number (AllocationIsNotStack inst op p) = 9
-fault_number (StackToStackMove into from) = 10
-fault_number (AllocationOutsideLimit inst op p range) = 11
-fault_number MalformedOutput = 12
-fault_number Memory = 13
 
 -- a fault up to its list of vregs, by the number of the checker's text
 abbrev pub fault_head : {A : Type 0} → FunctionValue → OutputValue → CheckerError A → List ℕ
@@ -108,8 +91,8 @@ faults_words f out es = length es ∷ flat_map (fault_words f out) es
 abbrev pub malformed_words : List ℕ
 malformed_words = 1 ∷ 12 ∷ none ∷ none ∷ 0 ∷ 0 ∷ 0 ∷ 0 ∷ 0 ∷ 0 ∷ []
 
--- the list of one fault of places: its number, the instruction, the index of an operand or a move or the number of a
--- slot, and, after four words that are 0, the index of a debug location or the number of another slot
+-- the list of one fault of places: its number, the instruction, the index of an operand or a move or the number of a slot, and, after four
+-- words that are 0, the index of a debug location or the number of another slot
 abbrev pub cell_fault_words : CellFault → List ℕ
 cell_fault_words (Operand i k) = 1 ∷ 14 ∷ i ∷ as_word k ∷ 0 ∷ 0 ∷ 0 ∷ 0 ∷ 0 ∷ 0 ∷ []
 cell_fault_words (MoveEnd k) = 1 ∷ 14 ∷ none ∷ as_word k ∷ 0 ∷ 0 ∷ 0 ∷ 0 ∷ 0 ∷ 0 ∷ []
@@ -135,8 +118,8 @@ IsErrorsFailure f out es e = ((es ≡ Memory ∷ []) × (e ≡ NoMemory)) ⊎ ((
 abbrev pub IsCellsTold : CellFault → Failure → Type 0
 IsCellsTold fault e = (e ≡ NoMemory) ⊎ ((fault ≡ CellMemory → ⊥) × (v : Vec ℕ) × (e ≡ Faults v) × (v.items ≡ cell_fault_words fault))
 
--- `words` are the words of the faults of an output: it isn't in order; or all that the checker finds; or, if it finds
--- none, the first that keeps its places from being cells
+-- `words` are the words of the faults of an output: it isn't in order; or all that the checker finds; or, if it finds none, the first that keeps
+-- its places from being cells
 abbrev pub AreFaultsOf : FunctionValue → MachineValue → OutputValue → List ℕ → Type 0
 AreFaultsOf f env out words =
     ((IsInOrder f out → ⊥) × (words ≡ malformed_words))

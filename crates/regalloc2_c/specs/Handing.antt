@@ -15,14 +15,13 @@ abbrev pub result_of : Result (Vec ℕ) Failure → List ℕ
 result_of (Ok v) = v.items
 result_of (Err e) = failure_words e
 
--- words are written with what was behind them left as it was, and their status is returned; or, if there is no room
--- for them, nothing is written, and the status that says so is returned
+-- words are written with what was behind them left as it was, and their status is returned; or, if there is no room for them, nothing is written, and
+-- the status that says so is returned
 abbrev pub IsWrittenOut : ℕ → List ℕ → List ℕ → List ℕ → ℕ → Type 0
 IsWrittenOut status words old now got = ((length words ≤ length old) × (got ≡ status) × (now ≡ words ++ drop (length words) old))
     ⊎ ((length old < length words) × (got ≡ failure_number NoRoom) × (now ≡ old))
 
--- the status and the words of what is found are handed out if there is room for the words; how many words there are
--- is reported in either case
+-- the status and the words of what is found are handed out if there is room for the words; how many words there are is reported in either case
 pub record IsHandedOut (found : Result (Vec ℕ) Failure) (old now : List ℕ) (needed got : ℕ) : Type 0 where
   pub needed_words : needed ≡ length (result_of found)
   pub given : IsWrittenOut (status_of found) (result_of found) old now got

@@ -56,8 +56,7 @@ IsJsonOf bytes s = IsUtf8 bytes × (d : Data) × (read bytes ≡ Some d) × IsFu
 abbrev pub IsTextInput : List ℕ → StoredFunction Global → Type 0
 IsTextInput bytes s = IsUtf8 bytes
 
--- why an input of `lines` lines gives no numbers: it has none, a line can't be read, or memory ran out; JSON has no
--- lines
+-- why an input of `lines` lines gives no numbers: it has none, a line can't be read, or memory ran out; JSON has no lines
 abbrev pub HasNoNumbers : (StoredFunction Global → Type 0) → ℕ → Failure → Type 0
 HasNoNumbers Lays lines Unreadable = (s : StoredFunction Global) → Lays s → ⊥
 HasNoNumbers Lays lines (BadMachine m) = ⊥
@@ -178,8 +177,7 @@ IsRunFailure f env (BadText line column) = ⊥
 IsRunFailure f env (BadFunction fault) = ⊥
 IsRunFailure f env (Refused error) = MachineFits f env × IsReason f env true error
 
--- what an input comes to: words for the function and the machine that it names; or a failure: it names none, or that
--- is why there are no words
+-- what an input comes to: words for the function and the machine that it names; or a failure: it names none, or that is why there are no words
 abbrev pub ResultsIn : (Names : FunctionValue → MachineValue → Type 0) (None : Failure → Type 0)
     (Are : FunctionValue → MachineValue → List ℕ → Type 0) (Why : FunctionValue → MachineValue → Failure → Type 0) → Result (Vec ℕ) Failure → Type 0
 ResultsIn Names None Are Why (Ok v) = (f : FunctionValue) × (env : MachineValue) × Names f env × Are f env v.items

@@ -66,8 +66,7 @@ fault_texts = no_fault
 abbrev pub text_of_fault : ℕ → List ℕ
 text_of_fault number = slice_index_or fault_texts number no_fault
 
--- a text is written with what was behind it left as it was, or, if there is less room, as much of it as there is room
--- for; its length is returned
+-- a text is written with what was behind it left as it was, or, if there is less room, as much of it as there is room for; its length is returned
 abbrev pub IsTold : List ℕ → List ℕ → List ℕ → ℕ → Type 0
 IsTold text old now count = (count ≡ length text)
     × ((length text ≤ length old → now ≡ text ++ drop (length text) old) × (length old < length text → now ≡ take (length old) text))

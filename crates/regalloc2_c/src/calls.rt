@@ -12,7 +12,7 @@ use regalloc2::{Function, MachineEnv, allocate_without_checker, run_tested};
 use regalloc2_serialize::flat::words_of;
 use std::alloc::Global;
 
-/// Returns the words of the output that is allocated to `f`.
+/// The words of the output that is allocated to a function.
 fn allocated<F: Function>(alloc: Global, f: &F, env: &MachineEnv) -> Result<Vec<u32>, Failure>
     ensures ok { IfOk result (λ v. IsAllocatedOutput (F.function f.now) (machine_of env.now) v.items) }
     ensures err { IfErr result (IsAllocateFailure (F.function f.now) (machine_of env.now)) }
@@ -21,7 +21,10 @@ fn allocated<F: Function>(alloc: Global, f: &F, env: &MachineEnv) -> Result<Vec<
         Ok(output) => output,
         Err(error) => return Err(failure_of(&error)),
     };
-    checked(alloc, f, env, &output)?;
+    match checked(alloc, f, env, &output) {
+        Ok(()) => {}
+        Err(failure) => return Err(failure),
+    }
     let Ok(numbers) = output.stored() else {
         return Err(Failure::NoMemory);
     };
@@ -31,7 +34,7 @@ fn allocated<F: Function>(alloc: Global, f: &F, env: &MachineEnv) -> Result<Vec<
     }
 }
 
-/// Returns the words of the output that a tested run gives for `f`.
+/// The words of the output that a tested run gives for a function.
 fn tested<F: Function>(alloc: Global, f: &F, env: &MachineEnv) -> Result<Vec<u32>, Failure>
     ensures ok { IfOk result (λ v. IsTestedOutput (F.function f.now) (machine_of env.now) v.items) }
     ensures err { IfErr result (IsRunFailure (F.function f.now) (machine_of env.now)) }
@@ -53,30 +56,38 @@ fn tested<F: Function>(alloc: Global, f: &F, env: &MachineEnv) -> Result<Vec<u32
 pub fn allocated_of_words(alloc: Global, words: &[u32]) -> Result<Vec<u32>, Failure>
     ensures { IsAllocationFound (AreWordsOf words.now) (AreUnreadWords words.now) result }
 {
-    let f = function_from_words(alloc, words)?;
-    allocated(alloc, &f, f.machine_env())
+    match function_from_words(alloc, words) {
+        Ok(f) => allocated(alloc, &f, f.machine_env()),
+        Err(failure) => Err(failure),
+    }
 }
 
 /// The words of the output that is allocated to the function with the JSON text `bytes`.
 pub fn allocated_of_json(alloc: Global, bytes: &[u8]) -> Result<Vec<u32>, Failure>
     ensures { IsAllocationFound (NumbersName (IsJsonOf bytes.now)) (NumbersNameNone (IsJsonOf bytes.now) 0) result }
 {
-    let f = function_from_json(alloc, bytes)?;
-    allocated(alloc, &f, f.machine_env())
+    match function_from_json(alloc, bytes) {
+        Ok(f) => allocated(alloc, &f, f.machine_env()),
+        Err(failure) => Err(failure),
+    }
 }
 
 /// The words of the output that is allocated to the function in the text `bytes`.
 pub fn allocated_of_text(alloc: Global, bytes: &[u8]) -> Result<Vec<u32>, Failure>
     ensures { IsAllocationFound (NumbersName (IsTextInput bytes.now)) (NumbersNameNone (IsTextInput bytes.now) (1 + length bytes.now)) result }
 {
-    let f = function_from_text(alloc, bytes)?;
-    allocated(alloc, &f, f.machine_env())
+    match function_from_text(alloc, bytes) {
+        Ok(f) => allocated(alloc, &f, f.machine_env()),
+        Err(failure) => Err(failure),
+    }
 }
 
 /// The words of the output that a tested run gives for the function that `words` lay out.
 pub fn tested_of_words(alloc: Global, words: &[u32]) -> Result<Vec<u32>, Failure>
     ensures { IsRunFound words.now result }
 {
-    let f = function_from_words(alloc, words)?;
-    tested(alloc, &f, f.machine_env())
+    match function_from_words(alloc, words) {
+        Ok(f) => tested(alloc, &f, f.machine_env()),
+        Err(failure) => Err(failure),
+    }
 }

@@ -35,7 +35,7 @@ pub enum Failure {
     Refused(RegAllocError),
 }
 
-/// Returns the number of `failure`. The header lists the numbers.
+/// The number of a failure. The header lists them.
 pub fn number_of(failure: &Failure) -> u32
     ensures { result ≡ failure_number failure.now }
 {
@@ -54,7 +54,7 @@ pub fn number_of(failure: &Failure) -> u32
     }
 }
 
-/// Returns the failure for `error`, of an allocation without the checker, which has no faults.
+/// The failure that an allocation's error is. Without the checker it has no faults.
 pub fn failure_of(error: &AllocateError) -> Failure
     ensures { result ≡ allocate_failure error.now }
 {
@@ -65,7 +65,7 @@ pub fn failure_of(error: &AllocateError) -> Failure
     }
 }
 
-/// Returns the failure for `error`, of a tested run.
+/// The failure that a tested run's error is.
 pub fn failure_of_run(error: &TestedRunError) -> Failure
     ensures { result ≡ run_failure error.now }
 {
@@ -76,7 +76,7 @@ pub fn failure_of_run(error: &TestedRunError) -> Failure
     }
 }
 
-/// Returns the failure for `fault`, found when words are read in columns.
+/// The failure where words are read in columns.
 pub fn failure_of_columns(fault: StoredFault) -> Failure
     ensures { result ≡ columns_failure fault }
 {
@@ -87,7 +87,7 @@ pub fn failure_of_columns(fault: StoredFault) -> Failure
     }
 }
 
-/// Returns the failure for `fault`, found when an input is read.
+/// The failure where an input is read.
 pub fn failure_to_read(fault: StoredFault) -> Failure
     ensures { result ≡ read_failure fault }
 {
@@ -97,7 +97,7 @@ pub fn failure_to_read(fault: StoredFault) -> Failure
     }
 }
 
-/// Returns the failure for `fault`, found when an output's words are listed.
+/// The failure where an output's words are listed.
 pub fn failure_to_write(fault: StoredFault) -> Failure
     ensures { result ≡ write_failure fault }
 {

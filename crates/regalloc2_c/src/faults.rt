@@ -4,7 +4,7 @@ ghost use Rattle.std.specs.Prelude.{◌≡◌, ◌<◌, ◌∷◌, ◌++◌, [],
 ghost use Rattle.regalloc2_names.specs.RegisterBits.{bits_of_vreg};
 ghost use Rattle.regalloc2.specs.Views.{output_of};
 ghost use Rattle.regalloc2_function.specs.OutputValue.{IsInOrder};
-ghost use Rattle.regalloc2_c.specs.Faults.{first_index, is_placed, operand_index, operand_head, fault_number, fault_head, fault_words, faults_words, cell_fault_words};
+ghost use Rattle.regalloc2_c.specs.Faults.{first_index, is_placed, operand_index, operand_head, fault_head, fault_words, faults_words, cell_fault_words};
 ghost use Rattle.regalloc2_c.specs.Faults.{IsFaultsTold, IsPrepareFailure, IsErrorsFailure, IsCellsTold, fault_vregs};
 
 use super::failure::Failure;
@@ -15,12 +15,6 @@ use regalloc2_checker::CellFault;
 use regalloc2_checker::lookup::place_at;
 use regalloc2_serialize::flat::halves;
 use std::alloc::{AllocError, Global};
-
-/// The number of the fault of an output that isn't in order.
-const MALFORMED_OUTPUT: u32 = 12;
-
-/// The number of the fault of a check that ran out of memory.
-const OUT_OF_MEMORY: u32 = 13;
 
 /// A function and an output of it.
 #[derive(Drop)]
@@ -96,79 +90,76 @@ fn operand_head<F: Function>(
     ]
 }
 
-/// Returns the number of `error` in the checker's texts. The header lists the numbers.
-fn number_of(error: &CheckerError) -> u32
-    ensures { result ≡ fault_number error.now }
-{
-    match error {
-        CheckerError::MissingAllocation { .. } => 1,
-        CheckerError::UnknownValueInAllocation { .. } => 2,
-        CheckerError::ConflictedValueInAllocation { .. } => 3,
-        CheckerError::IncorrectValuesInAllocation { .. } => 4,
-        CheckerError::ConstraintViolated { .. } => 5,
-        CheckerError::AllocationIsNotReg { .. } => 6,
-        CheckerError::AllocationIsNotFixedReg { .. } => 7,
-        CheckerError::AllocationIsNotReuse { .. } => 8,
-        CheckerError::AllocationIsNotStack { .. } => 9,
-        CheckerError::StackToStackMove { .. } => 10,
-        CheckerError::AllocationOutsideLimit { .. } => 11,
-        CheckerError::MalformedOutput => MALFORMED_OUTPUT,
-        CheckerError::Memory => OUT_OF_MEMORY,
-    }
-}
-
-/// Returns the words of the fault `error` up to the list of vregs.
+/// The words of a fault up to the list of vregs.
 fn head_of<F: Function>(judged: &Judged<'_, F>, error: &CheckerError) -> [u32; 8]
     requires { IsInOrder (F.function judged.now.f.now) (output_of judged.now.output.now) }
     ensures { result ≡ fault_head (F.function judged.now.f.now) (output_of judged.now.output.now) error.now }
 {
-    let number = number_of(error);
     let none = Allocation::none();
     match error {
-        CheckerError::MissingAllocation { inst, op } => {
-            operand_head(judged, number, *inst, *op, none, none, 0)
+        CheckerError::MissingAllocation { inst, op } => operand_head(
+            judged, 1, *inst, *op, none, none, 0,
+        ),
+        CheckerError::UnknownValueInAllocation { inst, op, alloc } => {
+            operand_head(judged, 2, *inst, *op, *alloc, none, 0)
         }
-        CheckerError::UnknownValueInAllocation { inst, op, alloc }
-        | CheckerError::ConflictedValueInAllocation { inst, op, alloc }
-        | CheckerError::IncorrectValuesInAllocation {
+        CheckerError::ConflictedValueInAllocation { inst, op, alloc } => {
+            operand_head(judged, 3, *inst, *op, *alloc, none, 0)
+        }
+        CheckerError::IncorrectValuesInAllocation {
             inst,
             op,
             alloc,
             ..
+        } => { operand_head(judged, 4, *inst, *op, *alloc, none, 0) }
+        CheckerError::ConstraintViolated { inst, op, alloc } => {
+            operand_head(judged, 5, *inst, *op, *alloc, none, 0)
         }
-        | CheckerError::ConstraintViolated { inst, op, alloc }
-        | CheckerError::AllocationIsNotReg { inst, op, alloc }
-        | CheckerError::AllocationIsNotFixedReg { inst, op, alloc }
-        | CheckerError::AllocationIsNotStack { inst, op, alloc } => {
-            operand_head(judged, number, *inst, *op, *alloc, none, 0)
+        CheckerError::AllocationIsNotReg { inst, op, alloc } => {
+            operand_head(judged, 6, *inst, *op, *alloc, none, 0)
+        }
+        CheckerError::AllocationIsNotFixedReg { inst, op, alloc } => {
+            operand_head(judged, 7, *inst, *op, *alloc, none, 0)
         }
         CheckerError::AllocationIsNotReuse {
             inst,
             op,
             alloc,
             expected_alloc,
-        } => { operand_head(judged, number, *inst, *op, *alloc, *expected_alloc, 0) }
+        } => { operand_head(judged, 8, *inst, *op, *alloc, *expected_alloc, 0) }
+        CheckerError::AllocationIsNotStack { inst, op, alloc } => {
+            operand_head(judged, 9, *inst, *op, *alloc, none, 0)
+        }
         CheckerError::StackToStackMove { into, from } => {
-            [number, NONE, NONE, 0, 0, into.bits(), from.bits(), 0]
+            [10, NONE, NONE, 0, 0, into.bits(), from.bits(), 0]
         }
         CheckerError::AllocationOutsideLimit {
             inst,
             op,
             alloc,
             range,
-        } => { operand_head(judged, number, *inst, *op, *alloc, none, word_of(range.end)) }
-        CheckerError::MalformedOutput | CheckerError::Memory => {
-            [number, NONE, NONE, 0, 0, 0, 0, 0]
-        }
+        } => { operand_head(judged, 11, *inst, *op, *alloc, none, word_of(range.end)) }
+        CheckerError::MalformedOutput => [12, NONE, NONE, 0, 0, 0, 0, 0],
+        CheckerError::Memory => [13, NONE, NONE, 0, 0, 0, 0, 0],
     }
+}
+
+/// Adds `words` to `to`.
+fn push_words(to: &mut Vec<u32>, words: &[u32]) -> Result<(), AllocError>
+    ensures { OnOk result (to.new.items ≡ to.old.items ++ words.now) }
+{
+    for k in 0..words.len() {
+        to.push(words[k])?;
+    }
+    Ok(())
 }
 
 /// Adds the encodings of `vregs` to `to`.
 fn push_vregs(to: &mut Vec<u32>, vregs: &[VReg]) -> Result<(), AllocError>
     ensures { OnOk result (to.new.items ≡ to.old.items ++ map bits_of_vreg vregs.now) }
 {
-    for vreg in vregs {
-        to.push(vreg.bits() as u32)?;
+    for k in 0..vregs.len() {
+        to.push(vregs[k].bits() as u32)?;
     }
     Ok(())
 }
@@ -184,7 +175,7 @@ fn push_length(to: &mut Vec<u32>, length: usize) -> Result<(), AllocError>
     Ok(())
 }
 
-/// Returns the vregs that the fault `error` names.
+/// The vregs that a fault names.
 fn vregs_of(error: &CheckerError) -> &[VReg]
     ensures { result.now ≡ fault_vregs error.now }
 {
@@ -205,7 +196,7 @@ fn push_fault<F: Function>(
 {
     let head = head_of(judged, error);
     let vregs = vregs_of(error);
-    to.extend_from_slice(&head)?;
+    push_words(to, &head)?;
     push_length(to, vregs.len())?;
     push_vregs(to, vregs)
 }
@@ -220,8 +211,8 @@ fn push_faults<F: Function>(
     ensures { OnOk result (to.new.items ≡ to.old.items ++ faults_words (F.function judged.now.f.now) (output_of judged.now.output.now) errors.now) }
 {
     push_length(to, errors.len())?;
-    for error in errors {
-        push_fault(to, judged, error)?;
+    for k in 0..errors.len() {
+        push_fault(to, judged, &errors[k])?;
     }
     Ok(())
 }
@@ -242,7 +233,7 @@ fn faults_failure<F: Function>(
     }
 }
 
-/// Returns the failure for the checker's `errors`: out of memory if they are `Memory` alone, else the list of them.
+/// The failure that the checker's errors come to: they are `Memory` alone where memory was refused.
 pub fn failure_of_errors<F: Function>(
     alloc: Global,
     judged: &Judged<'_, F>,
@@ -257,8 +248,7 @@ pub fn failure_of_errors<F: Function>(
     }
 }
 
-/// Returns the failure for `error`, with which the checker rejected an output: out of memory, or the output isn't in
-/// order.
+/// The failure where the checker didn't take an output: memory was refused, or it isn't in order.
 pub fn failure_to_prepare(alloc: Global, error: &CheckerError) -> Failure
     ensures { IsPrepareFailure error.now result }
 {
@@ -266,13 +256,13 @@ pub fn failure_to_prepare(alloc: Global, error: &CheckerError) -> Failure
         return Failure::NoMemory;
     }
     let mut words = Vec::new(alloc);
-    match words.extend_from_slice(&[1, MALFORMED_OUTPUT, NONE, NONE, 0, 0, 0, 0, 0, 0]) {
+    match push_words(&mut words, &[1, 12, NONE, NONE, 0, 0, 0, 0, 0, 0]) {
         Ok(()) => Failure::Faults(words),
         Err(_) => Failure::NoMemory,
     }
 }
 
-/// Returns the list of the one fault `fault` of places.
+/// The list of one fault of places.
 fn words_of_cells(fault: CellFault) -> [u32; 10]
     ensures { result ≡ cell_fault_words fault }
 {
@@ -283,11 +273,11 @@ fn words_of_cells(fault: CellFault) -> [u32; 10]
         CellFault::OtherClass(k) => [1, 15, NONE, word_of(k), 0, 0, 0, 0, 0, 0],
         CellFault::Slot(n) => [1, 16, NONE, word_of(n), 0, 0, 0, 0, 0, 0],
         CellFault::Shared(m, n) => [1, 17, NONE, word_of(m), 0, 0, 0, 0, word_of(n), 0],
-        CellFault::Memory => [1, OUT_OF_MEMORY, NONE, NONE, 0, 0, 0, 0, 0, 0],
+        CellFault::Memory => [1, 13, NONE, NONE, 0, 0, 0, 0, 0, 0],
     }
 }
 
-/// Returns the failure for `fault`, a fault of places.
+/// The failure that a fault of places is.
 pub fn failure_of_cells(alloc: Global, fault: CellFault) -> Failure
     ensures { IsCellsTold fault result }
 {
@@ -295,7 +285,7 @@ pub fn failure_of_cells(alloc: Global, fault: CellFault) -> Failure
         return Failure::NoMemory;
     }
     let mut words = Vec::new(alloc);
-    match words.extend_from_slice(&words_of_cells(fault)) {
+    match push_words(&mut words, &words_of_cells(fault)) {
         Ok(()) => Failure::Faults(words),
         Err(_) => Failure::NoMemory,
     }

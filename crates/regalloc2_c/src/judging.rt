@@ -34,7 +34,7 @@ pub struct Parts<'a> {
     pub offsets: &'a [u32],
 }
 
-/// Runs the checker on `output`.
+/// Has the checker judge an output.
 pub fn checked<F: Function>(
     alloc: Global,
     f: &F,
@@ -57,7 +57,7 @@ pub fn checked<F: Function>(
     }
 }
 
-/// Runs the checker on `output`, and tests that its places are cells of their own.
+/// Runs the checker on an output, and tests that its places are cells of their own.
 fn judge<F: Function>(
     alloc: Global,
     f: &F,
@@ -70,14 +70,17 @@ fn judge<F: Function>(
         × AreCells (F.function f.now) (machine_of env.now) (output_of output.now)) }
     ensures err { IfErr result (IsVerdict (F.function f.now) (machine_of env.now) (output_of output.now)) }
 {
-    checked(alloc, f, env, output)?;
+    match checked(alloc, f, env, output) {
+        Ok(()) => {}
+        Err(failure) => return Err(failure),
+    }
     match test_cells(alloc, f, env, output) {
         Ok(()) => Ok(()),
         Err(fault) => Err(failure_of_cells(alloc, fault)),
     }
 }
 
-/// Returns the numbers of the output that `words` lay out.
+/// The numbers of the output that words lay out.
 fn stored_output(alloc: Global, words: &[u32]) -> Result<StoredOutput, Failure>
     ensures ok { IfOk result (AreOutputWords words.now) }
     ensures err { IfErr result (IsNoStoredOutput (AreOutputWords words.now)) }
@@ -160,19 +163,27 @@ fn output_from_parts(alloc: Global, parts: Parts<'_>) -> Result<Output, Failure>
     ensures err { IfErr result (NamesNoOutput (ArePartsOf parts.entry.num_spillslots parts.entry.moves.now parts.entry.places.now
         parts.entry.offsets.now)) }
 {
-    let edits = moves_from(alloc, parts.moves)?;
-    let allocs = places_from(alloc, parts.places)?;
-    let inst_alloc_offsets = copy_of(alloc, parts.offsets)?;
-    Ok(Output {
-        num_spillslots: parts.num_spillslots as usize,
-        edits,
-        allocs,
-        inst_alloc_offsets,
-        debug_locations: Vec::new(alloc),
-    })
+    let edits = match moves_from(alloc, parts.moves) {
+        Ok(edits) => edits,
+        Err(failure) => return Err(failure),
+    };
+    let allocs = match places_from(alloc, parts.places) {
+        Ok(allocs) => allocs,
+        Err(failure) => return Err(failure),
+    };
+    match copy_of(alloc, parts.offsets) {
+        Ok(inst_alloc_offsets) => Ok(Output {
+            num_spillslots: parts.num_spillslots as usize,
+            edits,
+            allocs,
+            inst_alloc_offsets,
+            debug_locations: Vec::new(alloc),
+        }),
+        Err(failure) => Err(failure),
+    }
 }
 
-/// Returns the output that `numbers` name.
+/// The output that numbers name.
 fn output_from(alloc: Global, numbers: &StoredOutput) -> Result<Output, Failure>
     ensures ok { IfOk result (λ o. NumbersNameOutput numbers.now (output_of o)) }
     ensures err { IfErr result (λ e. (e ≡ Failure.NoMemory) ⊎ ((e ≡ Failure.BadOutput) × (NamesValues numbers.now → ⊥))) }
@@ -195,11 +206,14 @@ fn judge_numbers<F: Function>(
     ensures ok { OnOk result (IsAcceptedOutput (λ o. o ≡ numbers.now) (F.function f.now) (machine_of env.now)) }
     ensures err { IfErr result (IsCheckFailure (λ o. o ≡ numbers.now) (F.function f.now) (machine_of env.now)) }
 {
-    let output = output_from(alloc, numbers)?;
+    let output = match output_from(alloc, numbers) {
+        Ok(output) => output,
+        Err(failure) => return Err(failure),
+    };
     judge(alloc, f, env, &output)
 }
 
-/// Checks the output of `f` that `words` lay out.
+/// Checks an output that words lay out.
 pub fn judged<F: Function>(
     alloc: Global,
     f: &F,
@@ -212,11 +226,14 @@ pub fn judged<F: Function>(
     if !is_framed(f) {
         return Err(Failure::NotFramed);
     }
-    let numbers = stored_output(alloc, words)?;
+    let numbers = match stored_output(alloc, words) {
+        Ok(numbers) => numbers,
+        Err(failure) => return Err(failure),
+    };
     judge_numbers(alloc, f, env, &numbers)
 }
 
-/// Checks the output of `f` in `parts`.
+/// Checks an output that is given in parts.
 fn judged_parts<F: Function>(
     alloc: Global,
     f: &F,
@@ -231,16 +248,24 @@ fn judged_parts<F: Function>(
     if !is_framed(f) {
         return Err(Failure::NotFramed);
     }
-    let output = output_from_parts(alloc, parts)?;
+    let output = match output_from_parts(alloc, parts) {
+        Ok(output) => output,
+        Err(failure) => return Err(failure),
+    };
     judge(alloc, f, env, &output)
 }
 
-/// Checks the output in `parts`, of the function that `words` lay out. If it is accepted, returns no words.
+/// Checks an output, given in parts, of the function that words lay out. No words say that it is accepted.
 pub fn judged_of_words(alloc: Global, words: &[u32], parts: Parts<'_>) -> Result<Vec<u32>, Failure>
     ensures { IsJudgeFound words.now (ArePartsOf parts.entry.num_spillslots parts.entry.moves.now parts.entry.places.now
         parts.entry.offsets.now) result }
 {
-    let f = function_from_words(alloc, words)?;
-    judged_parts(alloc, &f, f.machine_env(), parts)?;
-    Ok(Vec::new(alloc))
+    let f = match function_from_words(alloc, words) {
+        Ok(f) => f,
+        Err(failure) => return Err(failure),
+    };
+    match judged_parts(alloc, &f, f.machine_env(), parts) {
+        Ok(()) => Ok(Vec::new(alloc)),
+        Err(failure) => Err(failure),
+    }
 }

@@ -23,7 +23,7 @@ fn words_with_class(number: u32, class: RegClass) -> [u32; 3]
     [number, class.code() as u32, NONE]
 }
 
-/// Returns the words of the condition `misfit` of a machine: its number, its class and its register.
+/// The words of the condition of a machine that fails: its number, its class and its register.
 pub fn words_of_misfit(misfit: MachineMisfit) -> [u32; 3]
     ensures { result ≡ misfit_words misfit }
 {
@@ -41,7 +41,7 @@ pub fn words_of_misfit(misfit: MachineMisfit) -> [u32; 3]
     }
 }
 
-/// Returns the two blocks, the instruction and the vreg that `error` names.
+/// The two blocks, the instruction and the vreg that an allocation's error names.
 pub fn words_of_refusal(error: RegAllocError) -> [u32; 4]
     ensures { result ≡ refusal_payload error }
 {

@@ -26,7 +26,7 @@ pub fn function_from_words(alloc: Global, words: &[u32]) -> Result<FlatFunction,
     }
 }
 
-/// Returns the function and the machine that the numbers of `stored` name.
+/// The function and the machine that numbers name.
 fn function_from(alloc: Global, stored: &StoredFunction) -> Result<SerializableFunction, Failure>
     ensures ok { IfOk result (λ f. NumbersNameFunction stored.now (function_of_serializable f) (machine_of f.machine)) }
     ensures err { IfErr result (IsBadFunction stored.now) }
@@ -65,11 +65,13 @@ pub fn function_from_json(alloc: Global, bytes: &[u8]) -> Result<SerializableFun
     ensures ok { IfOk result (λ f. NumbersName (IsJsonOf bytes.now) (function_of_serializable f) (machine_of f.machine)) }
     ensures err { IfErr result (NumbersNameNone (IsJsonOf bytes.now) 0) }
 {
-    let stored = stored_from_json(alloc, bytes)?;
-    function_from(alloc, &stored)
+    match stored_from_json(alloc, bytes) {
+        Ok(stored) => function_from(alloc, &stored),
+        Err(failure) => Err(failure),
+    }
 }
 
-/// Returns the failure for `error`, of a text that is read.
+/// The failure where a text is read.
 fn failure_of_text(error: TextError<'_>) -> Failure
     ensures { IsTextFailure error.entry result }
 {
@@ -98,6 +100,8 @@ pub fn function_from_text(alloc: Global, bytes: &[u8]) -> Result<SerializableFun
     ensures ok { IfOk result (λ f. NumbersName (IsTextInput bytes.now) (function_of_serializable f) (machine_of f.machine)) }
     ensures err { IfErr result (NumbersNameNone (IsTextInput bytes.now) (1 + length bytes.now)) }
 {
-    let stored = stored_from_text(alloc, bytes)?;
-    function_from(alloc, &stored)
+    match stored_from_text(alloc, bytes) {
+        Ok(stored) => function_from(alloc, &stored),
+        Err(failure) => Err(failure),
+    }
 }

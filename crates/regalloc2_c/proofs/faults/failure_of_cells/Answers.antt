@@ -5,7 +5,7 @@ pub returns-in-Ok : goal.returns-in-Ok
 returns-in-Ok c =
     inr (
       c.in_default.not-Memory,
-      c.extend_from_slice.new.self,
+      c.push_words.new.to,
       refl,
       c.in-Ok.ensures ∙ ap (λ xs. xs ++ c.words_of_cells.result) c.new-words.ensures.items ∙ c.words_of_cells.ensures,
     )

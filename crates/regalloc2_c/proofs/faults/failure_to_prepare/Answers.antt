@@ -4,4 +4,4 @@ use Rattle.regalloc2_c.proofs.faults.failure_to_prepare.Goals as goal
 
 pub returns-in-Ok : goal.returns-in-Ok
 returns-in-Ok c =
-    inr (c.in_default.not-Memory, inr (c.extend_from_slice.new.self, refl, c.in-Ok.ensures ∙ ap (λ xs. xs ++ malformed_words) c.new-words.ensures.items))
+    inr (c.in_default.not-Memory, inr (c.push_words.new.to, refl, c.in-Ok.ensures ∙ ap (λ xs. xs ++ malformed_words) c.new-words.ensures.items))

@@ -4,5 +4,5 @@ use Rattle.regalloc2.specs.Views.{output_of}
 use Rattle.regalloc2_c.specs.Faults.{fault_words}
 use Rattle.regalloc2_c.proofs.faults.push_faults.Given as goal
 
-abbrev pub invariant-loop-error : goal.invariant-loop-error
-invariant-loop-error g l = l.to.items ≡ l.fn.to.items ++ length l.errors ∷ flat_map (fault_words (g.F.Function.function l.judged.f.now) (output_of l.judged.output.now)) (take l.error-index l.errors)
+abbrev pub invariant-loop-k : goal.invariant-loop-k
+invariant-loop-k g l = l.to.items ≡ l.fn.to.items ++ length l.errors ∷ flat_map (fault_words (g.F.Function.function l.judged.f.now) (output_of l.judged.output.now)) (take l.k l.errors)
