@@ -189,9 +189,15 @@ enum {
 /* The version of the library that this header is shipped with, as CHANGELOG.md counts. */
 #define RA2_RELEASE "0.1.0"
 
-/* 65536 times the version of the layouts, and how many calls this header declares. The shared library is named by the version of the layouts. */
+/* 65536 times the version of the layouts, and how many calls this header declares, but for regalloc2_c_build. The shared library is named by the
+   version of the layouts. */
 #define RA2_VERSION 0x00020009u
 uint32_t regalloc2_c_version(void);
+
+/* Which library is linked: release, commit, and whether `rt lib` proved it, as in "0.1.0 1f2e3d4c, proved". Returns how many bytes that takes, without
+   a zero at the end; at most `text_len` are written to `text`. The libraries of `make install` and `make dist` have this call; the archive in
+   crates/regalloc2_c/out hasn't. */
+size_t regalloc2_c_build(uint8_t *text, size_t text_len);
 
 /* A status, or a fault's number, in English. Returns how many bytes that takes, without a zero at the end; at most
    `text_len` are written, and what is behind them stays as it was. */

@@ -94,6 +94,23 @@ packed() (
         "$cc" -Iinclude -o demo examples/demo.c -Llib -lregalloc2_c -Wl,-rpath,"$PWD/lib" && ./demo examples/loop.txt
 )
 
+# Whether the installed library says which commit it was built from, and writes no more of that than fits.
+build_said() {
+    cat >"$made/build.c" <<'END'
+#include <regalloc2_c.h>
+#include <stdio.h>
+int main(void) {
+    uint8_t text[200], short_text[4] = {0};
+    size_t len = regalloc2_c_build(text, sizeof text);
+    int is_cut = regalloc2_c_build(short_text, 3) == len && short_text[3] == 0 && short_text[2] == text[2];
+    printf("%.*s\n", (int)len, (const char *)text);
+    return !is_cut || regalloc2_c_build(NULL, 0) != len;
+}
+END
+    "$cc" -std=c11 -Wall -Wextra -Werror -I"$made/installed/include" -o "$made/bin/build" "$made/build.c" "$made/installed/lib/libregalloc2_c.a" &&
+        "$made/bin/build" | grep -E "^[0-9.]+ $(git -C "$top" rev-parse --short HEAD)(, with uncommitted changes)?, proved\$"
+}
+
 # Whether header, installed library and programs have the version of CHANGELOG.md.
 versions() {
     version=$(sed -n 's/^## \([0-9.]*\)$/\1/p' "$top/CHANGELOG.md" | head -n 1)
@@ -134,6 +151,7 @@ if command -v pkg-config >/dev/null; then
 fi
 step "the library is packed, and demo.c is built from the archive" packed
 step "the versions agree" versions
+step "the library says which commit it is of" build_said
 "$made/bin/example_toy" >"$made/toy.s" && compiled_c toy "$here/toy.c" -x assembler "$made/toy.s"
 "$made/bin/compile" "$top/crates/compile/data/sum.txt" >"$made/compiled.s" &&
     compiled_c compiled "$here/compiled.c" -x assembler "$made/compiled.s"
