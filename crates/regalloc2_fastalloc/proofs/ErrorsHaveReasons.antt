@@ -15,8 +15,8 @@ use Rattle.regalloc2_function.proofs.TableDecidesSSA.{only_memory}
 use Rattle.regalloc2_fastalloc_state.specs.Validate.NoLimits.{IsTakenOperand}
 use Rattle.regalloc2_fastalloc_walk.specs.Findings.{AllPassTests}
 use Rattle.regalloc2_fastalloc_state.specs.OutOfResources.{Lacks, IsResourceError}
-use Rattle.regalloc2_fastalloc.specs.ErrorReason.{HasFewOperands, IsValidIfChecked, PassesAllChecks, IsReason, SomeDoesNotFit}
-use Rattle.regalloc2_fastalloc.specs.Survey.{LacksIfPassed, IsRefusal}
+use Rattle.regalloc2_fastalloc.specs.ErrorReason.{PassesAllChecks, IsReason}
+use Rattle.regalloc2_fastalloc.specs.Survey.{LacksIfPassed, IsRefusal, SomeDoesNotFit}
 use Rattle.regalloc2_semantics.specs.Places.{units_at_most}
 use Rattle.regalloc2_function.specs.Reasons.IsFunctionFault.{memory, misshapen, unsound, clashing}
 
@@ -44,7 +44,7 @@ no_fixed_fault : (f : FunctionValue) (env : MachineValue) {e : RegAllocError} �
 no_fixed_fault f env w (i, is, inl first) = first.fails (All-get_or (ReusesAreSound env) f.insts i no_inst first.there w.reuses)
 no_fixed_fault f env w (i, is, inr (sound, first)) = first.fails (All-get_or FixedAvoidClobbers f.insts i no_inst first.there w.fixed)
 
-shape_reason : (f : FunctionValue) (env : MachineValue) (asked : Bool) {e : RegAllocError} → HasFewOperands f → asked ≡ true → IsShapeFault f e →
+shape_reason : (f : FunctionValue) (env : MachineValue) (asked : Bool) {e : RegAllocError} → operand_count f < 2 ^ 32 → asked ≡ true → IsShapeFault f e →
     IsReason f env asked e
 shape_reason f env asked p on h = shape_cases h (λ w. shape_refused f (shape_of f env w) h)
   where
@@ -55,7 +55,7 @@ shape_reason f env asked p on h = shape_cases h (λ w. shape_refused f (shape_of
     shape_cases (critical b q blocks follow agree h fork) malformed = (p, on, malformed, misshapen (critical b q blocks follow agree h fork))
     shape_cases (operands b blocks follow agree edges h) malformed = (p, on, malformed, misshapen (operands b blocks follow agree edges h))
 
-soundness_reason : (f : FunctionValue) (env : MachineValue) (asked : Bool) {e : RegAllocError} → HasFewOperands f → asked ≡ true → HasShape f →
+soundness_reason : (f : FunctionValue) (env : MachineValue) (asked : Bool) {e : RegAllocError} → operand_count f < 2 ^ 32 → asked ≡ true → HasShape f →
     IsSoundnessFault f e → IsReason f env asked e
 soundness_reason f env asked p on shape h = soundness_cases h (λ w. no_soundness_fault f env w h)
   where
@@ -66,13 +66,13 @@ soundness_reason f env asked p on shape h = soundness_cases h (λ w. no_soundnes
     soundness_cases (arguments b entry end h) malformed = (p, on, malformed, unsound shape (arguments b entry end h))
     soundness_cases (definitions v i entry end fit h) malformed = (p, on, malformed, unsound shape (definitions v i entry end fit h))
 
-fixed_reason : (f : FunctionValue) (env : MachineValue) (asked : Bool) (e : RegAllocError) → HasFewOperands f → asked ≡ true → HasShape f → HasSoundness f →
+fixed_reason : (f : FunctionValue) (env : MachineValue) (asked : Bool) (e : RegAllocError) → operand_count f < 2 ^ 32 → asked ≡ true → HasShape f → HasSoundness f →
     IsFixedFault f env e → IsReason f env asked e
 fixed_reason f env asked e p on shape sound h =
     rw h.1 (inl (p, on, λ w. no_fixed_fault f env w h, clashing shape sound (h.0, refl, h.2)))
 
 -- an error is a reason, where its test is required
-pub fault_is_reason : (f : FunctionValue) (env : MachineValue) (asked : Bool) {e : RegAllocError} → HasFewOperands f → asked ≡ true → IsFunctionFault f env e →
+pub fault_is_reason : (f : FunctionValue) (env : MachineValue) (asked : Bool) {e : RegAllocError} → operand_count f < 2 ^ 32 → asked ≡ true → IsFunctionFault f env e →
     IsReason f env asked e
 fault_is_reason f env asked p on memory = p
 fault_is_reason f env asked p on (misshapen h) = shape_reason f env asked p on h
@@ -103,7 +103,7 @@ passed_not_refused f e all (i, is, inl limited) = limited.fails (passed_unlimite
 passed_not_refused f e all (i, is, inr (unlimited, branch)) = branch.fails (all i branch.there).branch
 
 -- what may be lacking is a reason if all operands pass their tests; else the refusal is
-pub allocation_reason : (f : FunctionValue) (env : MachineValue) (asked : Bool) → HasFewOperands f → IsValidIfChecked f env asked → (error e : RegAllocError) →
+pub allocation_reason : (f : FunctionValue) (env : MachineValue) (asked : Bool) → operand_count f < 2 ^ 32 → (asked ≡ true → IsWellFormed env f) → (error e : RegAllocError) →
     LacksIfPassed f env error → IsRefusal f e ⊎ ((e ≡ error) × AllPassTests f) → IsReason f env asked e
 allocation_reason f env asked few owed error e lacks (inl r) = subst (IsReason f env asked) (sym r.1) (inr (few, owed, r.2))
 allocation_reason f env asked few owed error e lacks (inr (is, all)) = subst (IsReason f env asked) (sym is)
@@ -111,7 +111,7 @@ allocation_reason f env asked few owed error e lacks (inr (is, all)) = subst (Is
     (record { first = few; well_formed = owed; unlimited = passed_unlimited f all; branches = λ i lt. (all i lt).branch }) error (lacks all))
 
 -- where operands are few, no error says that they are too many
-pub counted_alone : {T : Type 0} (f : FunctionValue) (env : MachineValue) (asked : Bool) (r : Result T RegAllocError) → HasFewOperands f →
+pub counted_alone : {T : Type 0} (f : FunctionValue) (env : MachineValue) (asked : Bool) (r : Result T RegAllocError) → operand_count f < 2 ^ 32 →
     IfErr r (IsReason f env asked) → (r ≡ Err TooManyOperands) ↔ (2 ^ 32 ≤ operand_count f)
 counted_alone {T = T} f env asked r few h = (
   λ e. subst (λ (s : Result T RegAllocError). IfErr s (IsReason f env asked)) e h,

@@ -117,8 +117,9 @@ UsesAreDefined f = EachBlock f (λ n b.
     EachInst f b (λ i inst. EachOperand inst (λ k o. is_reading o ≡ true → IsDefinedBy f o.vreg (before i)))
     × ((k : ℕ) → k < length b.succs → All (λ v. IsDefinedBy f v (after (last_of b))) (slice_index_or b.arguments k [])))
 
-abbrev pub IsReuse : OperandConstraint → ℕ → Type 0
-IsReuse k n = k ≡ Reuse n
+-- operand `k` is reused: an operand of the instruction has the constraint to reuse it
+abbrev pub IsReused : InstValue → ℕ → Type 0
+IsReused i k = (j : ℕ) × (d : OperandValue) × (j < length i.operands) × ((slice_index_or i.operands j d).constraint ≡ Reuse k)
 
 -- a constraint that a reused operand may have
 abbrev pub MayBeReused : MachineValue → RegClass → OperandConstraint → Type 0
@@ -131,17 +132,17 @@ MayBeReused env class (Limit n) = ⊥
 
 -- reuses are late definitions of early uses, each of its own
 pub record ReusesAreSound (env : MachineValue) (i : InstValue) : Type 0 where
-  pub definitions : EachOperand i (λ k o. (n : ℕ) → IsReuse o.constraint n → (o.kind ≡ Def) × (o.position ≡ Late))
-  pub targets : EachOperand i (λ k o. (n : ℕ) (d : OperandValue) → IsReuse o.constraint n → (n < length i.operands)
+  pub definitions : EachOperand i (λ k o. (n : ℕ) → o.constraint ≡ Reuse n → (o.kind ≡ Def) × (o.position ≡ Late))
+  pub targets : EachOperand i (λ k o. (n : ℕ) (d : OperandValue) → o.constraint ≡ Reuse n → (n < length i.operands)
       × (let u : OperandValue = slice_index_or i.operands n d in (u.kind ≡ Use) × (u.position ≡ Early) × (is_reading u ≡ true) × (u.vreg.class ≡ o.vreg.class)
       × MayBeReused env u.vreg.class u.constraint))
-  pub apart : (j k n : ℕ) (d e : OperandValue) → j < length i.operands → k < length i.operands → IsReuse (slice_index_or i.operands j d).constraint n →
-      IsReuse (slice_index_or i.operands k e).constraint n → j ≡ k
+  pub apart : (j k n : ℕ) (d e : OperandValue) → j < length i.operands → k < length i.operands → (slice_index_or i.operands j d).constraint ≡ Reuse n →
+      (slice_index_or i.operands k e).constraint ≡ Reuse n → j ≡ k
 
 -- no definition, late use or reused early use is fixed to a clobber
 abbrev pub FixedAvoidClobbers : InstValue → Type 0
 FixedAvoidClobbers i = EachOperand i (λ k o. (r : Register) → o.constraint ≡ FixedReg r → (o.kind ≡ Def) ⊎ (o.position ≡ Late)
-    ⊎ ((j : ℕ) × (d : OperandValue) × (j < length i.operands) × IsReuse (slice_index_or i.operands j d).constraint k) → has_register i.clobbers r ≡ false)
+    ⊎ IsReused i k → has_register i.clobbers r ≡ false)
 
 -- a structurally valid function: its blocks and terminators are sound, and its arguments are counted
 pub record IsFramed (f : FunctionValue) : Type 0 where
@@ -167,11 +168,8 @@ pub record IsWellFormed (env : MachineValue) (f : FunctionValue) : Type 0 where
   pub fixed : All FixedAvoidClobbers f.insts
 
 -- no operand has `Limit`
-abbrev pub IsUnlimited : OperandValue → Type 0
-IsUnlimited o = (n : ℕ) → o.constraint ≡ Limit n → ⊥
-
 abbrev pub AreUnlimited : InstValue → Type 0
-AreUnlimited i = (k : ℕ) → k < length i.operands → IsUnlimited (op_at i.operands k)
+AreUnlimited i = (k : ℕ) → k < length i.operands → (n : ℕ) → (op_at i.operands k).constraint ≡ Limit n → ⊥
 
 -- the place of an operand under a constraint is known before registers are chosen: a register by name, or a stack place if need be
 abbrev pub IsInPlace : OperandConstraint → Type 0
@@ -182,9 +180,6 @@ IsInPlace (FixedReg r) = Unit {0}
 IsInPlace (Reuse n) = ⊥
 IsInPlace (Limit n) = Unit {0}
 
-abbrev pub DefinesInPlace : OperandValue → Type 0
-DefinesInPlace o = is_def o.kind ≡ true → IsInPlace o.constraint
-
--- a branch defines in such places alone
+-- each definition of a branch is under a constraint whose place is known before registers are chosen
 abbrev pub BranchDefinesInPlace : InstValue → Type 0
-BranchDefinesInPlace i = i.is_branch ≡ true → (k : ℕ) → k < length i.operands → DefinesInPlace (op_at i.operands k)
+BranchDefinesInPlace i = i.is_branch ≡ true → (k : ℕ) → k < length i.operands → is_def (op_at i.operands k).kind ≡ true → IsInPlace (op_at i.operands k).constraint

@@ -9,11 +9,8 @@ use Rattle.regalloc2_names.specs.Register.{Register, class_code, has_register}
 use Rattle.regalloc2_names.specs.Operand.{OperandValue, is_def, is_late, is_fixed_nonallocatable}
 use Rattle.regalloc2_function.specs.FunctionValue.{FunctionValue, InstValue, EachOperand}
 use Rattle.regalloc2_function.specs.Machine.{MachineValue, is_allocatable, scratch_of, IsFixedStackSlot, count_below, register_number, allocatable_count}
+use Rattle.regalloc2_function.specs.WellFormed.{IsReused}
 use Rattle.regalloc2_function.specs.Fitting.{NamesClass}
-
--- an operand holds the early, or the late, part of its instruction; a use that is reused holds both
-abbrev pub IsReused : InstValue → ℕ → Type 0
-IsReused i k = (j : ℕ) × (d : OperandValue) × (j < length i.operands) × ((slice_index_or i.operands j d).constraint ≡ Reuse k)
 
 abbrev pub is_reuse : OperandConstraint → Bool
 is_reuse Any = false
@@ -23,9 +20,11 @@ is_reuse (FixedReg r) = false
 is_reuse (Reuse n) = true
 is_reuse (Limit n) = false
 
+-- an operand takes the early position of its instruction: each but a late definition that is no reuse
 abbrev pub HoldsEarly : OperandValue → Type 0
 HoldsEarly o = (is_def o.kind && is_late o.position && not (is_reuse o.constraint)) ≡ false
 
+-- operand `k` takes the late position of its instruction: each but an early use that isn't reused
 abbrev pub HoldsLate : InstValue → ℕ → OperandValue → Type 0
 HoldsLate i k o = (not (is_def o.kind) && not (is_late o.position)) ≡ true → IsReused i k
 

@@ -16,8 +16,9 @@ use Rattle.regalloc2_function.specs.Machine.{MachineValue, empty_set, is_allocat
 use Rattle.regalloc2_semantics.specs.Debug.{ReadsAt, PassesAt, UsesAt, IsLastUse, IsLastPoint, IsKept}
 use Rattle.regalloc2_semantics.specs.Debug.IsFirstPoint.{of_definition as first_of_definition}
 use Rattle.regalloc2_semantics.specs.Debug.IsLastPoint.{of_late_use, of_early_use, of_argument, of_definition}
-use Rattle.regalloc2_semantics.specs.Fits.{Fits, HoldsEarly, HoldsLate, IsReused, need_of, spare_of}
+use Rattle.regalloc2_semantics.specs.Fits.{Fits, HoldsEarly, HoldsLate, need_of, spare_of}
 use Rattle.regalloc2_function.specs.Fitting.{NamesClass}
+use Rattle.regalloc2_function.specs.WellFormed.{IsReused}
 use Rattle.regalloc2_tests.proofs.WorkedPaths.{v, op, block, with_blocks, def_reg, use_reg}
 
 -- an instruction that defines v0, and one that reads it early

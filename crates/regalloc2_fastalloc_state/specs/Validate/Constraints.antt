@@ -1,19 +1,27 @@
 -- What the tests of operands' constraints say, one instruction at a time.
 use Rattle.std.specs.Prelude.{ℕ, ◌≡◌, ◌<◌, ◌⊎◌, Bool, true, false, List, length}
-use Rattle.regalloc2_names.specs.declared.OperandConstraint.TheVariants.{FixedReg, Reuse}
+use Rattle.regalloc2_names.specs.declared.OperandConstraint.TheVariants.{FixedReg, Limit, Reuse}
 use Rattle.regalloc2_names.specs.declared.OperandKind.TheVariants.{Def, Use}
 use Rattle.regalloc2_names.specs.declared.OperandPos.TheVariants.{Early, Late}
 use Rattle.regalloc2_names.specs.declared.RegClass.{RegClass}
 use Rattle.regalloc2_names.specs.declared.sets.PRegSet.{PRegSet}
 use Rattle.regalloc2_names.specs.Register.{Register, has_register}
-use Rattle.regalloc2_names.specs.Operand.{OperandValue, is_reading}
+use Rattle.regalloc2_names.specs.Operand.{OperandValue, is_def, is_reading}
 use Rattle.regalloc2_function.specs.FunctionValue.{op_at}
 use Rattle.regalloc2_function.specs.Machine.{MachineValue}
-use Rattle.regalloc2_function.specs.WellFormed.{MayBeReused}
+use Rattle.regalloc2_function.specs.WellFormed.{IsInPlace, MayBeReused}
 
 -- an operand that isn't a reuse
 abbrev pub IsNoReuse : OperandValue → Type 0
 IsNoReuse o = (n : ℕ) → o.constraint ≡ Reuse n → ⊥
+
+-- an operand without a limit
+abbrev pub IsUnlimited : OperandValue → Type 0
+IsUnlimited o = (n : ℕ) → o.constraint ≡ Limit n → ⊥
+
+-- an operand that, if it is a definition, is under a constraint whose place is known before registers are chosen
+abbrev pub DefinesInPlace : OperandValue → Type 0
+DefinesInPlace o = is_def o.kind ≡ true → IsInPlace o.constraint
 
 -- a reuse names the operand k
 abbrev pub IsReusedOperand : List OperandValue → ℕ → Type 0

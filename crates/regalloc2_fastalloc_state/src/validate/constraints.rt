@@ -3,13 +3,12 @@
 ghost use Rattle.std.specs.Prelude.{ℕ, ◌≡◌, ◌<◌, ◌↔◌, All, length, true, false, IsTrue, IsFalse, IsOk, OnOk, IfSome, IfNone, IfErr, slice_index_or};
 ghost use Rattle.regalloc2_function.specs.FunctionValue.{inst_at, op_at};
 ghost use Rattle.regalloc2_function.specs.Views.{machine_of};
-ghost use Rattle.regalloc2_function.specs.WellFormed.{MayBeReused, ReusesAreSound, FixedAvoidClobbers, IsUnlimited, AreUnlimited, BranchDefinesInPlace};
-ghost use Rattle.regalloc2_function.specs.WellFormed.{DefinesInPlace};
+ghost use Rattle.regalloc2_function.specs.WellFormed.{MayBeReused, ReusesAreSound, FixedAvoidClobbers, AreUnlimited, BranchDefinesInPlace};
 ghost use Rattle.regalloc2_names.specs.Packing.{IsConstraintOf};
 ghost use Rattle.regalloc2_names.specs.Register.{Register, has_register};
 ghost use Rattle.regalloc2_fastalloc_state.specs.Validate.NoLimits.{IsTakenOperand, AreTaken};
 ghost use Rattle.regalloc2_fastalloc_state.specs.Validate.Constraints.{IsNoReuse, IsReusedOperand, IsReuseTarget, IsSoundReuse, AreReusesApart};
-ghost use Rattle.regalloc2_fastalloc_state.specs.Validate.Constraints.{AvoidsClobbers, OperandAvoidsClobbers};
+ghost use Rattle.regalloc2_fastalloc_state.specs.Validate.Constraints.{AvoidsClobbers, DefinesInPlace, IsUnlimited, OperandAvoidsClobbers};
 ghost use Rattle.regalloc2_function.specs.Reasons.{IsFirstFailing, IsFixedFault, IsUnsupported};
 
 use regalloc2_function::{Function, MachineEnv};
