@@ -8,7 +8,7 @@ use Rattle.regalloc2_names.specs.declared.RegAllocError.TheVariants.{Memory, SSA
 use Rattle.regalloc2_function.specs.FunctionValue.{FunctionValue, BlockValue}
 use Rattle.regalloc2_function.specs.Reasons.{HasShape, IsDefinitionFault, IsShapeFault, IsSoundnessFault}
 use Rattle.regalloc2_function.specs.Reasons.IsShapeFault.{apart, critical, operands, outside, unlisted}
-use Rattle.regalloc2_function.specs.Reasons.IsSoundnessFault.{definitions}
+use Rattle.regalloc2_function.specs.Reasons.IsSoundnessFault.{repeated, undefined}
 use Rattle.regalloc2_function.specs.WellFormed.{ArgumentsCounted, ArgumentsFit, BlocksEnd, EntryIsFirst, SuccessorsAreBlocks}
 use Rattle.regalloc2_function.proofs.ListingsOfFunction.{numbered}
 use Rattle.regalloc2_function.proofs.ListMembers.{all_members, from_flat}
@@ -38,7 +38,9 @@ shape_refused f shape (operands b blocks follow agree edges h) = h.1 (shape.no_o
 pub definition_fault : (f : FunctionValue) → EntryIsFirst f → BlocksEnd f → ArgumentsFit f → (e : RegAllocError) → IsDefinitionFault f e → (e ≡ Memory)
     ⊎ IsSoundnessFault f e
 definition_fault f entry end fit Memory h = inl refl
-definition_fault f entry end fit (SSA v i) h = inr (definitions v i entry end fit h)
+definition_fault f entry end fit (SSA v i) (inl repeat) = inr (repeated v i entry end fit repeat)
+definition_fault f entry end fit (SSA v i) (inr (once, (point, use'))) =
+    inr (undefined (record { vreg = v; inst = i; point = point }) entry end fit once use')
 definition_fault f entry end fit _ h = absurd h
 
 -- arguments of the same classes are as many

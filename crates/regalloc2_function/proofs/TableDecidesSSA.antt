@@ -12,7 +12,7 @@ use Rattle.regalloc2_names.specs.declared.RegAllocError.{RegAllocError}
 use Rattle.regalloc2_names.specs.declared.RegAllocError.TheVariants.{Memory, SSA}
 use Rattle.regalloc2_function.specs.FunctionValue.{FunctionValue}
 use Rattle.regalloc2_function.specs.WellFormed.{BlocksFollow, DefinedOnce, IsDefinedBy, UsesAreDefined}
-use Rattle.regalloc2_function.specs.Reasons.{AreSingle, DefinitionSite, IsDefinitionFault, IsFirstRepeat, IsFirstUndefined, UseSite, definitions_among}
+use Rattle.regalloc2_function.specs.Reasons.{AreSingle, DefinitionSite, IsDefinitionFault, IsFirstIn, IsFirstRepeat, UseSite, definitions_among}
 use Rattle.regalloc2_function.specs.Reasons.{definitions_in, uses_in}
 use Rattle.regalloc2_function.specs.Inside.Definitions.{IsUsable, NamesTaken, NamesUnusable, NotesDefinitions, Table, entry_of}
 use Rattle.regalloc2_function.specs.Inside.TableLength.{CoversDefinitions}
@@ -78,7 +78,8 @@ module _ (f : FunctionValue) (follow : BlocksFollow f) (some : 0 < length f.bloc
       IsDefinitionFault f e
   unusable_fault few noted e h =
       let k = notes_keep n noted in
-      let first : IsFirstUndefined f h.0.vreg h.0.inst = (
+      let first : (point : ℕ) × IsFirstIn (λ u. IsDefinedBy f u.vreg u.point) (uses_in f)
+      (record { vreg = h.0.vreg; inst = h.0.inst; point = point }) = (
         h.0.point,
         record {
           earlier = h.2.earlier;

@@ -1,12 +1,12 @@
 -- Where the tests of a function fail first, as their errors report.
 use Rattle.std.specs.Prelude.{ℕ, ◌≡◌, ◌≢◌, ◌<◌, ◌≤◌, ◌⊎◌, List, [], ◌∷◌, ◌++◌, All, count_by, filter_map, flat_map, length, map, nat_eq, slice_index_or}
 use Rattle.std.specs.Prelude.{Option, None, Some, if◌then◌else◌}
-use Rattle.regalloc2_index.specs.Range.{numbers_from, numbers_of}
+use Rattle.regalloc2_index.specs.Range.{invalid_number, numbers_from, numbers_of}
 use Rattle.regalloc2_names.specs.declared.RegAllocError.{RegAllocError}
 use Rattle.regalloc2_names.specs.declared.RegAllocError.TheVariants.{BB, Branch, CritEdge, DisallowedBranchArg, EntryLivein, Memory, SSA, Unsupported}
 use Rattle.regalloc2_names.specs.Register.{VirtualRegister}
 use Rattle.regalloc2_names.specs.Operand.{OperandValue, is_def, is_reading}
-use Rattle.regalloc2_names.specs.Place.{before, after, invalid_inst}
+use Rattle.regalloc2_names.specs.Place.{before, after}
 use Rattle.regalloc2_function.specs.FunctionValue.{FunctionValue, BlockValue, block_at, inst_at, last_of, InstValue}
 use Rattle.regalloc2_function.specs.WellFormed.{ArgumentsCounted, ArgumentsFit, BlocksEnd, BlocksFollow, DefinedOnce, EndsAt, EntryIsFirst, FollowsAt}
 use Rattle.regalloc2_function.specs.WellFormed.{IsDefinedBy, NoCriticalEdge, NoOperandsIntoJoins, PredecessorsAgree, SuccessorsAreBlocks, UsesAreDefined}
@@ -14,15 +14,9 @@ use Rattle.regalloc2_function.specs.WellFormed.{ArgumentsFitAt, NoOperandsAt, No
 use Rattle.regalloc2_function.specs.WellFormed.{BranchDefinesInPlace}
 use Rattle.regalloc2_function.specs.Machine.{MachineValue}
 
--- the first block that fails a test
-abbrev pub IsFirstToFail : FunctionValue → (ℕ → BlockValue → Type 0) → ℕ → Type 0
-IsFirstToFail f P b = (b < length f.blocks) × (P b (block_at f b) → ⊥) × ((c : ℕ) → c < b → P c (block_at f c))
-
--- the first instruction that fails a test
-pub record IsFirstFailing (f : FunctionValue) (P : InstValue → Type 0) (i : ℕ) : Type 0 where
-  pub there : i < length f.insts
-  pub fails : P (inst_at f i) → ⊥
-  pub passed : (j : ℕ) → j < i → P (inst_at f j)
+-- the first number below `n` that fails a test
+abbrev pub IsFirst : ℕ → (ℕ → Type 0) → ℕ → Type 0
+IsFirst n P i = (i < n) × (P i → ⊥) × ((j : ℕ) → j < i → P j)
 
 -- the first of a list that fails: all before it pass
 pub record IsFirstIn {X : Type 0} (P : X → Type 0) (xs : List X) (x : X) : Type 0 where
@@ -32,10 +26,6 @@ pub record IsFirstIn {X : Type 0} (P : X → Type 0) (xs : List X) (x : X) : Typ
   pub passed : All P earlier
   pub fails : P x → ⊥
 
--- the number that names no instruction
-abbrev pub no_instruction : ℕ
-no_instruction = invalid_inst
-
 -- a definition of a vreg: the instruction that makes it, none for a parameter, and the point from which on it may be used
 pub record DefinitionSite : Type 0 where
   pub vreg : VirtualRegister
@@ -44,7 +34,7 @@ pub record DefinitionSite : Type 0 where
 
 -- a parameter of a block that begins at an instruction
 abbrev pub param_definition : ℕ → VirtualRegister → DefinitionSite
-param_definition first v = record { vreg = v; inst = no_instruction; usable = before first }
+param_definition first v = record { vreg = v; inst = invalid_number; usable = before first }
 
 -- the definition that an operand of an instruction makes, if it does
 abbrev pub operand_definition : ℕ → OperandValue → Option DefinitionSite
@@ -112,23 +102,12 @@ block_uses f b = flat_map (inst_reads f) (numbers_of b.range) ++ flat_map (passe
 abbrev pub uses_in : FunctionValue → List UseSite
 uses_in f = flat_map (block_uses f) f.blocks
 
--- the first use of what is not defined by then
-abbrev pub IsFirstUndefined : FunctionValue → VirtualRegister → ℕ → Type 0
-IsFirstUndefined f v i = (point : ℕ) × IsFirstIn (λ u. IsDefinedBy f u.vreg u.point) (uses_in f) (record { vreg = v; inst = i; point = point })
-
 -- why the definitions of a function are rejected: out of memory, or else the first repeat, or if there is none the first use of what is not defined by then
 abbrev pub IsDefinitionFault : FunctionValue → RegAllocError → Type 0
 IsDefinitionFault f Memory = Unit {0}
-IsDefinitionFault f (SSA v i) = IsFirstRepeat f v i ⊎ (DefinedOnce f × IsFirstUndefined f v i)
+IsDefinitionFault f (SSA v i) = IsFirstRepeat f v i
+    ⊎ (DefinedOnce f × ((point : ℕ) × IsFirstIn (λ u. IsDefinedBy f u.vreg u.point) (uses_in f) (record { vreg = v; inst = i; point = point })))
 IsDefinitionFault f _ = ⊥
-
--- the first that is no block, of the entry and then all successors as listed
-abbrev pub IsFirstOutside : FunctionValue → ℕ → Type 0
-IsFirstOutside f s = IsFirstIn (λ s. s < length f.blocks) (f.entry ∷ flat_map (λ b. b.succs) f.blocks) s
-
--- the first of a block's predecessors that has several successors
-abbrev pub IsFirstFork : FunctionValue → BlockValue → ℕ → Type 0
-IsFirstFork f b p = IsFirstIn (λ p. length (block_at f p).succs ≤ 1) b.preds p
 
 -- what the tests of blocks and edges test
 pub record HasShape (f : FunctionValue) : Type 0 where
@@ -138,15 +117,16 @@ pub record HasShape (f : FunctionValue) : Type 0 where
   pub no_critical_edge : NoCriticalEdge f
   pub no_operands_into_joins : NoOperandsIntoJoins f
 
--- why the blocks and edges of a function are rejected: the first of these tests that fails, and where it fails first
+-- Why the blocks and edges of a function are rejected: the first of these tests that fails, and where it fails first. The entry and then all successors,
+-- as listed, are tested to be blocks. A critical edge comes from the first predecessor that has several successors.
 pub data IsShapeFault (f : FunctionValue) : RegAllocError → Type 0 where
-  outside : (s : ℕ) → IsFirstOutside f s → IsShapeFault f (BB s)
-  apart : (b : ℕ) → SuccessorsAreBlocks f → IsFirstToFail f (FollowsAt f) b → IsShapeFault f (BB b)
-  unlisted : (b : ℕ) → SuccessorsAreBlocks f → BlocksFollow f → IsFirstToFail f (PredecessorsAt f) b → IsShapeFault f (BB b)
-  critical : (b p : ℕ) → SuccessorsAreBlocks f → BlocksFollow f → PredecessorsAgree f → IsFirstToFail f (NotCriticalAt f) b → IsFirstFork f (block_at f b) p →
-      IsShapeFault f (CritEdge p b)
-  operands : (b : ℕ) → SuccessorsAreBlocks f → BlocksFollow f → PredecessorsAgree f → NoCriticalEdge f → IsFirstToFail f (NoOperandsAt f) b →
-      IsShapeFault f (DisallowedBranchArg (last_of (block_at f b)))
+  outside : (s : ℕ) → IsFirstIn (λ s. s < length f.blocks) (f.entry ∷ flat_map (λ b. b.succs) f.blocks) s → IsShapeFault f (BB s)
+  apart : (b : ℕ) → SuccessorsAreBlocks f → IsFirst (length f.blocks) (λ n. FollowsAt f n (block_at f n)) b → IsShapeFault f (BB b)
+  unlisted : (b : ℕ) → SuccessorsAreBlocks f → BlocksFollow f → IsFirst (length f.blocks) (λ n. PredecessorsAt f n (block_at f n)) b → IsShapeFault f (BB b)
+  critical : (b p : ℕ) → SuccessorsAreBlocks f → BlocksFollow f → PredecessorsAgree f → IsFirst (length f.blocks) (λ n. NotCriticalAt f n (block_at f n)) b →
+      IsFirstIn (λ p. length (block_at f p).succs ≤ 1) (block_at f b).preds p → IsShapeFault f (CritEdge p b)
+  operands : (b : ℕ) → SuccessorsAreBlocks f → BlocksFollow f → PredecessorsAgree f → NoCriticalEdge f →
+      IsFirst (length f.blocks) (λ n. NoOperandsAt f n (block_at f n)) b → IsShapeFault f (DisallowedBranchArg (last_of (block_at f b)))
 
 -- what the tests of the entry, of terminators, arguments, definitions and uses test
 pub record HasSoundness (f : FunctionValue) : Type 0 where
@@ -161,24 +141,27 @@ pub record HasSoundness (f : FunctionValue) : Type 0 where
 pub data IsSoundnessFault (f : FunctionValue) : RegAllocError → Type 0 where
   elsewhere : f.entry ≢ 0 → IsSoundnessFault f (BB f.entry)
   livein : f.entry ≡ 0 → (block_at f 0).params ≢ [] → IsSoundnessFault f EntryLivein
-  open_end : (b : ℕ) → EntryIsFirst f → IsFirstToFail f (EndsAt f) b → IsSoundnessFault f (BB b)
-  arguments : (b : ℕ) → EntryIsFirst f → BlocksEnd f → IsFirstToFail f (ArgumentsFitAt f) b → IsSoundnessFault f (Branch (last_of (block_at f b)))
-  definitions : (v : VirtualRegister) (i : ℕ) → EntryIsFirst f → BlocksEnd f → ArgumentsFit f → IsDefinitionFault f (SSA v i) → IsSoundnessFault f (SSA v i)
-
--- where the tests of reuses, and then of fixed registers, fail first
-abbrev pub IsFixedFault : FunctionValue → MachineValue → RegAllocError → Type 0
-IsFixedFault f env e = (i : ℕ) × (e ≡ Unsupported i) × (IsFirstFailing f (ReusesAreSound env) i
-    ⊎ (((j : ℕ) → j < length f.insts → ReusesAreSound env (inst_at f j)) × IsFirstFailing f FixedAvoidClobbers i))
+  open_end : (b : ℕ) → EntryIsFirst f → IsFirst (length f.blocks) (λ n. EndsAt f n (block_at f n)) b → IsSoundnessFault f (BB b)
+  arguments : (b : ℕ) → EntryIsFirst f → BlocksEnd f → IsFirst (length f.blocks) (λ n. ArgumentsFitAt f n (block_at f n)) b →
+      IsSoundnessFault f (Branch (last_of (block_at f b)))
+  repeated : (v : VirtualRegister) (i : ℕ) → EntryIsFirst f → BlocksEnd f → ArgumentsFit f → IsFirstRepeat f v i → IsSoundnessFault f (SSA v i)
+  undefined : (u : UseSite) → EntryIsFirst f → BlocksEnd f → ArgumentsFit f → DefinedOnce f →
+      IsFirstIn (λ u. IsDefinedBy f u.vreg u.point) (uses_in f) u → IsSoundnessFault f (SSA u.vreg u.inst)
 
 -- an instruction that the allocator rejects: the first that has a `Limit`, or if none has one, the first branch that defines in any register or by a
 -- reuse
 abbrev pub IsUnsupported : FunctionValue → ℕ → Type 0
-IsUnsupported f i = IsFirstFailing f AreUnlimited i ⊎ (((j : ℕ) → j < length f.insts → AreUnlimited (inst_at f j)) × IsFirstFailing f BranchDefinesInPlace i)
+IsUnsupported f i =
+    IsFirst (length f.insts) (λ j. AreUnlimited (inst_at f j)) i
+    ⊎ (((j : ℕ) → j < length f.insts → AreUnlimited (inst_at f j)) × IsFirst (length f.insts) (λ j. BranchDefinesInPlace (inst_at f j)) i)
 
 -- memory ran out, or a test failed: of blocks and edges; else of the entry, terminators, arguments, definitions and uses; else of
--- reuses and fixed registers
+-- reuses; else of fixed registers
 pub data IsFunctionFault (f : FunctionValue) (env : MachineValue) : RegAllocError → Type 0 where
   memory : IsFunctionFault f env Memory
   misshapen : {e : RegAllocError} → IsShapeFault f e → IsFunctionFault f env e
   unsound : {e : RegAllocError} → HasShape f → IsSoundnessFault f e → IsFunctionFault f env e
-  clashing : {e : RegAllocError} → HasShape f → HasSoundness f → IsFixedFault f env e → IsFunctionFault f env e
+  unsound_reuse : (i : ℕ) → HasShape f → HasSoundness f → IsFirst (length f.insts) (λ j. ReusesAreSound env (inst_at f j)) i →
+      IsFunctionFault f env (Unsupported i)
+  clashing : (i : ℕ) → HasShape f → HasSoundness f → ((j : ℕ) → j < length f.insts → ReusesAreSound env (inst_at f j)) →
+      IsFirst (length f.insts) (λ j. FixedAvoidClobbers (inst_at f j)) i → IsFunctionFault f env (Unsupported i)
