@@ -7,11 +7,11 @@ use Rattle.regalloc2_names.specs.declared.RegAllocError.TheVariants.{BB, Branch,
 use Rattle.regalloc2_names.specs.Register.{VirtualRegister}
 use Rattle.regalloc2_names.specs.Operand.{OperandValue, is_def, is_reading}
 use Rattle.regalloc2_names.specs.Place.{before, after}
-use Rattle.regalloc2_function.specs.FunctionValue.{FunctionValue, BlockValue, block_at, inst_at, last_of, InstValue}
-use Rattle.regalloc2_function.specs.WellFormed.{ArgumentsCounted, ArgumentsFit, BlocksEnd, BlocksFollow, DefinedOnce, EndsAt, EntryIsFirst, FollowsAt}
-use Rattle.regalloc2_function.specs.WellFormed.{IsDefinedBy, NoCriticalEdge, NoOperandsIntoJoins, PredecessorsAgree, SuccessorsAreBlocks, UsesAreDefined}
+use Rattle.regalloc2_function.specs.FunctionValue.{FunctionValue, BlockValue, block_at, inst_at, last_of, InstValue, EachBlock}
+use Rattle.regalloc2_function.specs.WellFormed.{BlocksFollow, DefinedOnce, EndsAt, EntryIsFirst, FollowsAt}
+use Rattle.regalloc2_function.specs.WellFormed.{IsDefinedBy, SuccessorsAreBlocks, UsesAreDefined}
 use Rattle.regalloc2_function.specs.WellFormed.{ArgumentsFitAt, NoOperandsAt, NotCriticalAt, PredecessorsAt, ReusesAreSound, FixedAvoidClobbers, AreUnlimited}
-use Rattle.regalloc2_function.specs.WellFormed.{BranchDefinesInPlace}
+use Rattle.regalloc2_function.specs.WellFormed.{BranchDefinesInPlace, CountedAt}
 use Rattle.regalloc2_function.specs.Machine.{MachineValue}
 
 -- the first number below `n` that fails a test
@@ -113,9 +113,9 @@ IsDefinitionFault f _ = ⊥
 pub record HasShape (f : FunctionValue) : Type 0 where
   pub successors : SuccessorsAreBlocks f
   pub follow : BlocksFollow f
-  pub predecessors : PredecessorsAgree f
-  pub no_critical_edge : NoCriticalEdge f
-  pub no_operands_into_joins : NoOperandsIntoJoins f
+  pub predecessors : EachBlock f (PredecessorsAt f)
+  pub no_critical_edge : EachBlock f (NotCriticalAt f)
+  pub no_operands_into_joins : EachBlock f (NoOperandsAt f)
 
 -- Why the blocks and edges of a function are rejected: the first of these tests that fails, and where it fails first. The entry and then all successors,
 -- as listed, are tested to be blocks. A critical edge comes from the first predecessor that has several successors.
@@ -123,17 +123,17 @@ pub data IsShapeFault (f : FunctionValue) : RegAllocError → Type 0 where
   outside : (s : ℕ) → IsFirstIn (λ s. s < length f.blocks) (f.entry ∷ flat_map (λ b. b.succs) f.blocks) s → IsShapeFault f (BB s)
   apart : (b : ℕ) → SuccessorsAreBlocks f → IsFirst (length f.blocks) (λ n. FollowsAt f n (block_at f n)) b → IsShapeFault f (BB b)
   unlisted : (b : ℕ) → SuccessorsAreBlocks f → BlocksFollow f → IsFirst (length f.blocks) (λ n. PredecessorsAt f n (block_at f n)) b → IsShapeFault f (BB b)
-  critical : (b p : ℕ) → SuccessorsAreBlocks f → BlocksFollow f → PredecessorsAgree f → IsFirst (length f.blocks) (λ n. NotCriticalAt f n (block_at f n)) b →
+  critical : (b p : ℕ) → SuccessorsAreBlocks f → BlocksFollow f → EachBlock f (PredecessorsAt f) → IsFirst (length f.blocks) (λ n. NotCriticalAt f n (block_at f n)) b →
       IsFirstIn (λ p. length (block_at f p).succs ≤ 1) (block_at f b).preds p → IsShapeFault f (CritEdge p b)
-  operands : (b : ℕ) → SuccessorsAreBlocks f → BlocksFollow f → PredecessorsAgree f → NoCriticalEdge f →
+  operands : (b : ℕ) → SuccessorsAreBlocks f → BlocksFollow f → EachBlock f (PredecessorsAt f) → EachBlock f (NotCriticalAt f) →
       IsFirst (length f.blocks) (λ n. NoOperandsAt f n (block_at f n)) b → IsShapeFault f (DisallowedBranchArg (last_of (block_at f b)))
 
 -- what the tests of the entry, of terminators, arguments, definitions and uses test
 pub record HasSoundness (f : FunctionValue) : Type 0 where
   pub entry : EntryIsFirst f
-  pub end : BlocksEnd f
-  pub counted : ArgumentsCounted f
-  pub classes : ArgumentsFit f
+  pub end : EachBlock f (EndsAt f)
+  pub counted : EachBlock f (CountedAt f)
+  pub classes : EachBlock f (ArgumentsFitAt f)
   pub defined_once : DefinedOnce f
   pub uses_defined : UsesAreDefined f
 
@@ -142,10 +142,10 @@ pub data IsSoundnessFault (f : FunctionValue) : RegAllocError → Type 0 where
   elsewhere : f.entry ≢ 0 → IsSoundnessFault f (BB f.entry)
   livein : f.entry ≡ 0 → (block_at f 0).params ≢ [] → IsSoundnessFault f EntryLivein
   open_end : (b : ℕ) → EntryIsFirst f → IsFirst (length f.blocks) (λ n. EndsAt f n (block_at f n)) b → IsSoundnessFault f (BB b)
-  arguments : (b : ℕ) → EntryIsFirst f → BlocksEnd f → IsFirst (length f.blocks) (λ n. ArgumentsFitAt f n (block_at f n)) b →
+  arguments : (b : ℕ) → EntryIsFirst f → EachBlock f (EndsAt f) → IsFirst (length f.blocks) (λ n. ArgumentsFitAt f n (block_at f n)) b →
       IsSoundnessFault f (Branch (last_of (block_at f b)))
-  repeated : (v : VirtualRegister) (i : ℕ) → EntryIsFirst f → BlocksEnd f → ArgumentsFit f → IsFirstRepeat f v i → IsSoundnessFault f (SSA v i)
-  undefined : (u : UseSite) → EntryIsFirst f → BlocksEnd f → ArgumentsFit f → DefinedOnce f →
+  repeated : (v : VirtualRegister) (i : ℕ) → EntryIsFirst f → EachBlock f (EndsAt f) → EachBlock f (ArgumentsFitAt f) → IsFirstRepeat f v i → IsSoundnessFault f (SSA v i)
+  undefined : (u : UseSite) → EntryIsFirst f → EachBlock f (EndsAt f) → EachBlock f (ArgumentsFitAt f) → DefinedOnce f →
       IsFirstIn (λ u. IsDefinedBy f u.vreg u.point) (uses_in f) u → IsSoundnessFault f (SSA u.vreg u.inst)
 
 -- an instruction that the allocator rejects: the first that has a `Limit`, or if none has one, the first branch that defines in any register or by a

@@ -38,22 +38,13 @@ BlocksFollow f = EachBlock f (FollowsAt f)
 abbrev pub PredecessorsAt : FunctionValue → ℕ → BlockValue → Type 0
 PredecessorsAt f n b = (p : ℕ) → times_in p b.preds ≡ times_in n (block_at f p).succs
 
-abbrev pub PredecessorsAgree : FunctionValue → Type 0
-PredecessorsAgree f = EachBlock f (PredecessorsAt f)
-
 -- a block with several incoming edges has no predecessor with several successors
 abbrev pub NotCriticalAt : FunctionValue → ℕ → BlockValue → Type 0
 NotCriticalAt f n b = 1 < ways_into f n → All (λ p. length (block_at f p).succs ≤ 1) b.preds
 
-abbrev pub NoCriticalEdge : FunctionValue → Type 0
-NoCriticalEdge f = EachBlock f (NotCriticalAt f)
-
 -- a block's branch into a block with several incoming edges has no operands
 abbrev pub NoOperandsAt : FunctionValue → ℕ → BlockValue → Type 0
 NoOperandsAt f n b = All (λ s. 1 < ways_into f s → (inst_at f (last_of b)).operands ≡ []) b.succs
-
-abbrev pub NoOperandsIntoJoins : FunctionValue → Type 0
-NoOperandsIntoJoins f = EachBlock f (NoOperandsAt f)
 
 -- the entry is block 0 and has no parameters
 abbrev pub EntryIsFirst : FunctionValue → Type 0
@@ -68,23 +59,14 @@ abbrev pub EndsAt : FunctionValue → ℕ → BlockValue → Type 0
 EndsAt f n b = EndsBlock (inst_at f (last_of b)) (length b.succs)
     × EachInst f b (λ i inst. i < last_of b → (inst.is_branch ≡ false) × (inst.is_ret ≡ false))
 
-abbrev pub BlocksEnd : FunctionValue → Type 0
-BlocksEnd f = EachBlock f (EndsAt f)
-
 -- each successor is given as many arguments as it has parameters
 abbrev pub CountedAt : FunctionValue → ℕ → BlockValue → Type 0
 CountedAt f n b = (k : ℕ) → k < length b.succs → length (slice_index_or b.arguments k []) ≡ length (block_at f (slice_index b.succs k)).params
-
-abbrev pub ArgumentsCounted : FunctionValue → Type 0
-ArgumentsCounted f = EachBlock f (CountedAt f)
 
 -- the arguments for each successor are of the classes of its parameters
 abbrev pub ArgumentsFitAt : FunctionValue → ℕ → BlockValue → Type 0
 ArgumentsFitAt f n b = (k : ℕ) → k < length b.succs → map (λ v. v.class) (slice_index_or b.arguments k []) ≡ map (λ v. v.class)
     (block_at f (slice_index b.succs k)).params
-
-abbrev pub ArgumentsFit : FunctionValue → Type 0
-ArgumentsFit f = EachBlock f (ArgumentsFitAt f)
 
 -- an operand that defines
 abbrev pub defines_number : ℕ → OperandValue → Bool
@@ -148,20 +130,20 @@ FixedAvoidClobbers i = EachOperand i (λ k o. (r : Register) → o.constraint �
 pub record IsFramed (f : FunctionValue) : Type 0 where
   pub successors : SuccessorsAreBlocks f
   pub follow : BlocksFollow f
-  pub end : BlocksEnd f
-  pub counted : ArgumentsCounted f
+  pub end : EachBlock f (EndsAt f)
+  pub counted : EachBlock f (CountedAt f)
 
 -- a function that may be allocated
 pub record IsWellFormed (env : MachineValue) (f : FunctionValue) : Type 0 where
   pub successors : SuccessorsAreBlocks f
   pub follow : BlocksFollow f
-  pub predecessors : PredecessorsAgree f
-  pub no_critical_edge : NoCriticalEdge f
-  pub no_operands_into_joins : NoOperandsIntoJoins f
+  pub predecessors : EachBlock f (PredecessorsAt f)
+  pub no_critical_edge : EachBlock f (NotCriticalAt f)
+  pub no_operands_into_joins : EachBlock f (NoOperandsAt f)
   pub entry : EntryIsFirst f
-  pub end : BlocksEnd f
-  pub counted : ArgumentsCounted f
-  pub classes : ArgumentsFit f
+  pub end : EachBlock f (EndsAt f)
+  pub counted : EachBlock f (CountedAt f)
+  pub classes : EachBlock f (ArgumentsFitAt f)
   pub defined_once : DefinedOnce f
   pub uses_defined : UsesAreDefined f
   pub reuses : All (ReusesAreSound env) f.insts

@@ -5,7 +5,7 @@ ghost use Rattle.std.specs.Prelude.{if◌then◌else◌, nat_eq};
 ghost use Rattle.std.specs.Bool.{OnTrue};
 ghost use Rattle.regalloc2_function.specs.FunctionValue.{block_at, EachBlock, last_of};
 ghost use Rattle.regalloc2_function.specs.Reasons.{HasShape, IsFirst, IsFirstIn, IsShapeFault};
-ghost use Rattle.regalloc2_function.specs.WellFormed.{BlocksFollow, NoCriticalEdge, NoOperandsAt, NoOperandsIntoJoins, NotCriticalAt, PredecessorsAgree};
+ghost use Rattle.regalloc2_function.specs.WellFormed.{BlocksFollow, NoOperandsAt, NotCriticalAt};
 ghost use Rattle.regalloc2_function.specs.WellFormed.{PredecessorsAt, SuccessorsAreBlocks, times_in, ways_into};
 ghost use Rattle.regalloc2_function.specs.Inside.Ways.{ListedInOrder, MetSoFar, listed_of};
 
@@ -155,7 +155,7 @@ fn compare_ways<A: Allocator + Copy, F: Function>(
     requires zero { counts.old ≡ replicate (length (F.function f.now).blocks) 0 }
     requires long { length ways.now ≡ length (F.function f.now).blocks }
     requires ways { (n p : ℕ) → times_in p (listed_of ways.now n) ≡ times_in n (block_at (F.function f.now) p).succs }
-    ensures ok { OnOk result (PredecessorsAgree (F.function f.now)) }
+    ensures ok { OnOk result (EachBlock (F.function f.now) (PredecessorsAt (F.function f.now))) }
     ensures err { IfErr result (λ e. (b : ℕ) × (e ≡ RegAllocError.BB b)
         × IsFirst (length (F.function f.now).blocks) (λ n. PredecessorsAt (F.function f.now) n (block_at (F.function f.now) n)) b) }
 {
@@ -230,7 +230,7 @@ fn are_in_order<A: Allocator + Copy, F: Function>(alloc: A, f: &F) -> Result<boo
 /// Compares the predecessors of each block with the blocks that name it as a successor, counted.
 fn test_counted<A: Allocator + Copy, F: Function>(alloc: A, f: &F) -> Result<(), RegAllocError>
     requires { SuccessorsAreBlocks (F.function f.now) }
-    ensures ok { OnOk result (PredecessorsAgree (F.function f.now)) }
+    ensures ok { OnOk result (EachBlock (F.function f.now) (PredecessorsAt (F.function f.now))) }
     ensures err { IfErr result (λ e. (e ≡ RegAllocError.Memory) ⊎ ((b : ℕ) × (e ≡ RegAllocError.BB b)
         × IsFirst (length (F.function f.now).blocks) (λ n. PredecessorsAt (F.function f.now) n (block_at (F.function f.now) n)) b)) }
 {
@@ -246,7 +246,7 @@ pub fn test_predecessors<A: Allocator + Copy, F: Function>(
     f: &F,
 ) -> Result<(), RegAllocError>
     requires { SuccessorsAreBlocks (F.function f.now) }
-    ensures ok { OnOk result (PredecessorsAgree (F.function f.now)) }
+    ensures ok { OnOk result (EachBlock (F.function f.now) (PredecessorsAt (F.function f.now))) }
     ensures err { IfErr result (λ e. (e ≡ RegAllocError.Memory) ⊎ ((b : ℕ) × (e ≡ RegAllocError.BB b)
         × IsFirst (length (F.function f.now).blocks) (λ n. PredecessorsAt (F.function f.now) n (block_at (F.function f.now) n)) b)) }
 {
@@ -288,7 +288,7 @@ fn first_fork<F: Function>(f: &F, preds: &[Block]) -> Option<Block>
 /// Tests that no block with several incoming edges has a predecessor with several successors.
 pub fn test_edges<F: Function>(f: &F) -> Result<(), RegAllocError>
     requires { EachBlock (F.function f.now) (λ n b. All (λ p. p < length (F.function f.now).blocks) b.preds) }
-    ensures ok { OnOk result (NoCriticalEdge (F.function f.now)) }
+    ensures ok { OnOk result (EachBlock (F.function f.now) (NotCriticalAt (F.function f.now))) }
     ensures err { IfErr result (λ e. (b p : ℕ) × (e ≡ RegAllocError.CritEdge p b)
         × (IsFirst (length (F.function f.now).blocks) (λ n. NotCriticalAt (F.function f.now) n (block_at (F.function f.now) n)) b)
         × IsFirstIn (λ p. length (block_at (F.function f.now) p).succs ≤ 1) (block_at (F.function f.now) b).preds p) }
@@ -328,7 +328,7 @@ fn may_branch<F: Function>(f: &F, block: Block, last: Inst) -> bool
 pub fn test_branches<F: Function>(f: &F) -> Result<(), RegAllocError>
     requires blocks { SuccessorsAreBlocks (F.function f.now) }
     requires follow { BlocksFollow (F.function f.now) }
-    ensures ok { OnOk result (NoOperandsIntoJoins (F.function f.now)) }
+    ensures ok { OnOk result (EachBlock (F.function f.now) (NoOperandsAt (F.function f.now))) }
     ensures err { IfErr result (λ e. (b : ℕ) × (e ≡ RegAllocError.DisallowedBranchArg (last_of (block_at (F.function f.now) b)))
         × IsFirst (length (F.function f.now).blocks) (λ n. NoOperandsAt (F.function f.now) n (block_at (F.function f.now) n)) b) }
 {

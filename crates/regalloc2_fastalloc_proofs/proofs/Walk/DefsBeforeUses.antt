@@ -5,9 +5,9 @@ use Rattle.std.proofs.lemmas.Bool.{cases_Bool, cases_lt}
 use Rattle.regalloc2_names.specs.Register.{VirtualRegister, no_vreg}
 use Rattle.regalloc2_names.specs.Place.{Place, NoPlace, before, after}
 use Rattle.std.proofs.lemmas.List.{get_or_default, get_or_past}
-use Rattle.regalloc2_function.specs.FunctionValue.{FunctionValue, BlockValue, InstValue, block_at, no_block, inst_at, no_inst, no_operand, op_at, last_of}
+use Rattle.regalloc2_function.specs.FunctionValue.{FunctionValue, BlockValue, InstValue, block_at, no_block, inst_at, no_inst, no_operand, op_at, last_of, EachBlock}
 use Rattle.regalloc2_names.specs.Operand.{OperandValue, is_def}
-use Rattle.regalloc2_function.specs.WellFormed.{BlocksFollow, BlocksEnd, DefinedOnce, IsDefinedBy, UsesAreDefined}
+use Rattle.regalloc2_function.specs.WellFormed.{BlocksFollow, DefinedOnce, IsDefinedBy, UsesAreDefined, EndsAt}
 use Rattle.regalloc2_carry.specs.Blocks.{IsUsedIn, IsUnwritten, IsUsed}
 use Rattle.regalloc2_carry.proofs.SingleDef.{Made, IsDefOperand, TakesAt, one_made, one_operand, one_param, not_both, reads_defined, made_before, is_made}
 use Rattle.regalloc2_carry.proofs.Order.{ends_before, ends_within, stands_later, reads_later, passes_later, passed_made}
@@ -22,7 +22,7 @@ use Rattle.regalloc2_fastalloc_proofs.proofs.Walk.InstBoundaries.{IsUsedAt, allo
 use Rattle.regalloc2_fastalloc_proofs.proofs.Walk.FunctionLaws.{FunctionLaws}
 
 -- where a block uses a number
-pub used_at : (f : FunctionValue) → BlocksFollow f → BlocksEnd f → (c : ℕ) (v : VirtualRegister) → c < length f.blocks → IsUsedIn f c v →
+pub used_at : (f : FunctionValue) → BlocksFollow f → EachBlock f (EndsAt f) → (c : ℕ) (v : VirtualRegister) → c < length f.blocks → IsUsedIn f c v →
     (l : ℕ) × ((block_at f c).range.first ≤ l) × (l < (block_at f c).range.end) × IsUsedAt f c l v.number
 used_at f follow ends c v lc (inl r) = (r.0, r.2, r.3, inl (r.1, r.4, r.5, ap (λ (w : VirtualRegister). w.number) r.6))
 used_at f follow ends c v lc (inr p) =
