@@ -1,13 +1,13 @@
 -- Where the tests of a function fail first, as their errors report.
-use Rattle.std.specs.Prelude.{ℕ, ◌≡◌, ◌≢◌, ◌<◌, ◌≤◌, ◌⊎◌, List, [], ◌∷◌, ◌++◌, All, count_by, filter_map, flat_map, length, map, nat_eq, slice_index_or}
-use Rattle.std.specs.Prelude.{Option, None, Some, if◌then◌else◌}
+use Rattle.std.specs.Prelude.{ℕ, ◌≡◌, ◌≢◌, ◌<◌, ◌≤◌, ◌⊎◌, Bool, List, [], ◌∷◌, ◌++◌, All, count_by, filter_map, flat_map, length, map, nat_eq, slice_index_or}
+use Rattle.std.specs.Prelude.{None, Some, if◌then◌else◌}
 use Rattle.regalloc2_index.specs.Range.{invalid_number, numbers_from, numbers_of}
 use Rattle.regalloc2_names.specs.declared.RegAllocError.{RegAllocError}
 use Rattle.regalloc2_names.specs.declared.RegAllocError.TheVariants.{BB, Branch, CritEdge, DisallowedBranchArg, EntryLivein, Memory, SSA, Unsupported}
 use Rattle.regalloc2_names.specs.Register.{VirtualRegister}
 use Rattle.regalloc2_names.specs.Operand.{OperandValue, is_def, is_reading}
 use Rattle.regalloc2_names.specs.Place.{before, after}
-use Rattle.regalloc2_function.specs.FunctionValue.{FunctionValue, BlockValue, block_at, inst_at, last_of, InstValue, EachBlock}
+use Rattle.regalloc2_function.specs.FunctionValue.{FunctionValue, block_at, inst_at, last_of, EachBlock}
 use Rattle.regalloc2_function.specs.WellFormed.{BlocksFollow, DefinedOnce, EndsAt, EntryIsFirst, FollowsAt}
 use Rattle.regalloc2_function.specs.WellFormed.{IsDefinedBy, SuccessorsAreBlocks, UsesAreDefined}
 use Rattle.regalloc2_function.specs.WellFormed.{ArgumentsFitAt, NoOperandsAt, NotCriticalAt, PredecessorsAt, ReusesAreSound, FixedAvoidClobbers, AreUnlimited}
@@ -26,81 +26,43 @@ pub record IsFirstIn {X : Type 0} (P : X → Type 0) (xs : List X) (x : X) : Typ
   pub passed : All P earlier
   pub fails : P x → ⊥
 
--- a definition of a vreg: the instruction that makes it, none for a parameter, and the point from which on it may be used
-pub record DefinitionSite : Type 0 where
-  pub vreg : VirtualRegister
-  pub inst : ℕ
-  pub usable : ℕ
-
--- a parameter of a block that begins at an instruction
-abbrev pub param_definition : ℕ → VirtualRegister → DefinitionSite
-param_definition first v = record { vreg = v; inst = invalid_number; usable = before first }
-
--- the definition that an operand of an instruction makes, if it does
-abbrev pub operand_definition : ℕ → OperandValue → Option DefinitionSite
-operand_definition i o = if is_def o.kind then Some (record { vreg = o.vreg; inst = i; usable = after i }) else None
-
--- an instruction's definitions, in operand order
-abbrev pub inst_definitions : FunctionValue → ℕ → List DefinitionSite
-inst_definitions f i = filter_map (operand_definition i) (inst_at f i).operands
-
--- a block's definitions: its parameters, then the definitions of its instructions
-abbrev pub block_definitions : FunctionValue → BlockValue → List DefinitionSite
-block_definitions f b = map (param_definition b.range.first) b.params ++ flat_map (inst_definitions f) (numbers_of b.range)
-
--- all definitions, block by block
-abbrev pub definitions_in : FunctionValue → List DefinitionSite
-definitions_in f = flat_map (block_definitions f) f.blocks
-
--- how many of the definitions are of a vreg of a number
-abbrev pub definitions_among : List DefinitionSite → ℕ → ℕ
-definitions_among ds n = count_by (λ d. nat_eq d.vreg.number n) ds
-
--- each number is defined at most once by these, and below a bound
-abbrev pub AreSingle : ℕ → List DefinitionSite → Type 0
-AreSingle num ds = (n : ℕ) → (definitions_among ds n ≤ 1) × (0 < definitions_among ds n → n < num)
-
--- the first definition whose number is too large or is defined by an earlier one
-pub record IsFirstRepeat (f : FunctionValue) (v : VirtualRegister) (i : ℕ) : Type 0 where
-  pub site : DefinitionSite
-  pub vreg : site.vreg ≡ v
-  pub inst : site.inst ≡ i
-  pub earlier : List DefinitionSite
-  pub later : List DefinitionSite
-  pub is : definitions_in f ≡ earlier ++ site ∷ later
-  pub single : AreSingle f.num_vregs earlier
-  pub fails : AreSingle f.num_vregs (earlier ++ site ∷ []) → ⊥
-
--- an instruction that reads or passes a vreg, and the point by which that has to be defined: before the instruction if it is read, after
--- it if it is passed
-pub record UseSite : Type 0 where
+-- a vreg that is defined or used: by which instruction (`invalid_number` for a parameter), and at which point
+pub record Site : Type 0 where
   pub vreg : VirtualRegister
   pub inst : ℕ
   pub point : ℕ
 
--- the read that an operand of an instruction makes, if it does
-abbrev pub operand_read : ℕ → OperandValue → Option UseSite
-operand_read i o = if is_reading o then Some (record { vreg = o.vreg; inst = i; point = before i }) else None
+-- the vregs of the operands of an instruction that pass a test, at a point
+abbrev pub sites_of : (OperandValue → Bool) → FunctionValue → ℕ → ℕ → List Site
+sites_of test f i point = filter_map (λ o. if test o then Some (record { vreg = o.vreg; inst = i; point = point }) else None) (inst_at f i).operands
 
--- an instruction's reads, in operand order
-abbrev pub inst_reads : FunctionValue → ℕ → List UseSite
-inst_reads f i = filter_map (operand_read i) (inst_at f i).operands
+-- all definitions, block by block: the block's parameters, before its first instruction, then what each instruction defines, after it
+abbrev pub definitions_in : FunctionValue → List Site
+definitions_in f = flat_map (λ b.
+    map (λ v. record { vreg = v; inst = invalid_number; point = before b.range.first }) b.params
+    ++ flat_map (λ i. sites_of (λ o. is_def o.kind) f i (after i)) (numbers_of b.range)) f.blocks
 
--- an argument that an instruction passes
-abbrev pub argument_use : ℕ → VirtualRegister → UseSite
-argument_use i v = record { vreg = v; inst = i; point = after i }
+-- all uses, block by block: what each instruction reads, before it, then what the last one passes to each successor in turn, after it
+abbrev pub uses_in : FunctionValue → List Site
+uses_in f = flat_map (λ b.
+    flat_map (λ i. sites_of is_reading f i (before i)) (numbers_of b.range)
+    ++ flat_map (λ k. map (λ v. record { vreg = v; inst = last_of b; point = after (last_of b) }) (slice_index_or b.arguments k []))
+    (numbers_from 0 (length b.succs))) f.blocks
 
--- the arguments that a block passes to its successor at a position
-abbrev pub passed_at : BlockValue → ℕ → List UseSite
-passed_at b k = map (argument_use (last_of b)) (slice_index_or b.arguments k [])
+-- each number is defined at most once by these, and below a bound
+abbrev pub AreSingle : ℕ → List Site → Type 0
+AreSingle num ds = (n : ℕ) → (count_by (λ d. nat_eq d.vreg.number n) ds ≤ 1) × (0 < count_by (λ d. nat_eq d.vreg.number n) ds → n < num)
 
--- a block's uses: what its instructions read, then what it passes to its successors in turn
-abbrev pub block_uses : FunctionValue → BlockValue → List UseSite
-block_uses f b = flat_map (inst_reads f) (numbers_of b.range) ++ flat_map (passed_at b) (numbers_from 0 (length b.succs))
-
--- all uses, block by block
-abbrev pub uses_in : FunctionValue → List UseSite
-uses_in f = flat_map (block_uses f) f.blocks
+-- the first definition whose number is too large or is defined by an earlier one
+pub record IsFirstRepeat (f : FunctionValue) (v : VirtualRegister) (i : ℕ) : Type 0 where
+  pub site : Site
+  pub vreg : site.vreg ≡ v
+  pub inst : site.inst ≡ i
+  pub earlier : List Site
+  pub later : List Site
+  pub is : definitions_in f ≡ earlier ++ site ∷ later
+  pub single : AreSingle f.num_vregs earlier
+  pub fails : AreSingle f.num_vregs (earlier ++ site ∷ []) → ⊥
 
 -- why the definitions of a function are rejected: out of memory, or else the first repeat, or if there is none the first use of what is not defined by then
 abbrev pub IsDefinitionFault : FunctionValue → RegAllocError → Type 0
@@ -145,7 +107,7 @@ pub data IsSoundnessFault (f : FunctionValue) : RegAllocError → Type 0 where
   arguments : (b : ℕ) → EntryIsFirst f → EachBlock f (EndsAt f) → IsFirst (length f.blocks) (λ n. ArgumentsFitAt f n (block_at f n)) b →
       IsSoundnessFault f (Branch (last_of (block_at f b)))
   repeated : (v : VirtualRegister) (i : ℕ) → EntryIsFirst f → EachBlock f (EndsAt f) → EachBlock f (ArgumentsFitAt f) → IsFirstRepeat f v i → IsSoundnessFault f (SSA v i)
-  undefined : (u : UseSite) → EntryIsFirst f → EachBlock f (EndsAt f) → EachBlock f (ArgumentsFitAt f) → DefinedOnce f →
+  undefined : (u : Site) → EntryIsFirst f → EachBlock f (EndsAt f) → EachBlock f (ArgumentsFitAt f) → DefinedOnce f →
       IsFirstIn (λ u. IsDefinedBy f u.vreg u.point) (uses_in f) u → IsSoundnessFault f (SSA u.vreg u.inst)
 
 -- an instruction that the allocator rejects: the first that has a `Limit`, or if none has one, the first branch that defines in any register or by a
