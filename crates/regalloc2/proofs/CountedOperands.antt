@@ -1,12 +1,11 @@
 -- Which calls say that operands are too many, where the call below says so exactly where they are.
-use Rattle.std.proofs.Common.{ℕ, ◌≡◌, ◌≤◌, ◌^◌, Ok, Err, ap, arith, inl, inr}
+use Rattle.std.proofs.Common.{ℕ, ◌≡◌, ◌<◌, ◌≤◌, ◌^◌, Ok, Err, ap, arith, inl, inr}
 use Rattle.std.specs.Prelude.{◌↔◌, Result}
 use Rattle.regalloc2_names.specs.declared.RegAllocError.{RegAllocError}
 use Rattle.regalloc2_names.specs.declared.RegAllocError.TheVariants.{Memory, TooManyOperands}
 use Rattle.regalloc2_function.specs.FunctionValue.{FunctionValue, operand_count}
 use Rattle.regalloc2_function.specs.Machine.{MachineValue}
 use Rattle.regalloc2_function.specs.OutputValue.{OutputValue}
-use Rattle.regalloc2_fastalloc.specs.ErrorReason.{HasFewOperands}
 use Rattle.regalloc2.specs.Allocated.{allocate_error}
 use Rattle.regalloc2.proofs.CheckerErrorReasons.{IsCheckerFailure}
 use Rattle.regalloc2.specs.declared.checked.CheckedRunError.{CheckedRunError}
@@ -21,7 +20,7 @@ abbrev pub FailsWith : (T E : Type 0) → Result T E → E → Type 0
 FailsWith T E r e = r ≡ Err e
 
 -- where operands are few, what never holds holds exactly where they are too many
-pub few_counted : {Q : Type 0} (f : FunctionValue) → HasFewOperands f → (Q → ⊥) → Q ↔ (2 ^ 32 ≤ operand_count f)
+pub few_counted : {Q : Type 0} (f : FunctionValue) → operand_count f < 2 ^ 32 → (Q → ⊥) → Q ↔ (2 ^ 32 ≤ operand_count f)
 few_counted f few never = (λ q. absurd (never q), λ many. absurd (omega (arith, few, many)))
 
 -- a run's error says it as the refusal of a checked run
@@ -36,7 +35,7 @@ refused_counted {A = A} {T = T} {U = U} r h = (
 )
 
 -- the checker's errors don't say it
-pub found_counted : {A U : Type 0} (f : FunctionValue) (env : MachineValue) (out : OutputValue) (e : CheckedRunError A) → HasFewOperands f →
+pub found_counted : {A U : Type 0} (f : FunctionValue) (env : MachineValue) (out : OutputValue) (e : CheckedRunError A) → operand_count f < 2 ^ 32 →
     IsCheckerFailure f env out e → FailsWith U (CheckedRunError A) (Err e) (Refused TooManyOperands) ↔ (2 ^ 32 ≤ operand_count f)
 found_counted f env out e few (inl h) = few_counted f few (λ q. absurd cc)
 found_counted f env out e few (inr h) = few_counted f few (λ q. let is = h.1 in absurd cc)

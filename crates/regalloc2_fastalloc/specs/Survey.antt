@@ -2,7 +2,7 @@
 use Rattle.std.specs.Prelude.{ℕ, ◌≡◌, ◌<◌, ◌≤◌, ◌^◌, Bool, List, length, slice_index}
 use Rattle.regalloc2_names.specs.declared.RegAllocError.{RegAllocError}
 use Rattle.regalloc2_names.specs.declared.RegAllocError.TheVariants.{TooManyOperands, Memory, Unsupported}
-use Rattle.regalloc2_function.specs.FunctionValue.{FunctionValue, operand_count}
+use Rattle.regalloc2_function.specs.FunctionValue.{FunctionValue, inst_at, operand_count}
 use Rattle.regalloc2_function.specs.Machine.{MachineValue}
 use Rattle.regalloc2_function.specs.Reasons.{IsUnsupported}
 use Rattle.regalloc2_semantics.specs.Places.{units_at_most}
@@ -10,7 +10,7 @@ use Rattle.regalloc2_analysis.specs.LiveRanges.LiveRanges.{AreLabelsMarked}
 use Rattle.regalloc2_fastalloc_state.specs.OutOfResources.{Lacks}
 use Rattle.regalloc2_fastalloc_proofs.specs.BlockSteps.{offset_of}
 use Rattle.regalloc2_fastalloc_walk.specs.Findings.{AllPassTests}
-use Rattle.regalloc2_fastalloc.specs.ErrorReason.{SomeDoesNotFit}
+use Rattle.regalloc2_semantics.specs.Fits.{Fits}
 
 -- where each instruction's places begin, the number of operands, and the labelled vregs
 pub record IsSurvey (f : FunctionValue) (offsets : List ℕ) (total : ℕ) (wanted : List Bool) : Type 0 where
@@ -28,6 +28,10 @@ pub data IsSurveyError (f : FunctionValue) : RegAllocError → Type 0 where
 -- an operand test fails, at the first instruction where one does
 abbrev pub IsRefusal : FunctionValue → RegAllocError → Type 0
 IsRefusal f e = (i : ℕ) × (e ≡ Unsupported i) × IsUnsupported f i
+
+-- an instruction has too few registers
+abbrev pub SomeDoesNotFit : FunctionValue → MachineValue → Type 0
+SomeDoesNotFit f env = (i : ℕ) × (i < length f.insts) × (Fits f env (inst_at f i) → ⊥)
 
 -- what an allocation lacks, if all instructions pass their tests
 abbrev pub LacksIfPassed : FunctionValue → MachineValue → RegAllocError → Type 0

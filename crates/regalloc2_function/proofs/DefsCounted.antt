@@ -1,7 +1,7 @@
 -- How often a number is defined, by the listing and by the function's sums.
 use Rattle.std.proofs.Common.{ℕ, zero, suc, ◌≡◌, ◌+◌, ◌-◌, ◌<◌, ◌≤◌, Some, None, List, [], ◌∷◌, ◌++◌, length, take, refl, sym, ap, ◌∙◌, zero-add, inl, inr}
 use Rattle.std.proofs.Common.{arith}
-use Rattle.std.specs.Prelude.{count_by, filter_map, flat_map, map, nat_eq, sum_by, cond, ◌&&◌}
+use Rattle.std.specs.Prelude.{Bool, count_by, filter_map, flat_map, map, nat_eq, sum_by, cond, ◌&&◌}
 use Rattle.std.specs.List.{cons_option}
 use Rattle.std.proofs.lemmas.Bool.{cases_Bool}
 use Rattle.std.proofs.lemmas.List.Sums.{sum_by-append, sum_by-cons, sum_by_more}
@@ -10,26 +10,31 @@ use Rattle.regalloc2_names.specs.Register.{VirtualRegister}
 use Rattle.regalloc2_names.specs.Operand.{OperandValue, is_def}
 use Rattle.regalloc2_names.specs.Place.{after}
 use Rattle.regalloc2_function.specs.FunctionValue.{FunctionValue, BlockValue, InstValue, block_at, inst_at, no_block, no_inst}
-use Rattle.regalloc2_function.specs.WellFormed.{BlocksFollow, defines_number}
-use Rattle.regalloc2_function.specs.Reasons.{DefinitionSite, param_definition, operand_definition, inst_definitions, block_definitions, definitions_among}
+use Rattle.regalloc2_function.specs.WellFormed.{BlocksFollow}
+use Rattle.regalloc2_function.specs.Reasons.{Site}
 use Rattle.regalloc2_function.proofs.ListsInParts.{numbers_more, flat_more}
 use Rattle.regalloc2_function.proofs.Following.{end_within}
 use Rattle.regalloc2_function.proofs.BlockRanges.{first_after, block_is}
+use Rattle.regalloc2_function.specs.Inside.Definitions.{param_definition, operand_definition, inst_definitions, block_definitions, definitions_among}
+
+-- an operand that defines a number
+abbrev pub defines_number : ℕ → OperandValue → Bool
+defines_number n o = is_def o.kind && nat_eq o.vreg.number n
 
 -- among two lists of definitions
-pub among_append : (n : ℕ) (xs ys : List DefinitionSite) → definitions_among (xs ++ ys) n ≡ definitions_among xs n + definitions_among ys n
+pub among_append : (n : ℕ) (xs ys : List Site) → definitions_among (xs ++ ys) n ≡ definitions_among xs n + definitions_among ys n
 among_append n xs ys = sum_by-append (λ d. cond (nat_eq d.vreg.number n) 1 0) xs ys
 
 -- among parameters
 among_params : (n first : ℕ) (vs : List VirtualRegister) → definitions_among (map (param_definition first) vs) n ≡ count_by (λ v. nat_eq v.number n) vs
 among_params n first [] = refl
 among_params n first (v ∷ vs) =
-    sum_by-cons (λ (d : DefinitionSite). cond (nat_eq d.vreg.number n) 1 0) (param_definition first v) (map (param_definition first) vs)
+    sum_by-cons (λ (d : Site). cond (nat_eq d.vreg.number n) 1 0) (param_definition first v) (map (param_definition first) vs)
     ∙ ap (λ m. cond (nat_eq v.number n) 1 0 + m) (among_params n first vs)
     ∙ sym (sum_by-cons (λ (v : VirtualRegister). cond (nat_eq v.number n) 1 0) v vs)
 
-abbrev definition : ℕ → OperandValue → DefinitionSite
-definition i o = record { vreg = o.vreg; inst = i; usable = after i }
+abbrev definition : ℕ → OperandValue → Site
+definition i o = record { vreg = o.vreg; inst = i; point = after i }
 
 -- among an instruction's operands
 among_operands : (n i : ℕ) (os : List OperandValue) → definitions_among (filter_map (operand_definition i) os) n ≡ count_by (defines_number n) os
@@ -37,7 +42,7 @@ among_operands n i [] = refl
 among_operands n i (o ∷ os) =
     elim (cases_Bool (is_def o.kind)) [
       | inl e ↦ ap (λ b. definitions_among (cons_option (cond b (Some (definition i o)) None) (filter_map (operand_definition i) os)) n) e
-          ∙ sum_by-cons (λ (d : DefinitionSite). cond (nat_eq d.vreg.number n) 1 0) (definition i o) (filter_map (operand_definition i) os)
+          ∙ sum_by-cons (λ (d : Site). cond (nat_eq d.vreg.number n) 1 0) (definition i o) (filter_map (operand_definition i) os)
           ∙ ap (λ m. cond (nat_eq o.vreg.number n) 1 0 + m) (among_operands n i os)
           ∙ sym (sum_by-cons (λ (o : OperandValue). cond (defines_number n o) 1 0) o os
           ∙ ap (λ b. cond (b && nat_eq o.vreg.number n) 1 0 + count_by (defines_number n) os) e)

@@ -5,11 +5,11 @@ use Rattle.std.proofs.lemmas.List.{length-map}
 use Rattle.std.proofs.lemmas.List.Elements.{All-cons, All-contains}
 use Rattle.regalloc2_names.specs.declared.RegAllocError.{RegAllocError}
 use Rattle.regalloc2_names.specs.declared.RegAllocError.TheVariants.{Memory, SSA}
-use Rattle.regalloc2_function.specs.FunctionValue.{FunctionValue, BlockValue}
+use Rattle.regalloc2_function.specs.FunctionValue.{FunctionValue, BlockValue, EachBlock}
 use Rattle.regalloc2_function.specs.Reasons.{HasShape, IsDefinitionFault, IsShapeFault, IsSoundnessFault}
 use Rattle.regalloc2_function.specs.Reasons.IsShapeFault.{apart, critical, operands, outside, unlisted}
-use Rattle.regalloc2_function.specs.Reasons.IsSoundnessFault.{definitions}
-use Rattle.regalloc2_function.specs.WellFormed.{ArgumentsCounted, ArgumentsFit, BlocksEnd, EntryIsFirst, SuccessorsAreBlocks}
+use Rattle.regalloc2_function.specs.Reasons.IsSoundnessFault.{repeated, undefined}
+use Rattle.regalloc2_function.specs.WellFormed.{EntryIsFirst, SuccessorsAreBlocks, ArgumentsFitAt, CountedAt, EndsAt}
 use Rattle.regalloc2_function.proofs.ListingsOfFunction.{numbered}
 use Rattle.regalloc2_function.proofs.ListMembers.{all_members, from_flat}
 use Rattle.regalloc2_function.proofs.ListsInParts.{first_not_all}
@@ -35,14 +35,16 @@ shape_refused f shape (critical b p blocks follow agree h fork) = h.1 (shape.no_
 shape_refused f shape (operands b blocks follow agree edges h) = h.1 (shape.no_operands_into_joins b h.0)
 
 -- an error of definitions is one of soundness, if the tests before pass
-pub definition_fault : (f : FunctionValue) → EntryIsFirst f → BlocksEnd f → ArgumentsFit f → (e : RegAllocError) → IsDefinitionFault f e → (e ≡ Memory)
-    ⊎ IsSoundnessFault f e
+pub definition_fault : (f : FunctionValue) → EntryIsFirst f → EachBlock f (EndsAt f) → EachBlock f (ArgumentsFitAt f) → (e : RegAllocError) →
+    IsDefinitionFault f e → (e ≡ Memory) ⊎ IsSoundnessFault f e
 definition_fault f entry end fit Memory h = inl refl
-definition_fault f entry end fit (SSA v i) h = inr (definitions v i entry end fit h)
+definition_fault f entry end fit (SSA v i) (inl repeat) = inr (repeated v i entry end fit repeat)
+definition_fault f entry end fit (SSA v i) (inr (once, (point, use'))) =
+    inr (undefined (record { vreg = v; inst = i; point = point }) entry end fit once use')
 definition_fault f entry end fit _ h = absurd h
 
 -- arguments of the same classes are as many
-pub fit_counted : (f : FunctionValue) → ArgumentsFit f → ArgumentsCounted f
+pub fit_counted : (f : FunctionValue) → EachBlock f (ArgumentsFitAt f) → EachBlock f (CountedAt f)
 fit_counted f fit n less k short = sym (length-map _ (λ v. v.class)) ∙ ap length (fit n less k short) ∙ length-map _ (λ v. v.class)
 
 -- what follows from two statements holds wherever a result is `Ok`, if each of them does

@@ -11,13 +11,15 @@ use Rattle.regalloc2_names.specs.Register.{VirtualRegister}
 use Rattle.regalloc2_names.specs.Operand.{OperandValue, is_def, is_reading}
 use Rattle.regalloc2_names.specs.Place.{before, after}
 use Rattle.regalloc2_function.specs.FunctionValue.{FunctionValue, BlockValue, InstValue, block_at, inst_at, no_block, no_inst, last_of}
-use Rattle.regalloc2_function.specs.WellFormed.{BlocksFollow, DefinedOnce, IsDefinedBy, UsesAreDefined, defines_number, definitions_of}
-use Rattle.regalloc2_function.specs.Reasons.{AreSingle, DefinitionSite, UseSite, argument_use, block_definitions, block_uses, definitions_among}
-use Rattle.regalloc2_function.specs.Reasons.{definitions_in, inst_definitions, inst_reads, operand_definition, operand_read, param_definition, passed_at}
+use Rattle.regalloc2_function.specs.WellFormed.{BlocksFollow, DefinedOnce, IsDefinedUpTo, UsesAreDefined, definitions_of}
+use Rattle.regalloc2_function.specs.Reasons.{AreSingle, Site}
+use Rattle.regalloc2_function.specs.Reasons.{definitions_in}
 use Rattle.regalloc2_function.specs.Reasons.{uses_in}
-use Rattle.regalloc2_function.proofs.DefsCounted.{among_blocks, first_is_start, insts_to, start_of}
+use Rattle.regalloc2_function.proofs.DefsCounted.{among_blocks, first_is_start, insts_to, start_of, defines_number}
 use Rattle.regalloc2_function.proofs.ListMembers.{all_members, from_filter, from_flat, from_map, from_numbers, in_filter, in_flat, in_map, in_numbers}
 use Rattle.regalloc2_function.proofs.BlockRanges.{block_is}
+use Rattle.regalloc2_function.specs.Inside.Definitions.{argument_use, block_definitions, block_uses, definitions_among, inst_definitions}
+use Rattle.regalloc2_function.specs.Inside.Definitions.{inst_reads, operand_definition, operand_read, param_definition, passed_at}
 
 abbrev param_count : ℕ → BlockValue → ℕ
 param_count n b = count_by (λ v. nat_eq v.number n) b.params
@@ -91,12 +93,12 @@ has_operands f j k less =
     lt_or_le : (m n : ℕ) → (m < n) ⊎ (n ≤ m)
     lt_or_le m n = grind arith
 
-abbrev definition_of : ℕ → OperandValue → DefinitionSite
-definition_of j o = record { vreg = o.vreg; inst = j; usable = after j }
+abbrev definition_of : ℕ → OperandValue → Site
+definition_of j o = record { vreg = o.vreg; inst = j; point = after j }
 
 -- what a listed definition says
-pub listed_defines : (f : FunctionValue) (d : DefinitionSite) (v : VirtualRegister) (i : ℕ) → Contains (definitions_in f) d → d.vreg ≡ v → d.usable ≤ i →
-    IsDefinedBy f v i
+pub listed_defines : (f : FunctionValue) (d : Site) (v : VirtualRegister) (i : ℕ) → Contains (definitions_in f) d → d.vreg ≡ v → d.point ≤ i →
+    IsDefinedUpTo f v i
 listed_defines f d v i m is usable =
     let in_block = from_flat (block_definitions f) f.blocks d m in
     let at = numbered f in_block.0 in_block.1 in
@@ -104,7 +106,7 @@ listed_defines f d v i m is usable =
     d in_block.2) [
       | inl param ↦ (let p = from_map (param_definition in_block.0.range.first) in_block.0.params d param in
           let vreg : p.0 ≡ v = ap (λ d. d.vreg) p.2 ∙ is in
-          let from : before in_block.0.range.first ≡ d.usable = ap (λ d. d.usable) p.2 in
+          let from : before in_block.0.range.first ≡ d.point = ap (λ d. d.point) p.2 in
           let first : before (block_at f at.0).range.first ≤ i =
           subst (λ (b : BlockValue). before b.range.first ≤ i) (sym at.2) (omega (arith, from, usable)) in
           inl (
@@ -119,7 +121,7 @@ listed_defines f d v i m is usable =
           elim (cases_Bool (is_def o.0.kind)) [
             | inl def ↦ (let made : Some (definition_of j.0 o.0) ≡ Some d = sym (ap (λ b. cond b (Some (definition_of j.0 o.0)) None) def) ∙ o.2 in
                 let same : definition_of j.0 o.0 ≡ d = cc in
-                let from : after j.0 ≡ d.usable = ap (λ d. d.usable) same in
+                let from : after j.0 ≡ d.point = ap (λ d. d.point) same in
                 inr (
                   j.0,
                   o.1.0,
@@ -135,12 +137,12 @@ listed_defines f d v i m is usable =
     ]
 
 -- each definition that the function has is listed
-pub defined_listed : (f : FunctionValue) → BlocksFollow f → 0 < length f.blocks → (v : VirtualRegister) (i : ℕ) → IsDefinedBy f v i → (d : DefinitionSite)
-    × Contains (definitions_in f) d × (d.vreg ≡ v) × (d.usable ≤ i)
+pub defined_listed : (f : FunctionValue) → BlocksFollow f → 0 < length f.blocks → (v : VirtualRegister) (i : ℕ) → IsDefinedUpTo f v i → (d : Site)
+    × Contains (definitions_in f) d × (d.vreg ≡ v) × (d.point ≤ i)
 defined_listed f follow some v i before =
     elim before [
       | inl param ↦ (let b : BlockValue = block_at f param.0 in
-          let d : DefinitionSite = param_definition b.range.first v in (
+          let d : Site = param_definition b.range.first v in (
             d,
             in_flat (block_definitions f) f.blocks param.0 b d param.1 (block_is f param.0 param.1)
                 (Contains-append_left (map (param_definition b.range.first) b.params) (flat_map (inst_definitions f) (numbers_of b.range)) d
@@ -165,14 +167,14 @@ defined_listed f follow some v i before =
           ))
     ]
 
-abbrev read_use : ℕ → VirtualRegister → UseSite
+abbrev read_use : ℕ → VirtualRegister → Site
 read_use i v = record { vreg = v; inst = i; point = before i }
 
 -- a fact of each listed use is one of each that the function makes
-pub listed_uses : (f : FunctionValue) → All (λ u. IsDefinedBy f u.vreg u.point) (uses_in f) → UsesAreDefined f
+pub listed_uses : (f : FunctionValue) → All (λ u. IsDefinedUpTo f u.vreg u.point) (uses_in f) → UsesAreDefined f
 listed_uses f all n less =
     let b : BlockValue = block_at f n in
-    let in_block : (u : UseSite) → Contains (block_uses f b) u → IsDefinedBy f u.vreg u.point = λ u m. All-contains (λ u. IsDefinedBy f u.vreg u.point)
+    let in_block : (u : Site) → Contains (block_uses f b) u → IsDefinedUpTo f u.vreg u.point = λ u m. All-contains (λ u. IsDefinedUpTo f u.vreg u.point)
     (uses_in f) u all (in_flat (block_uses f) f.blocks n b u less (block_is f n less) m) in (
       λ i low high k d short reading.
           (let o : OperandValue = get_or (inst_at f i).operands k d in
@@ -190,8 +192,8 @@ listed_uses f all n less =
     )
 
 -- where uses are defined, each use of the list of all uses is
-pub uses_listed : (f : FunctionValue) → UsesAreDefined f → All (λ u. IsDefinedBy f u.vreg u.point) (uses_in f)
-uses_listed f uses = all_members (λ u. IsDefinedBy f u.vreg u.point) (uses_in f) (λ u m.
+pub uses_listed : (f : FunctionValue) → UsesAreDefined f → All (λ u. IsDefinedUpTo f u.vreg u.point) (uses_in f)
+uses_listed f uses = all_members (λ u. IsDefinedUpTo f u.vreg u.point) (uses_in f) (λ u m.
     let in_block = from_flat (block_uses f) f.blocks u m in
     let at = numbered f in_block.0 in_block.1 in
     let b : BlockValue = block_at f at.0 in
@@ -204,14 +206,14 @@ uses_listed f uses = all_members (λ u. IsDefinedBy f u.vreg u.point) (uses_in f
                 ∙ o.2 in
                 let same : read_use i.0 o.0.vreg ≡ u = cc in
                 let h : is_reading (get_or (inst_at f i.0).operands o.1.0 o.0) ≡ true →
-                IsDefinedBy f (get_or (inst_at f i.0).operands o.1.0 o.0).vreg (before i.0) =
+                IsDefinedUpTo f (get_or (inst_at f i.0).operands o.1.0 o.0).vreg (before i.0) =
                 (uses at.0 at.1).0 i.0 i.1 (omega (arith, i.1, i.2)) o.1.0 o.0 o.1.1 in
-                subst (λ (u : UseSite). IsDefinedBy f u.vreg u.point) same
-                (subst (λ (o : OperandValue). IsDefinedBy f o.vreg (before i.0)) o.1.2 (h (ap is_reading o.1.2 ∙ reading))))
+                subst (λ (u : Site). IsDefinedUpTo f u.vreg u.point) same
+                (subst (λ (o : OperandValue). IsDefinedUpTo f o.vreg (before i.0)) o.1.2 (h (ap is_reading o.1.2 ∙ reading))))
             | inr other ↦ absurd (let made : None ≡ Some u = sym (ap (λ t. cond t (Some (read_use i.0 o.0.vreg)) None) other) ∙ o.2 in cc)
           ])
       | inr passed ↦ (let k = from_numbers (passed_at b) 0 (length b.succs) u passed in
           let v = from_map (argument_use (last_of b)) (get_or b.arguments k.0 []) u k.3 in
-          subst (λ (u : UseSite). IsDefinedBy f u.vreg u.point) v.2 (All-contains (λ v. IsDefinedBy f v (after (last_of b))) (get_or b.arguments k.0 []) v.0
+          subst (λ (u : Site). IsDefinedUpTo f u.vreg u.point) v.2 (All-contains (λ v. IsDefinedUpTo f v (after (last_of b))) (get_or b.arguments k.0 []) v.0
           ((uses at.0 at.1).1 k.0 (omega (arith, k.2))) v.1))
     ])

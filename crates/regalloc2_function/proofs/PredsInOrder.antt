@@ -9,7 +9,7 @@ use Rattle.std.proofs.lemmas.List.Sums.{count_by_more_no, count_by_more_yes, sum
 use Rattle.std.proofs.lemmas.List.Folds.{sum_by-replicate}
 use Rattle.regalloc2_index.specs.Range.{numbers_from}
 use Rattle.regalloc2_function.specs.FunctionValue.{FunctionValue, block_at, EachBlock}
-use Rattle.regalloc2_function.specs.WellFormed.{PredecessorsAgree, SuccessorsAreBlocks, times_in}
+use Rattle.regalloc2_function.specs.WellFormed.{SuccessorsAreBlocks, times_in, PredecessorsAt}
 use Rattle.regalloc2_function.specs.Inside.Ways.{ListedInOrder, MetSoFar, ways_of_first}
 use Rattle.regalloc2_function.proofs.ListsInParts.{numbers_more, numbers_split}
 use Rattle.regalloc2_function.proofs.PredsListed.{all_ways_end, all_ways_more}
@@ -133,7 +133,7 @@ times_first f (suc b) n p =
     times_same b p t = sum_by-replicate (λ x. cond (nat_eq x p) 1 0) t b ∙ as_case (nat_eq b p) t
 
 -- predecessors in this order are counted as they should
-pub order_agrees : (f : FunctionValue) → ListedInOrder f → PredecessorsAgree f
+pub order_agrees : (f : FunctionValue) → ListedInOrder f → EachBlock f (PredecessorsAt f)
 order_agrees f order n less p =
     let end : ℕ = length f.blocks in
     let h = times_first f end n p in

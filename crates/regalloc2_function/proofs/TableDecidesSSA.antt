@@ -11,10 +11,10 @@ use Rattle.regalloc2_names.specs.declared.RegClass.{RegClass}
 use Rattle.regalloc2_names.specs.declared.RegAllocError.{RegAllocError}
 use Rattle.regalloc2_names.specs.declared.RegAllocError.TheVariants.{Memory, SSA}
 use Rattle.regalloc2_function.specs.FunctionValue.{FunctionValue}
-use Rattle.regalloc2_function.specs.WellFormed.{BlocksFollow, DefinedOnce, IsDefinedBy, UsesAreDefined}
-use Rattle.regalloc2_function.specs.Reasons.{AreSingle, DefinitionSite, IsDefinitionFault, IsFirstRepeat, IsFirstUndefined, UseSite, definitions_among}
+use Rattle.regalloc2_function.specs.WellFormed.{BlocksFollow, DefinedOnce, IsDefinedUpTo, UsesAreDefined}
+use Rattle.regalloc2_function.specs.Reasons.{AreSingle, Site, IsDefinitionFault, IsFirstIn, IsFirstRepeat}
 use Rattle.regalloc2_function.specs.Reasons.{definitions_in, uses_in}
-use Rattle.regalloc2_function.specs.Inside.Definitions.{IsUsable, NamesTaken, NamesUnusable, NotesDefinitions, Table, entry_of}
+use Rattle.regalloc2_function.specs.Inside.Definitions.{IsUsable, NamesTaken, NamesUnusable, NotesDefinitions, Table, entry_of, definitions_among}
 use Rattle.regalloc2_function.specs.Inside.TableLength.{CoversDefinitions}
 use Rattle.regalloc2_function.proofs.ListingsOfFunction.{defined_listed, listed_defines, listed_uses, once_single, single_once, uses_listed}
 use Rattle.regalloc2_function.proofs.DefsCounted.{among_append}
@@ -24,14 +24,14 @@ same_vreg : (a b : VirtualRegister) → a.number ≡ b.number → a.class ≡ b.
 same_vreg a b n c = ap (λ (x : ℕ). record { number = x; class = a.class }) n ∙ ap (λ (x : RegClass). record { number = b.number; class = x }) c
 
 -- what is single below a bound is so below a greater one
-wider : (n num : ℕ) (ds : List DefinitionSite) → n ≤ num → AreSingle n ds → AreSingle num ds
+wider : (n num : ℕ) (ds : List Site) → n ≤ num → AreSingle n ds → AreSingle num ds
 wider n num ds le h m = let s = h m in (s.0, λ some. let low = s.1 some in omega (arith, le, low))
 
 -- a number that definitions define has a definition among them
-among_some : (ds : List DefinitionSite) (m : ℕ) → 0 < definitions_among ds m → (d : DefinitionSite) × Contains ds d × (d.vreg.number ≡ m)
+among_some : (ds : List Site) (m : ℕ) → 0 < definitions_among ds m → (d : Site) × Contains ds d × (d.vreg.number ≡ m)
 among_some [] m h = absurd (omega (arith, h))
 among_some (d ∷ ds) m h =
-    let c = sum_by-cons (λ (x : DefinitionSite). cond (nat_eq x.vreg.number m) 1 0) d ds in
+    let c = sum_by-cons (λ (x : Site). cond (nat_eq x.vreg.number m) 1 0) d ds in
     elim (cases_Bool (nat_eq d.vreg.number m)) [
       | inl e ↦ (d, (0, omega arith, refl), (Decides-eqb d.vreg.number m).0 e)
       | inr e ↦ (let n : ℕ = cond (nat_eq d.vreg.number m) 1 0 in let none : n ≡ 0 = ap (λ (b : Bool). cond b 1 0) e in
@@ -40,30 +40,30 @@ among_some (d ∷ ds) m h =
     ]
 
 -- single definitions are below a bound with room for all that the function defines, if they are the first of its definitions
-narrower : (f : FunctionValue) (n : ℕ) (xs ys : List DefinitionSite) → CoversDefinitions f n → definitions_in f ≡ xs ++ ys → AreSingle f.num_vregs xs → AreSingle n xs
+narrower : (f : FunctionValue) (n : ℕ) (xs ys : List Site) → CoversDefinitions f n → definitions_in f ≡ xs ++ ys → AreSingle f.num_vregs xs → AreSingle n xs
 narrower f n xs ys room is h m = (
   (h m).0,
   λ some.
       let d = among_some xs m some in
-      let listed : Contains (definitions_in f) d.0 = subst (λ (l : List DefinitionSite). Contains l d.0) (sym is) (Contains-append_left xs ys d.0 d.1) in
-      let defined : IsDefinedBy f d.0.vreg d.0.usable = listed_defines f d.0 d.0.vreg d.0.usable listed refl (omega arith) in
+      let listed : Contains (definitions_in f) d.0 = subst (λ (l : List Site). Contains l d.0) (sym is) (Contains-append_left xs ys d.0 d.1) in
+      let defined : IsDefinedUpTo f d.0.vreg d.0.point = listed_defines f d.0 d.0.vreg d.0.point listed refl (omega arith) in
       let low = (h m).1 some in
-      let small = room d.0.vreg d.0.usable defined (omega (arith, low, d.2)) in
+      let small = room d.0.vreg d.0.point defined (omega (arith, low, d.2)) in
       omega (arith, small, d.2),
 )
 
 module _ (f : FunctionValue) (follow : BlocksFollow f) (some : 0 < length f.blocks) (t : Table) (n : ℕ) where
-  usable_defined : Keeps n (definitions_in f) t → (u : UseSite) → IsUsable t u → IsDefinedBy f u.vreg u.point
+  usable_defined : Keeps n (definitions_in f) t → (u : Site) → IsUsable t u → IsDefinedUpTo f u.vreg u.point
   usable_defined k u h =
       let d = k.found u.vreg.number h.0 h.1 in
       let class : d.0.vreg.class ≡ u.vreg.class = ap (λ e. e.class) d.3 ∙ h.2 in
-      let usable : d.0.usable ≡ h.0.usable = ap (λ e. e.usable) d.3 in
+      let usable : d.0.point ≡ h.0.usable = ap (λ e. e.usable) d.3 in
       listed_defines f d.0 u.vreg u.point d.1 (same_vreg d.0.vreg u.vreg d.2 class) (omega (arith, h.3, usable))
 
-  defined_usable : Keeps n (definitions_in f) t → (u : UseSite) → IsDefinedBy f u.vreg u.point → IsUsable t u
+  defined_usable : Keeps n (definitions_in f) t → (u : Site) → IsDefinedUpTo f u.vreg u.point → IsUsable t u
   defined_usable k u h =
       let d = defined_listed f follow some u.vreg u.point h in
-      (record { class = d.0.vreg.class; usable = d.0.usable }, ap (λ v. entry_of t v.number) (sym d.2) ∙ k.kept d.0 d.1, ap (λ v. v.class) d.2, d.3)
+      (record { class = d.0.vreg.class; usable = d.0.point }, ap (λ v. entry_of t v.number) (sym d.2) ∙ k.kept d.0 d.1, ap (λ v. v.class) d.2, d.3)
 
   -- where the table has taken in all definitions, the function defines each vreg at most once
   pub noted_once : n ≤ f.num_vregs → NotesDefinitions (replicate n None) (definitions_in f) t → DefinedOnce f
@@ -71,20 +71,21 @@ module _ (f : FunctionValue) (follow : BlocksFollow f) (some : 0 < length f.bloc
 
   -- where the table has taken in all definitions and allows each listed use, each use is of a vreg that is defined before it
   pub usable_uses : NotesDefinitions (replicate n None) (definitions_in f) t → All (IsUsable t) (uses_in f) → UsesAreDefined f
-  usable_uses noted all = listed_uses f (All-weaker (IsUsable t) (λ u. IsDefinedBy f u.vreg u.point) (usable_defined (notes_keep n noted)) (uses_in f) all)
+  usable_uses noted all = listed_uses f (All-weaker (IsUsable t) (λ u. IsDefinedUpTo f u.vreg u.point) (usable_defined (notes_keep n noted)) (uses_in f) all)
 
   -- an error that names the first use that the table doesn't allow is right: the use is the first not defined before
   pub unusable_fault : n ≤ f.num_vregs → NotesDefinitions (replicate n None) (definitions_in f) t → (e : RegAllocError) → NamesUnusable t (uses_in f) e →
       IsDefinitionFault f e
   unusable_fault few noted e h =
       let k = notes_keep n noted in
-      let first : IsFirstUndefined f h.0.vreg h.0.inst = (
+      let first : (point : ℕ) × IsFirstIn (λ u. IsDefinedUpTo f u.vreg u.point) (uses_in f)
+      (record { vreg = h.0.vreg; inst = h.0.inst; point = point }) = (
         h.0.point,
         record {
           earlier = h.2.earlier;
           later = h.2.later;
           is = h.2.is;
-          passed = All-weaker (IsUsable t) (λ u. IsDefinedBy f u.vreg u.point) (usable_defined k) h.2.earlier h.2.passed;
+          passed = All-weaker (IsUsable t) (λ u. IsDefinedUpTo f u.vreg u.point) (usable_defined k) h.2.earlier h.2.passed;
           fails = λ defined. h.2.fails (defined_usable k h.0 defined);
         },
       ) in
@@ -109,7 +110,7 @@ taken_fault f n few room e h =
     subst (IsDefinitionFault f) (sym h.1) (inl first)
 
 -- a part that comes first is single where the whole is
-single_part : (num : ℕ) (xs ys : List DefinitionSite) → AreSingle num (xs ++ ys) → AreSingle num xs
+single_part : (num : ℕ) (xs ys : List Site) → AreSingle num (xs ++ ys) → AreSingle num xs
 single_part num xs ys h n = let sum = among_append n xs ys in let s = h n in (omega (arith, sum, s.0), λ some. s.1 (omega (arith, sum)))
 
 -- where both tests pass, the only error is out of memory
@@ -123,9 +124,9 @@ only_memory f follow some once uses (SSA v i) h =
           absurd (repeat.fails (single_part f.num_vregs (repeat.earlier ++ repeat.site ∷ []) repeat.later
           (subst (AreSingle f.num_vregs) whole (once_single f follow some once)))))
       | inr use' ↦ (let all = uses_listed f uses in
-          let at : UseSite = record { vreg = v; inst = i; point = use'.1.0 } in
-          let there : Contains (uses_in f) at = subst (λ (l : List UseSite). Contains l at) (sym use'.1.1.is)
+          let at : Site = record { vreg = v; inst = i; point = use'.1.0 } in
+          let there : Contains (uses_in f) at = subst (λ (l : List Site). Contains l at) (sym use'.1.1.is)
           (Contains-append_right use'.1.1.earlier (at ∷ use'.1.1.later) at (0, omega arith, refl)) in
-          absurd (use'.1.1.fails (All-contains (λ u. IsDefinedBy f u.vreg u.point) (uses_in f) at all there)))
+          absurd (use'.1.1.fails (All-contains (λ u. IsDefinedUpTo f u.vreg u.point) (uses_in f) at all there)))
     ]
 only_memory f follow some once uses _ h = absurd h

@@ -6,18 +6,18 @@ use Rattle.std.proofs.lemmas.Bool.{cases_Bool, cases_eq, cases_lt}
 use Rattle.std.proofs.lemmas.List.{get_or-replicate, get_or_past, length-replicate}
 use Rattle.std.proofs.lemmas.List.Elements.{Contains-append_left, Contains-push, Contains-push_cases}
 use Rattle.std.proofs.lemmas.Bool.Decides.{Decides-eqb}
-use Rattle.regalloc2_function.specs.Reasons.{DefinitionSite, AreSingle, definitions_among}
+use Rattle.regalloc2_function.specs.Reasons.{Site, AreSingle}
 use Rattle.regalloc2_function.specs.declared.ssa.Definition.{Definition}
-use Rattle.regalloc2_function.specs.Inside.Definitions.{Table, NotesDefinitions, IsNumberTaken, entry_of, kept_of}
+use Rattle.regalloc2_function.specs.Inside.Definitions.{Table, NotesDefinitions, IsNumberTaken, entry_of, kept_of, definitions_among}
 use Rattle.regalloc2_function.specs.Inside.Definitions.NotesDefinitions.{none, more}
 use Rattle.regalloc2_function.proofs.DefsCounted.{among_append}
 
 -- a table has an entry for each of these definitions and no other, and they define each number at most once and below a bound
-pub record Keeps (num : ℕ) (ds : List DefinitionSite) (t : Table) : Type 0 where
+pub record Keeps (num : ℕ) (ds : List Site) (t : Table) : Type 0 where
   pub long : length t ≡ num
   pub single : AreSingle num ds
-  pub found : (n : ℕ) (e : Definition) → entry_of t n ≡ Some e → (d : DefinitionSite) × Contains ds d × (d.vreg.number ≡ n) × (kept_of d ≡ e)
-  pub kept : (d : DefinitionSite) → Contains ds d → entry_of t d.vreg.number ≡ Some (kept_of d)
+  pub found : (n : ℕ) (e : Definition) → entry_of t n ≡ Some e → (d : Site) × Contains ds d × (d.vreg.number ≡ n) × (kept_of d ≡ e)
+  pub kept : (d : Site) → Contains ds d → entry_of t d.vreg.number ≡ Some (kept_of d)
   pub free : (n : ℕ) → entry_of t n ≡ None → definitions_among ds n ≡ 0
   pub unknown : (n : ℕ) → definitions_among ds n ≡ 0 → entry_of t n ≡ None
 
@@ -34,10 +34,10 @@ set_here t n o less = rw get_or-set_same refl
 set_there : (t : Table) (n m : ℕ) (o : Option Definition) → m ≢ n → entry_of (set t n o) m ≡ entry_of t m
 set_there t n m o ne = rw get_or-set_other refl
 
-one_here : (d : DefinitionSite) (n : ℕ) → d.vreg.number ≡ n → definitions_among (d ∷ []) n ≡ 1
+one_here : (d : Site) (n : ℕ) → d.vreg.number ≡ n → definitions_among (d ∷ []) n ≡ 1
 one_here d n e = rw (eq-eqb d.vreg.number n e) refl
 
-none_here : (d : DefinitionSite) (n : ℕ) → d.vreg.number ≢ n → definitions_among (d ∷ []) n ≡ 0
+none_here : (d : Site) (n : ℕ) → d.vreg.number ≢ n → definitions_among (d ∷ []) n ≡ 0
 none_here d n ne = rw (differ d.vreg.number n ne) refl
   where
     differ : (x y : ℕ) → x ≢ y → nat_eq x y ≡ false
@@ -55,7 +55,7 @@ keeps_none num = record {
 }
 
 -- a table is that of one definition more once its entry is set at the definition's number, where there was none
-pub keeps_more : (num : ℕ) (ds : List DefinitionSite) (t : Table) (d : DefinitionSite) → Keeps num ds t → d.vreg.number < length t →
+pub keeps_more : (num : ℕ) (ds : List Site) (t : Table) (d : Site) → Keeps num ds t → d.vreg.number < length t →
     entry_of t d.vreg.number ≡ None → Keeps num (ds ++ d ∷ []) (set t d.vreg.number (Some (kept_of d)))
 keeps_more num ds t d k room free = record {
   long = length-set t d.vreg.number (Some (kept_of d)) ∙ k.long;
@@ -77,7 +77,7 @@ keeps_more num ds t d k room free = record {
     | inl old ↦ (let is = k.kept c old in
         let ne : c.vreg.number ≢ d.vreg.number = λ q. (let both : entry_of t c.vreg.number ≡ None = ap (entry_of t) q ∙ free in cc) in
         set_there t d.vreg.number c.vreg.number (Some (kept_of d)) ne ∙ is)
-    | inr new ↦ subst (λ (z : DefinitionSite). entry_of (set t d.vreg.number (Some (kept_of d))) z.vreg.number ≡ Some (kept_of z)) new
+    | inr new ↦ subst (λ (z : Site). entry_of (set t d.vreg.number (Some (kept_of d))) z.vreg.number ≡ Some (kept_of z)) new
         (set_here t d.vreg.number (Some (kept_of d)) room)
   ];
   free = λ n h. elim (cases_eq d.vreg.number n) [
@@ -93,12 +93,12 @@ keeps_more num ds t d k room free = record {
 }
 
 -- what is noted from a blank table on
-pub notes_keep : (num : ℕ) {ds : List DefinitionSite} {t : Table} → NotesDefinitions (replicate num None) ds t → Keeps num ds t
+pub notes_keep : (num : ℕ) {ds : List Site} {t : Table} → NotesDefinitions (replicate num None) ds t → Keeps num ds t
 notes_keep num none = keeps_none num
 notes_keep num (more {ds = ds} {after = after} d n room free) = keeps_more num ds after d (notes_keep num n) room free
 
 -- the first that is taken is the first that repeats
-pub taken_repeats : (num : ℕ) (ds : List DefinitionSite) (t : Table) (d : DefinitionSite) → Keeps num ds t → IsNumberTaken t d.vreg →
+pub taken_repeats : (num : ℕ) (ds : List Site) (t : Table) (d : Site) → Keeps num ds t → IsNumberTaken t d.vreg →
     AreSingle num (ds ++ d ∷ []) → ⊥
 taken_repeats num ds t d k taken single =
     let sum = among_append d.vreg.number ds (d ∷ []) in

@@ -2,8 +2,7 @@
 -- Its parts are what the methods of upstream's trait `Function` return.
 use Rattle.std.specs.Prelude.{ℕ, ◌<◌, ◌≤◌, ◌^◌, Bool, false, IsTrue, List, [], ◌∷◌, length, slice_index_or, sum_by, All, ◌-◌}
 use Rattle.std.specs.Int.{is_power_of_two}
-use Rattle.regalloc2_index.specs.Number.{invalid_number}
-use Rattle.regalloc2_index.specs.Range.{Span}
+use Rattle.regalloc2_index.specs.Range.{invalid_number, Span}
 use Rattle.regalloc2_names.specs.declared.RegClass.{RegClass}
 use Rattle.regalloc2_names.specs.declared.RegClass.TheVariants.{Int, Float, Vector}
 use Rattle.regalloc2_names.specs.declared.sets.PRegSet.{PRegSet}

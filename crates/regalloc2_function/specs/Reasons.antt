@@ -1,28 +1,22 @@
 -- Where the tests of a function fail first, as their errors report.
-use Rattle.std.specs.Prelude.{ℕ, ◌≡◌, ◌≢◌, ◌<◌, ◌≤◌, ◌⊎◌, List, [], ◌∷◌, ◌++◌, All, count_by, filter_map, flat_map, length, map, nat_eq, slice_index_or}
-use Rattle.std.specs.Prelude.{Option, None, Some, if◌then◌else◌}
-use Rattle.regalloc2_index.specs.Range.{numbers_from, numbers_of}
+use Rattle.std.specs.Prelude.{ℕ, ◌≡◌, ◌≢◌, ◌<◌, ◌≤◌, ◌⊎◌, Bool, List, [], ◌∷◌, ◌++◌, All, count_by, length, nat_eq}
+use Rattle.std.specs.Prelude.{None, Some, filter_map, flat_map, if◌then◌else◌, map, slice_index_or}
+use Rattle.regalloc2_index.specs.Range.{invalid_number, numbers_from, numbers_of}
 use Rattle.regalloc2_names.specs.declared.RegAllocError.{RegAllocError}
 use Rattle.regalloc2_names.specs.declared.RegAllocError.TheVariants.{BB, Branch, CritEdge, DisallowedBranchArg, EntryLivein, Memory, SSA, Unsupported}
 use Rattle.regalloc2_names.specs.Register.{VirtualRegister}
 use Rattle.regalloc2_names.specs.Operand.{OperandValue, is_def, is_reading}
-use Rattle.regalloc2_names.specs.Place.{before, after, invalid_inst}
-use Rattle.regalloc2_function.specs.FunctionValue.{FunctionValue, BlockValue, block_at, inst_at, last_of, InstValue}
-use Rattle.regalloc2_function.specs.WellFormed.{ArgumentsCounted, ArgumentsFit, BlocksEnd, BlocksFollow, DefinedOnce, EndsAt, EntryIsFirst, FollowsAt}
-use Rattle.regalloc2_function.specs.WellFormed.{IsDefinedBy, NoCriticalEdge, NoOperandsIntoJoins, PredecessorsAgree, SuccessorsAreBlocks, UsesAreDefined}
+use Rattle.regalloc2_names.specs.Place.{before, after}
+use Rattle.regalloc2_function.specs.FunctionValue.{FunctionValue, block_at, inst_at, last_of, EachBlock}
+use Rattle.regalloc2_function.specs.WellFormed.{BlocksFollow, DefinedOnce, EndsAt, EntryIsFirst, FollowsAt}
+use Rattle.regalloc2_function.specs.WellFormed.{IsDefinedUpTo, SuccessorsAreBlocks, UsesAreDefined}
 use Rattle.regalloc2_function.specs.WellFormed.{ArgumentsFitAt, NoOperandsAt, NotCriticalAt, PredecessorsAt, ReusesAreSound, FixedAvoidClobbers, AreUnlimited}
-use Rattle.regalloc2_function.specs.WellFormed.{BranchDefinesInPlace}
+use Rattle.regalloc2_function.specs.WellFormed.{BranchDefinesInPlace, CountedAt}
 use Rattle.regalloc2_function.specs.Machine.{MachineValue}
 
--- the first block that fails a test
-abbrev pub IsFirstToFail : FunctionValue → (ℕ → BlockValue → Type 0) → ℕ → Type 0
-IsFirstToFail f P b = (b < length f.blocks) × (P b (block_at f b) → ⊥) × ((c : ℕ) → c < b → P c (block_at f c))
-
--- the first instruction that fails a test
-pub record IsFirstFailing (f : FunctionValue) (P : InstValue → Type 0) (i : ℕ) : Type 0 where
-  pub there : i < length f.insts
-  pub fails : P (inst_at f i) → ⊥
-  pub passed : (j : ℕ) → j < i → P (inst_at f j)
+-- the first number below `n` that fails a test
+abbrev pub IsFirst : ℕ → (ℕ → Type 0) → ℕ → Type 0
+IsFirst n P i = (i < n) × (P i → ⊥) × ((j : ℕ) → j < i → P j)
 
 -- the first of a list that fails: all before it pass
 pub record IsFirstIn {X : Type 0} (P : X → Type 0) (xs : List X) (x : X) : Type 0 where
@@ -32,128 +26,83 @@ pub record IsFirstIn {X : Type 0} (P : X → Type 0) (xs : List X) (x : X) : Typ
   pub passed : All P earlier
   pub fails : P x → ⊥
 
--- the number that names no instruction
-abbrev pub no_instruction : ℕ
-no_instruction = invalid_inst
-
--- a definition of a vreg: the instruction that makes it, none for a parameter, and the point from which on it may be used
-pub record DefinitionSite : Type 0 where
-  pub vreg : VirtualRegister
-  pub inst : ℕ
-  pub usable : ℕ
-
--- a parameter of a block that begins at an instruction
-abbrev pub param_definition : ℕ → VirtualRegister → DefinitionSite
-param_definition first v = record { vreg = v; inst = no_instruction; usable = before first }
-
--- the definition that an operand of an instruction makes, if it does
-abbrev pub operand_definition : ℕ → OperandValue → Option DefinitionSite
-operand_definition i o = if is_def o.kind then Some (record { vreg = o.vreg; inst = i; usable = after i }) else None
-
--- an instruction's definitions, in operand order
-abbrev pub inst_definitions : FunctionValue → ℕ → List DefinitionSite
-inst_definitions f i = filter_map (operand_definition i) (inst_at f i).operands
-
--- a block's definitions: its parameters, then the definitions of its instructions
-abbrev pub block_definitions : FunctionValue → BlockValue → List DefinitionSite
-block_definitions f b = map (param_definition b.range.first) b.params ++ flat_map (inst_definitions f) (numbers_of b.range)
-
--- all definitions, block by block
-abbrev pub definitions_in : FunctionValue → List DefinitionSite
-definitions_in f = flat_map (block_definitions f) f.blocks
-
--- how many of the definitions are of a vreg of a number
-abbrev pub definitions_among : List DefinitionSite → ℕ → ℕ
-definitions_among ds n = count_by (λ d. nat_eq d.vreg.number n) ds
-
--- each number is defined at most once by these, and below a bound
-abbrev pub AreSingle : ℕ → List DefinitionSite → Type 0
-AreSingle num ds = (n : ℕ) → (definitions_among ds n ≤ 1) × (0 < definitions_among ds n → n < num)
-
--- the first definition whose number is too large or is defined by an earlier one
-pub record IsFirstRepeat (f : FunctionValue) (v : VirtualRegister) (i : ℕ) : Type 0 where
-  pub site : DefinitionSite
-  pub vreg : site.vreg ≡ v
-  pub inst : site.inst ≡ i
-  pub earlier : List DefinitionSite
-  pub later : List DefinitionSite
-  pub is : definitions_in f ≡ earlier ++ site ∷ later
-  pub single : AreSingle f.num_vregs earlier
-  pub fails : AreSingle f.num_vregs (earlier ++ site ∷ []) → ⊥
-
--- an instruction that reads or passes a vreg, and the point by which that has to be defined: before the instruction if it is read, after
--- it if it is passed
-pub record UseSite : Type 0 where
+-- a vreg that is defined or used: by which instruction (`invalid_number` for a parameter), and at which point
+pub record Site : Type 0 where
   pub vreg : VirtualRegister
   pub inst : ℕ
   pub point : ℕ
 
--- the read that an operand of an instruction makes, if it does
-abbrev pub operand_read : ℕ → OperandValue → Option UseSite
-operand_read i o = if is_reading o then Some (record { vreg = o.vreg; inst = i; point = before i }) else None
+-- the vregs of the operands of an instruction that pass a test, at a point
+abbrev pub sites_of : (OperandValue → Bool) → FunctionValue → ℕ → ℕ → List Site
+sites_of test f i point = filter_map (λ o. if test o then Some (record { vreg = o.vreg; inst = i; point = point }) else None) (inst_at f i).operands
 
--- an instruction's reads, in operand order
-abbrev pub inst_reads : FunctionValue → ℕ → List UseSite
-inst_reads f i = filter_map (operand_read i) (inst_at f i).operands
+-- all definitions, block by block: its parameters, before its first instruction, then what each instruction defines,
+-- after it
+abbrev pub definitions_in : FunctionValue → List Site
+definitions_in f = flat_map (λ b.
+    map (λ v. record { vreg = v; inst = invalid_number; point = before b.range.first }) b.params
+    ++ flat_map (λ i. sites_of (λ o. is_def o.kind) f i (after i)) (numbers_of b.range)) f.blocks
 
--- an argument that an instruction passes
-abbrev pub argument_use : ℕ → VirtualRegister → UseSite
-argument_use i v = record { vreg = v; inst = i; point = after i }
+-- all uses, block by block: what each instruction reads, before it, then what the last one passes to each successor in
+-- turn, after it
+abbrev pub uses_in : FunctionValue → List Site
+uses_in f = flat_map (λ b.
+    flat_map (λ i. sites_of is_reading f i (before i)) (numbers_of b.range)
+    ++ flat_map (λ k. map (λ v. record { vreg = v; inst = last_of b; point = after (last_of b) }) (slice_index_or b.arguments k []))
+    (numbers_from 0 (length b.succs))) f.blocks
 
--- the arguments that a block passes to its successor at a position
-abbrev pub passed_at : BlockValue → ℕ → List UseSite
-passed_at b k = map (argument_use (last_of b)) (slice_index_or b.arguments k [])
+-- each number is defined at most once by these, and below a bound
+abbrev pub AreSingle : ℕ → List Site → Type 0
+AreSingle num ds = (n : ℕ) → (count_by (λ d. nat_eq d.vreg.number n) ds ≤ 1) × (0 < count_by (λ d. nat_eq d.vreg.number n) ds → n < num)
 
--- a block's uses: what its instructions read, then what it passes to its successors in turn
-abbrev pub block_uses : FunctionValue → BlockValue → List UseSite
-block_uses f b = flat_map (inst_reads f) (numbers_of b.range) ++ flat_map (passed_at b) (numbers_from 0 (length b.succs))
+-- the first definition whose number is too large or is defined by an earlier one
+pub record IsFirstRepeat (f : FunctionValue) (v : VirtualRegister) (i : ℕ) : Type 0 where
+  pub site : Site
+  pub vreg : site.vreg ≡ v
+  pub inst : site.inst ≡ i
+  pub earlier : List Site
+  pub later : List Site
+  pub is : definitions_in f ≡ earlier ++ site ∷ later
+  pub single : AreSingle f.num_vregs earlier
+  pub fails : AreSingle f.num_vregs (earlier ++ site ∷ []) → ⊥
 
--- all uses, block by block
-abbrev pub uses_in : FunctionValue → List UseSite
-uses_in f = flat_map (block_uses f) f.blocks
-
--- the first use of what is not defined by then
-abbrev pub IsFirstUndefined : FunctionValue → VirtualRegister → ℕ → Type 0
-IsFirstUndefined f v i = (point : ℕ) × IsFirstIn (λ u. IsDefinedBy f u.vreg u.point) (uses_in f) (record { vreg = v; inst = i; point = point })
-
--- why the definitions of a function are rejected: out of memory, or else the first repeat, or if there is none the first use of what is not defined by then
+-- why the definitions of a function are rejected: out of memory, or else the first repeat, or if there is none the first
+-- use of what is not defined by then
 abbrev pub IsDefinitionFault : FunctionValue → RegAllocError → Type 0
 IsDefinitionFault f Memory = Unit {0}
-IsDefinitionFault f (SSA v i) = IsFirstRepeat f v i ⊎ (DefinedOnce f × IsFirstUndefined f v i)
+IsDefinitionFault f (SSA v i) = IsFirstRepeat f v i
+    ⊎ (DefinedOnce f × ((point : ℕ)
+    × IsFirstIn (λ u. IsDefinedUpTo f u.vreg u.point) (uses_in f) (record { vreg = v; inst = i; point = point })))
 IsDefinitionFault f _ = ⊥
-
--- the first that is no block, of the entry and then all successors as listed
-abbrev pub IsFirstOutside : FunctionValue → ℕ → Type 0
-IsFirstOutside f s = IsFirstIn (λ s. s < length f.blocks) (f.entry ∷ flat_map (λ b. b.succs) f.blocks) s
-
--- the first of a block's predecessors that has several successors
-abbrev pub IsFirstFork : FunctionValue → BlockValue → ℕ → Type 0
-IsFirstFork f b p = IsFirstIn (λ p. length (block_at f p).succs ≤ 1) b.preds p
 
 -- what the tests of blocks and edges test
 pub record HasShape (f : FunctionValue) : Type 0 where
   pub successors : SuccessorsAreBlocks f
   pub follow : BlocksFollow f
-  pub predecessors : PredecessorsAgree f
-  pub no_critical_edge : NoCriticalEdge f
-  pub no_operands_into_joins : NoOperandsIntoJoins f
+  pub predecessors : EachBlock f (PredecessorsAt f)
+  pub no_critical_edge : EachBlock f (NotCriticalAt f)
+  pub no_operands_into_joins : EachBlock f (NoOperandsAt f)
 
--- why the blocks and edges of a function are rejected: the first of these tests that fails, and where it fails first
+-- Why the blocks and edges of a function are rejected: the first of these tests that fails, and where it fails first.
+-- The entry and then all successors, as listed, are tested to be blocks. A critical edge comes from the first
+-- predecessor that has several successors.
 pub data IsShapeFault (f : FunctionValue) : RegAllocError → Type 0 where
-  outside : (s : ℕ) → IsFirstOutside f s → IsShapeFault f (BB s)
-  apart : (b : ℕ) → SuccessorsAreBlocks f → IsFirstToFail f (FollowsAt f) b → IsShapeFault f (BB b)
-  unlisted : (b : ℕ) → SuccessorsAreBlocks f → BlocksFollow f → IsFirstToFail f (PredecessorsAt f) b → IsShapeFault f (BB b)
-  critical : (b p : ℕ) → SuccessorsAreBlocks f → BlocksFollow f → PredecessorsAgree f → IsFirstToFail f (NotCriticalAt f) b → IsFirstFork f (block_at f b) p →
-      IsShapeFault f (CritEdge p b)
-  operands : (b : ℕ) → SuccessorsAreBlocks f → BlocksFollow f → PredecessorsAgree f → NoCriticalEdge f → IsFirstToFail f (NoOperandsAt f) b →
-      IsShapeFault f (DisallowedBranchArg (last_of (block_at f b)))
+  outside : (s : ℕ) → IsFirstIn (λ s. s < length f.blocks) (f.entry ∷ flat_map (λ b. b.succs) f.blocks) s → IsShapeFault f (BB s)
+  apart : (b : ℕ) → SuccessorsAreBlocks f → IsFirst (length f.blocks) (λ n. FollowsAt f n (block_at f n)) b → IsShapeFault f (BB b)
+  unlisted : (b : ℕ) → SuccessorsAreBlocks f → BlocksFollow f → IsFirst (length f.blocks) (λ n. PredecessorsAt f n (block_at f n)) b →
+      IsShapeFault f (BB b)
+  critical : (b p : ℕ) → SuccessorsAreBlocks f → BlocksFollow f → EachBlock f (PredecessorsAt f) →
+      IsFirst (length f.blocks) (λ n. NotCriticalAt f n (block_at f n)) b →
+      IsFirstIn (λ p. length (block_at f p).succs ≤ 1) (block_at f b).preds p → IsShapeFault f (CritEdge p b)
+  operands : (b : ℕ) → SuccessorsAreBlocks f → BlocksFollow f → EachBlock f (PredecessorsAt f) → EachBlock f (NotCriticalAt f) →
+      IsFirst (length f.blocks) (λ n. NoOperandsAt f n (block_at f n)) b → IsShapeFault f (DisallowedBranchArg (last_of (block_at f b)))
 
 -- what the tests of the entry, of terminators, arguments, definitions and uses test
 pub record HasSoundness (f : FunctionValue) : Type 0 where
   pub entry : EntryIsFirst f
-  pub end : BlocksEnd f
-  pub counted : ArgumentsCounted f
-  pub classes : ArgumentsFit f
+  pub end : EachBlock f (EndsAt f)
+  pub counted : EachBlock f (CountedAt f)
+  pub classes : EachBlock f (ArgumentsFitAt f)
   pub defined_once : DefinedOnce f
   pub uses_defined : UsesAreDefined f
 
@@ -161,24 +110,28 @@ pub record HasSoundness (f : FunctionValue) : Type 0 where
 pub data IsSoundnessFault (f : FunctionValue) : RegAllocError → Type 0 where
   elsewhere : f.entry ≢ 0 → IsSoundnessFault f (BB f.entry)
   livein : f.entry ≡ 0 → (block_at f 0).params ≢ [] → IsSoundnessFault f EntryLivein
-  open_end : (b : ℕ) → EntryIsFirst f → IsFirstToFail f (EndsAt f) b → IsSoundnessFault f (BB b)
-  arguments : (b : ℕ) → EntryIsFirst f → BlocksEnd f → IsFirstToFail f (ArgumentsFitAt f) b → IsSoundnessFault f (Branch (last_of (block_at f b)))
-  definitions : (v : VirtualRegister) (i : ℕ) → EntryIsFirst f → BlocksEnd f → ArgumentsFit f → IsDefinitionFault f (SSA v i) → IsSoundnessFault f (SSA v i)
+  open_end : (b : ℕ) → EntryIsFirst f → IsFirst (length f.blocks) (λ n. EndsAt f n (block_at f n)) b → IsSoundnessFault f (BB b)
+  arguments : (b : ℕ) → EntryIsFirst f → EachBlock f (EndsAt f) → IsFirst (length f.blocks) (λ n. ArgumentsFitAt f n (block_at f n)) b →
+      IsSoundnessFault f (Branch (last_of (block_at f b)))
+  repeated : (v : VirtualRegister) (i : ℕ) → EntryIsFirst f → EachBlock f (EndsAt f) → EachBlock f (ArgumentsFitAt f) → IsFirstRepeat f v i →
+      IsSoundnessFault f (SSA v i)
+  undefined : (u : Site) → EntryIsFirst f → EachBlock f (EndsAt f) → EachBlock f (ArgumentsFitAt f) → DefinedOnce f →
+      IsFirstIn (λ u. IsDefinedUpTo f u.vreg u.point) (uses_in f) u → IsSoundnessFault f (SSA u.vreg u.inst)
 
--- where the tests of reuses, and then of fixed registers, fail first
-abbrev pub IsFixedFault : FunctionValue → MachineValue → RegAllocError → Type 0
-IsFixedFault f env e = (i : ℕ) × (e ≡ Unsupported i) × (IsFirstFailing f (ReusesAreSound env) i
-    ⊎ (((j : ℕ) → j < length f.insts → ReusesAreSound env (inst_at f j)) × IsFirstFailing f FixedAvoidClobbers i))
-
--- an instruction that the allocator rejects: the first that has a `Limit`, or if none has one, the first branch that defines in any register or by a
--- reuse
+-- an instruction that the allocator rejects: the first that has a `Limit`, or if none has one, the first branch that
+-- defines in any register or by a reuse
 abbrev pub IsUnsupported : FunctionValue → ℕ → Type 0
-IsUnsupported f i = IsFirstFailing f AreUnlimited i ⊎ (((j : ℕ) → j < length f.insts → AreUnlimited (inst_at f j)) × IsFirstFailing f BranchDefinesInPlace i)
+IsUnsupported f i =
+    IsFirst (length f.insts) (λ j. AreUnlimited (inst_at f j)) i
+    ⊎ (((j : ℕ) → j < length f.insts → AreUnlimited (inst_at f j)) × IsFirst (length f.insts) (λ j. BranchDefinesInPlace (inst_at f j)) i)
 
 -- memory ran out, or a test failed: of blocks and edges; else of the entry, terminators, arguments, definitions and uses; else of
--- reuses and fixed registers
+-- reuses; else of fixed registers
 pub data IsFunctionFault (f : FunctionValue) (env : MachineValue) : RegAllocError → Type 0 where
   memory : IsFunctionFault f env Memory
   misshapen : {e : RegAllocError} → IsShapeFault f e → IsFunctionFault f env e
   unsound : {e : RegAllocError} → HasShape f → IsSoundnessFault f e → IsFunctionFault f env e
-  clashing : {e : RegAllocError} → HasShape f → HasSoundness f → IsFixedFault f env e → IsFunctionFault f env e
+  unsound_reuse : (i : ℕ) → HasShape f → HasSoundness f → IsFirst (length f.insts) (λ j. ReusesAreSound env (inst_at f j)) i →
+      IsFunctionFault f env (Unsupported i)
+  clashing : (i : ℕ) → HasShape f → HasSoundness f → ((j : ℕ) → j < length f.insts → ReusesAreSound env (inst_at f j)) →
+      IsFirst (length f.insts) (λ j. FixedAvoidClobbers (inst_at f j)) i → IsFunctionFault f env (Unsupported i)

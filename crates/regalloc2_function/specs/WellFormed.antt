@@ -38,22 +38,13 @@ BlocksFollow f = EachBlock f (FollowsAt f)
 abbrev pub PredecessorsAt : FunctionValue → ℕ → BlockValue → Type 0
 PredecessorsAt f n b = (p : ℕ) → times_in p b.preds ≡ times_in n (block_at f p).succs
 
-abbrev pub PredecessorsAgree : FunctionValue → Type 0
-PredecessorsAgree f = EachBlock f (PredecessorsAt f)
-
 -- a block with several incoming edges has no predecessor with several successors
 abbrev pub NotCriticalAt : FunctionValue → ℕ → BlockValue → Type 0
 NotCriticalAt f n b = 1 < ways_into f n → All (λ p. length (block_at f p).succs ≤ 1) b.preds
 
-abbrev pub NoCriticalEdge : FunctionValue → Type 0
-NoCriticalEdge f = EachBlock f (NotCriticalAt f)
-
 -- a block's branch into a block with several incoming edges has no operands
 abbrev pub NoOperandsAt : FunctionValue → ℕ → BlockValue → Type 0
 NoOperandsAt f n b = All (λ s. 1 < ways_into f s → (inst_at f (last_of b)).operands ≡ []) b.succs
-
-abbrev pub NoOperandsIntoJoins : FunctionValue → Type 0
-NoOperandsIntoJoins f = EachBlock f (NoOperandsAt f)
 
 -- the entry is block 0 and has no parameters
 abbrev pub EntryIsFirst : FunctionValue → Type 0
@@ -68,32 +59,19 @@ abbrev pub EndsAt : FunctionValue → ℕ → BlockValue → Type 0
 EndsAt f n b = EndsBlock (inst_at f (last_of b)) (length b.succs)
     × EachInst f b (λ i inst. i < last_of b → (inst.is_branch ≡ false) × (inst.is_ret ≡ false))
 
-abbrev pub BlocksEnd : FunctionValue → Type 0
-BlocksEnd f = EachBlock f (EndsAt f)
-
 -- each successor is given as many arguments as it has parameters
 abbrev pub CountedAt : FunctionValue → ℕ → BlockValue → Type 0
 CountedAt f n b = (k : ℕ) → k < length b.succs → length (slice_index_or b.arguments k []) ≡ length (block_at f (slice_index b.succs k)).params
-
-abbrev pub ArgumentsCounted : FunctionValue → Type 0
-ArgumentsCounted f = EachBlock f (CountedAt f)
 
 -- the arguments for each successor are of the classes of its parameters
 abbrev pub ArgumentsFitAt : FunctionValue → ℕ → BlockValue → Type 0
 ArgumentsFitAt f n b = (k : ℕ) → k < length b.succs → map (λ v. v.class) (slice_index_or b.arguments k []) ≡ map (λ v. v.class)
     (block_at f (slice_index b.succs k)).params
 
-abbrev pub ArgumentsFit : FunctionValue → Type 0
-ArgumentsFit f = EachBlock f (ArgumentsFitAt f)
-
--- an operand that defines
-abbrev pub defines_number : ℕ → OperandValue → Bool
-defines_number n o = is_def o.kind && nat_eq o.vreg.number n
-
 -- how often a vreg's number is defined: as a parameter and by instructions
 abbrev pub definitions_of : FunctionValue → ℕ → ℕ
 definitions_of f n = sum_of (map (λ b. count_by (λ v. nat_eq v.number n) b.params) f.blocks) + sum_of
-    (map (λ i. count_by (defines_number n) i.operands) f.insts)
+    (map (λ i. count_by (λ o. is_def o.kind && nat_eq o.vreg.number n) i.operands) f.insts)
   where
     sum_of : List ℕ → ℕ
     sum_of [] = 0
@@ -103,10 +81,10 @@ definitions_of f n = sum_of (map (λ b. count_by (λ v. nat_eq v.number n) b.par
 abbrev pub DefinedOnce : FunctionValue → Type 0
 DefinedOnce f = (n : ℕ) → (definitions_of f n ≤ 1) × (0 < definitions_of f n → n < f.num_vregs)
 
--- A vreg is defined by a point: as a parameter, just before its block's first instruction, or by an operand, after its instruction.
--- Points are in the order of instruction numbers.
-abbrev pub IsDefinedBy : FunctionValue → VirtualRegister → ℕ → Type 0
-IsDefinedBy f v point =
+-- a vreg is defined up to a point, in the order of instruction numbers: as a parameter, just before its block's first
+-- instruction, or by an operand, after its instruction
+abbrev pub IsDefinedUpTo : FunctionValue → VirtualRegister → ℕ → Type 0
+IsDefinedUpTo f v point =
     ((b : ℕ) × (b < length f.blocks) × (before (block_at f b).range.first ≤ point) × Contains (block_at f b).params v)
     ⊎ ((j k : ℕ) × (d : OperandValue) × (after j ≤ point) × (k < length (inst_at f j).operands)
     × (is_def (slice_index_or (inst_at f j).operands k d).kind ≡ true) × ((slice_index_or (inst_at f j).operands k d).vreg ≡ v))
@@ -114,11 +92,12 @@ IsDefinedBy f v point =
 -- each vreg that is read is defined before its instruction, and each that is passed is defined before the branch, or by the branch itself
 abbrev pub UsesAreDefined : FunctionValue → Type 0
 UsesAreDefined f = EachBlock f (λ n b.
-    EachInst f b (λ i inst. EachOperand inst (λ k o. is_reading o ≡ true → IsDefinedBy f o.vreg (before i)))
-    × ((k : ℕ) → k < length b.succs → All (λ v. IsDefinedBy f v (after (last_of b))) (slice_index_or b.arguments k [])))
+    EachInst f b (λ i inst. EachOperand inst (λ k o. is_reading o ≡ true → IsDefinedUpTo f o.vreg (before i)))
+    × ((k : ℕ) → k < length b.succs → All (λ v. IsDefinedUpTo f v (after (last_of b))) (slice_index_or b.arguments k [])))
 
-abbrev pub IsReuse : OperandConstraint → ℕ → Type 0
-IsReuse k n = k ≡ Reuse n
+-- operand `k` is reused: an operand of the instruction has the constraint to reuse it
+abbrev pub IsReused : InstValue → ℕ → Type 0
+IsReused i k = (j : ℕ) × (d : OperandValue) × (j < length i.operands) × ((slice_index_or i.operands j d).constraint ≡ Reuse k)
 
 -- a constraint that a reused operand may have
 abbrev pub MayBeReused : MachineValue → RegClass → OperandConstraint → Type 0
@@ -131,47 +110,44 @@ MayBeReused env class (Limit n) = ⊥
 
 -- reuses are late definitions of early uses, each of its own
 pub record ReusesAreSound (env : MachineValue) (i : InstValue) : Type 0 where
-  pub definitions : EachOperand i (λ k o. (n : ℕ) → IsReuse o.constraint n → (o.kind ≡ Def) × (o.position ≡ Late))
-  pub targets : EachOperand i (λ k o. (n : ℕ) (d : OperandValue) → IsReuse o.constraint n → (n < length i.operands)
+  pub definitions : EachOperand i (λ k o. (n : ℕ) → o.constraint ≡ Reuse n → (o.kind ≡ Def) × (o.position ≡ Late))
+  pub targets : EachOperand i (λ k o. (n : ℕ) (d : OperandValue) → o.constraint ≡ Reuse n → (n < length i.operands)
       × (let u : OperandValue = slice_index_or i.operands n d in (u.kind ≡ Use) × (u.position ≡ Early) × (is_reading u ≡ true) × (u.vreg.class ≡ o.vreg.class)
       × MayBeReused env u.vreg.class u.constraint))
-  pub apart : (j k n : ℕ) (d e : OperandValue) → j < length i.operands → k < length i.operands → IsReuse (slice_index_or i.operands j d).constraint n →
-      IsReuse (slice_index_or i.operands k e).constraint n → j ≡ k
+  pub apart : (j k n : ℕ) (d e : OperandValue) → j < length i.operands → k < length i.operands →
+      (slice_index_or i.operands j d).constraint ≡ Reuse n → (slice_index_or i.operands k e).constraint ≡ Reuse n → j ≡ k
 
 -- no definition, late use or reused early use is fixed to a clobber
 abbrev pub FixedAvoidClobbers : InstValue → Type 0
 FixedAvoidClobbers i = EachOperand i (λ k o. (r : Register) → o.constraint ≡ FixedReg r → (o.kind ≡ Def) ⊎ (o.position ≡ Late)
-    ⊎ ((j : ℕ) × (d : OperandValue) × (j < length i.operands) × IsReuse (slice_index_or i.operands j d).constraint k) → has_register i.clobbers r ≡ false)
+    ⊎ IsReused i k → has_register i.clobbers r ≡ false)
 
 -- a structurally valid function: its blocks and terminators are sound, and its arguments are counted
 pub record IsFramed (f : FunctionValue) : Type 0 where
   pub successors : SuccessorsAreBlocks f
   pub follow : BlocksFollow f
-  pub end : BlocksEnd f
-  pub counted : ArgumentsCounted f
+  pub end : EachBlock f (EndsAt f)
+  pub counted : EachBlock f (CountedAt f)
 
 -- a function that may be allocated
 pub record IsWellFormed (env : MachineValue) (f : FunctionValue) : Type 0 where
   pub successors : SuccessorsAreBlocks f
   pub follow : BlocksFollow f
-  pub predecessors : PredecessorsAgree f
-  pub no_critical_edge : NoCriticalEdge f
-  pub no_operands_into_joins : NoOperandsIntoJoins f
+  pub predecessors : EachBlock f (PredecessorsAt f)
+  pub no_critical_edge : EachBlock f (NotCriticalAt f)
+  pub no_operands_into_joins : EachBlock f (NoOperandsAt f)
   pub entry : EntryIsFirst f
-  pub end : BlocksEnd f
-  pub counted : ArgumentsCounted f
-  pub classes : ArgumentsFit f
+  pub end : EachBlock f (EndsAt f)
+  pub counted : EachBlock f (CountedAt f)
+  pub classes : EachBlock f (ArgumentsFitAt f)
   pub defined_once : DefinedOnce f
   pub uses_defined : UsesAreDefined f
   pub reuses : All (ReusesAreSound env) f.insts
   pub fixed : All FixedAvoidClobbers f.insts
 
 -- no operand has `Limit`
-abbrev pub IsUnlimited : OperandValue → Type 0
-IsUnlimited o = (n : ℕ) → o.constraint ≡ Limit n → ⊥
-
 abbrev pub AreUnlimited : InstValue → Type 0
-AreUnlimited i = (k : ℕ) → k < length i.operands → IsUnlimited (op_at i.operands k)
+AreUnlimited i = (k : ℕ) → k < length i.operands → (n : ℕ) → (op_at i.operands k).constraint ≡ Limit n → ⊥
 
 -- the place of an operand under a constraint is known before registers are chosen: a register by name, or a stack place if need be
 abbrev pub IsInPlace : OperandConstraint → Type 0
@@ -182,9 +158,7 @@ IsInPlace (FixedReg r) = Unit {0}
 IsInPlace (Reuse n) = ⊥
 IsInPlace (Limit n) = Unit {0}
 
-abbrev pub DefinesInPlace : OperandValue → Type 0
-DefinesInPlace o = is_def o.kind ≡ true → IsInPlace o.constraint
-
--- a branch defines in such places alone
+-- each definition of a branch is under a constraint whose place is known before registers are chosen
 abbrev pub BranchDefinesInPlace : InstValue → Type 0
-BranchDefinesInPlace i = i.is_branch ≡ true → (k : ℕ) → k < length i.operands → DefinesInPlace (op_at i.operands k)
+BranchDefinesInPlace i = i.is_branch ≡ true → (k : ℕ) → k < length i.operands → is_def (op_at i.operands k).kind ≡ true →
+    IsInPlace (op_at i.operands k).constraint

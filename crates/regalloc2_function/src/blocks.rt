@@ -1,11 +1,11 @@
 //! The tests of a function's blocks and edges.
 
 ghost use Rattle.std.specs.Prelude.{◌≡◌, ◌+◌, ◌<◌, ◌≤◌, ◌^◌, ◌↔◌, ◌⊎◌, ℕ, [], All, length, replicate, slice_index, IfErr, IfNone, IfOk, IfSome, IsTrue, OnOk};
-ghost use Rattle.std.specs.Prelude.{if◌then◌else◌, nat_eq};
+ghost use Rattle.std.specs.Prelude.{◌∷◌, flat_map, if◌then◌else◌, nat_eq};
 ghost use Rattle.std.specs.Bool.{OnTrue};
 ghost use Rattle.regalloc2_function.specs.FunctionValue.{block_at, EachBlock, last_of};
-ghost use Rattle.regalloc2_function.specs.Reasons.{HasShape, IsFirstFork, IsFirstIn, IsFirstOutside, IsShapeFault, IsFirstToFail};
-ghost use Rattle.regalloc2_function.specs.WellFormed.{BlocksFollow, NoCriticalEdge, NoOperandsAt, NoOperandsIntoJoins, NotCriticalAt, PredecessorsAgree};
+ghost use Rattle.regalloc2_function.specs.Reasons.{HasShape, IsFirst, IsFirstIn, IsShapeFault};
+ghost use Rattle.regalloc2_function.specs.WellFormed.{BlocksFollow, NoOperandsAt, NotCriticalAt};
 ghost use Rattle.regalloc2_function.specs.WellFormed.{PredecessorsAt, SuccessorsAreBlocks, times_in, ways_into};
 ghost use Rattle.regalloc2_function.specs.Inside.Ways.{ListedInOrder, MetSoFar, listed_of};
 
@@ -30,7 +30,8 @@ pub fn first_outside(num_blocks: usize, blocks: &[Block]) -> Option<Block>
 /// Tests that the entry and each successor is a block.
 pub fn test_successors<F: Function>(f: &F) -> Result<(), RegAllocError>
     ensures ok { OnOk result (SuccessorsAreBlocks (F.function f.now)) }
-    ensures err { IfErr result (λ e. (s : ℕ) × (e ≡ RegAllocError.BB s) × IsFirstOutside (F.function f.now) s) }
+    ensures err { IfErr result (λ e. (s : ℕ) × (e ≡ RegAllocError.BB s)
+        × IsFirstIn (λ s. s < length (F.function f.now).blocks) ((F.function f.now).entry ∷ flat_map (λ b. b.succs) (F.function f.now).blocks) s) }
 {
     let num_blocks = f.num_blocks();
     let entry = f.entry_block();
@@ -154,8 +155,9 @@ fn compare_ways<A: Allocator + Copy, F: Function>(
     requires zero { counts.old ≡ replicate (length (F.function f.now).blocks) 0 }
     requires long { length ways.now ≡ length (F.function f.now).blocks }
     requires ways { (n p : ℕ) → times_in p (listed_of ways.now n) ≡ times_in n (block_at (F.function f.now) p).succs }
-    ensures ok { OnOk result (PredecessorsAgree (F.function f.now)) }
-    ensures err { IfErr result (λ e. (b : ℕ) × (e ≡ RegAllocError.BB b) × IsFirstToFail (F.function f.now) (PredecessorsAt (F.function f.now)) b) }
+    ensures ok { OnOk result (EachBlock (F.function f.now) (PredecessorsAt (F.function f.now))) }
+    ensures err { IfErr result (λ e. (b : ℕ) × (e ≡ RegAllocError.BB b)
+        × IsFirst (length (F.function f.now).blocks) (λ n. PredecessorsAt (F.function f.now) n (block_at (F.function f.now) n)) b) }
 {
     for b in 0..f.num_blocks() {
         let block = Block::new(b);
@@ -228,9 +230,9 @@ fn are_in_order<A: Allocator + Copy, F: Function>(alloc: A, f: &F) -> Result<boo
 /// Compares the predecessors of each block with the blocks that name it as a successor, counted.
 fn test_counted<A: Allocator + Copy, F: Function>(alloc: A, f: &F) -> Result<(), RegAllocError>
     requires { SuccessorsAreBlocks (F.function f.now) }
-    ensures ok { OnOk result (PredecessorsAgree (F.function f.now)) }
+    ensures ok { OnOk result (EachBlock (F.function f.now) (PredecessorsAt (F.function f.now))) }
     ensures err { IfErr result (λ e. (e ≡ RegAllocError.Memory) ⊎ ((b : ℕ) × (e ≡ RegAllocError.BB b)
-        × IsFirstToFail (F.function f.now) (PredecessorsAt (F.function f.now)) b)) }
+        × IsFirst (length (F.function f.now).blocks) (λ n. PredecessorsAt (F.function f.now) n (block_at (F.function f.now) n)) b)) }
 {
     let mut ways = no_ways(alloc, f.num_blocks())?;
     add_all_ways(ways.as_mut_slice(), f)?;
@@ -244,9 +246,9 @@ pub fn test_predecessors<A: Allocator + Copy, F: Function>(
     f: &F,
 ) -> Result<(), RegAllocError>
     requires { SuccessorsAreBlocks (F.function f.now) }
-    ensures ok { OnOk result (PredecessorsAgree (F.function f.now)) }
+    ensures ok { OnOk result (EachBlock (F.function f.now) (PredecessorsAt (F.function f.now))) }
     ensures err { IfErr result (λ e. (e ≡ RegAllocError.Memory) ⊎ ((b : ℕ) × (e ≡ RegAllocError.BB b)
-        × IsFirstToFail (F.function f.now) (PredecessorsAt (F.function f.now)) b)) }
+        × IsFirst (length (F.function f.now).blocks) (λ n. PredecessorsAt (F.function f.now) n (block_at (F.function f.now) n)) b)) }
 {
     // Front ends list predecessors in this order, and the pass needs no lists.
     if are_in_order(alloc, f)? {
@@ -286,9 +288,10 @@ fn first_fork<F: Function>(f: &F, preds: &[Block]) -> Option<Block>
 /// Tests that no block with several incoming edges has a predecessor with several successors.
 pub fn test_edges<F: Function>(f: &F) -> Result<(), RegAllocError>
     requires { EachBlock (F.function f.now) (λ n b. All (λ p. p < length (F.function f.now).blocks) b.preds) }
-    ensures ok { OnOk result (NoCriticalEdge (F.function f.now)) }
-    ensures err { IfErr result (λ e. (b p : ℕ) × (e ≡ RegAllocError.CritEdge p b) × IsFirstToFail (F.function f.now) (NotCriticalAt (F.function f.now)) b
-        × IsFirstFork (F.function f.now) (block_at (F.function f.now) b) p) }
+    ensures ok { OnOk result (EachBlock (F.function f.now) (NotCriticalAt (F.function f.now))) }
+    ensures err { IfErr result (λ e. (b p : ℕ) × (e ≡ RegAllocError.CritEdge p b)
+        × (IsFirst (length (F.function f.now).blocks) (λ n. NotCriticalAt (F.function f.now) n (block_at (F.function f.now) n)) b)
+        × IsFirstIn (λ p. length (block_at (F.function f.now) p).succs ≤ 1) (block_at (F.function f.now) b).preds p) }
 {
     for b in 0..f.num_blocks() {
         let block = Block::new(b);
@@ -325,9 +328,9 @@ fn may_branch<F: Function>(f: &F, block: Block, last: Inst) -> bool
 pub fn test_branches<F: Function>(f: &F) -> Result<(), RegAllocError>
     requires blocks { SuccessorsAreBlocks (F.function f.now) }
     requires follow { BlocksFollow (F.function f.now) }
-    ensures ok { OnOk result (NoOperandsIntoJoins (F.function f.now)) }
+    ensures ok { OnOk result (EachBlock (F.function f.now) (NoOperandsAt (F.function f.now))) }
     ensures err { IfErr result (λ e. (b : ℕ) × (e ≡ RegAllocError.DisallowedBranchArg (last_of (block_at (F.function f.now) b)))
-        × IsFirstToFail (F.function f.now) (NoOperandsAt (F.function f.now)) b) }
+        × IsFirst (length (F.function f.now).blocks) (λ n. NoOperandsAt (F.function f.now) n (block_at (F.function f.now) n)) b) }
 {
     for b in 0..f.num_blocks() {
         let block = Block::new(b);

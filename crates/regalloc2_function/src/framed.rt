@@ -1,10 +1,10 @@
 //! Tests of whether a function is structurally valid (`IsFramed`).
 
 ghost use Rattle.std.specs.Prelude.{◌≡◌, ◌+◌, ◌<◌, ◌≤◌, ◌↔◌, ℕ, false, IsTrue, IsOk, IfErr, length};
-ghost use Rattle.regalloc2_function.specs.FunctionValue.{block_at, inst_at};
-ghost use Rattle.regalloc2_function.specs.WellFormed.{SuccessorsAreBlocks, BlocksFollow, FollowsAt, BlocksEnd, EndsAt, EndsBlock, ArgumentsCounted};
+ghost use Rattle.regalloc2_function.specs.FunctionValue.{block_at, inst_at, EachBlock};
+ghost use Rattle.regalloc2_function.specs.WellFormed.{SuccessorsAreBlocks, BlocksFollow, FollowsAt, EndsAt, EndsBlock};
 ghost use Rattle.regalloc2_function.specs.WellFormed.{CountedAt, IsFramed};
-ghost use Rattle.regalloc2_function.specs.Reasons.{IsFirstToFail};
+ghost use Rattle.regalloc2_function.specs.Reasons.{IsFirst};
 
 use super::Function;
 use regalloc2_index::{Block, Inst};
@@ -55,7 +55,8 @@ fn follows<F: Function>(f: &F, block: Block) -> bool
 /// `BB` with the first block that fails.
 pub fn test_blocks<F: Function>(f: &F) -> Result<(), RegAllocError>
     ensures ok { IsOk result ↔ BlocksFollow (F.function f.now) }
-    ensures first { IfErr result (λ e. (b : ℕ) × (e ≡ RegAllocError.BB b) × IsFirstToFail (F.function f.now) (FollowsAt (F.function f.now)) b) }
+    ensures first { IfErr result (λ e. (b : ℕ) × (e ≡ RegAllocError.BB b)
+        × IsFirst (length (F.function f.now).blocks) (λ n. FollowsAt (F.function f.now) n (block_at (F.function f.now) n)) b) }
 {
     for b in 0..f.num_blocks() {
         let block = Block::new(b);
@@ -117,8 +118,9 @@ fn ends<F: Function>(f: &F, block: Block) -> bool
 /// `BB` with the first block that fails.
 pub fn test_ends<F: Function>(f: &F) -> Result<(), RegAllocError>
     requires { BlocksFollow (F.function f.now) }
-    ensures ok { IsOk result ↔ BlocksEnd (F.function f.now) }
-    ensures first { IfErr result (λ e. (b : ℕ) × (e ≡ RegAllocError.BB b) × IsFirstToFail (F.function f.now) (EndsAt (F.function f.now)) b) }
+    ensures ok { IsOk result ↔ EachBlock (F.function f.now) (EndsAt (F.function f.now)) }
+    ensures first { IfErr result (λ e. (b : ℕ) × (e ≡ RegAllocError.BB b)
+        × IsFirst (length (F.function f.now).blocks) (λ n. EndsAt (F.function f.now) n (block_at (F.function f.now) n)) b) }
 {
     for b in 0..f.num_blocks() {
         let block = Block::new(b);
@@ -151,7 +153,7 @@ fn counts_arguments<F: Function>(f: &F, block: Block, last: Inst) -> bool
 fn arguments_counted<F: Function>(f: &F) -> bool
     requires blocks { SuccessorsAreBlocks (F.function f.now) }
     requires follow { BlocksFollow (F.function f.now) }
-    ensures { IsTrue result ↔ ArgumentsCounted (F.function f.now) }
+    ensures { IsTrue result ↔ EachBlock (F.function f.now) (CountedAt (F.function f.now)) }
 {
     for b in 0..f.num_blocks() {
         let block = Block::new(b);

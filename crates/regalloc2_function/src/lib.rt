@@ -6,7 +6,7 @@
 #![tactic(auto)]
 
 ghost use Rattle.std.specs.Prelude.{◌≡◌, ◌+◌, ◌<◌, ◌≤◌, SomeIff, length, map, slice_index_or, []};
-ghost use Rattle.regalloc2_index.specs.Number.{invalid_number};
+ghost use Rattle.regalloc2_index.specs.Range.{invalid_number};
 ghost use Rattle.regalloc2_names.specs.Place.{slot_limit, inst_limit};
 ghost use Rattle.regalloc2_names.specs.Register.{vreg_limit};
 ghost use Rattle.regalloc2_function.specs.FunctionValue.{FunctionValue, IsLimited, block_at, inst_at, operand_count, operand_limit, slot_size, label_of};

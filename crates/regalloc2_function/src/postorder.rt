@@ -1,7 +1,7 @@
 //! The order in which a depth-first walk leaves blocks.
 
 ghost use Rattle.std.specs.Prelude.{◌≡◌, ◌<◌, ◌≤◌, ◌↔◌, ◌⊎◌, ℕ, List, [], ◌∷◌, length, false, true, IfErr, OnErr, OnOk};
-ghost use Rattle.regalloc2_index.specs.Number.{number_limit};
+ghost use Rattle.regalloc2_index.specs.Range.{number_limit};
 ghost use Rattle.regalloc2_function.specs.Reasons.{IsFirstIn};
 ghost use Rattle.regalloc2_function.specs.WellFormed.{SuccessorsAreBlocks};
 ghost use Rattle.regalloc2_function.specs.Leaves.{Leaves, ListsOnce, Reaches, met, succs_in};

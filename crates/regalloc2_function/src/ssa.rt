@@ -5,14 +5,13 @@ ghost use Rattle.std.specs.Prelude.{None, OnOk, Some};
 ghost use Rattle.std.specs.Bool.{OnFalse, OnTrue};
 ghost use Rattle.regalloc2_index.specs.Range.{numbers_from, numbers_of};
 ghost use Rattle.regalloc2_names.specs.Place.{inst_limit};
-ghost use Rattle.regalloc2_function.specs.FunctionValue.{block_at, last_of};
-ghost use Rattle.regalloc2_function.specs.Reasons.{param_definition, operand_definition, inst_definitions, block_definitions, definitions_in, operand_read};
-ghost use Rattle.regalloc2_function.specs.Reasons.{inst_reads, argument_use, passed_at, block_uses, uses_in, IsDefinitionFault, HasShape, HasSoundness};
-ghost use Rattle.regalloc2_function.specs.Reasons.{IsSoundnessFault, IsFirstToFail};
-ghost use Rattle.regalloc2_function.specs.WellFormed.{ArgumentsFit, ArgumentsFitAt, BlocksFollow, DefinedOnce, EntryIsFirst, SuccessorsAreBlocks};
+ghost use Rattle.regalloc2_function.specs.FunctionValue.{block_at, last_of, EachBlock};
+ghost use Rattle.regalloc2_function.specs.Reasons.{definitions_in, uses_in, HasShape, HasSoundness, IsDefinitionFault, IsFirst, IsSoundnessFault};
+ghost use Rattle.regalloc2_function.specs.WellFormed.{ArgumentsFitAt, BlocksFollow, DefinedOnce, EntryIsFirst, SuccessorsAreBlocks};
 ghost use Rattle.regalloc2_function.specs.WellFormed.{UsesAreDefined};
 ghost use Rattle.regalloc2_function.specs.Inside.Definitions.{entry_of, IsDefinedInTable, IsNumberTaken, IsUsable, NamesTaken, NamesUnusable};
-ghost use Rattle.regalloc2_function.specs.Inside.Definitions.{NotesDefinitions};
+ghost use Rattle.regalloc2_function.specs.Inside.Definitions.{NotesDefinitions, block_definitions, inst_definitions, operand_definition, param_definition};
+ghost use Rattle.regalloc2_function.specs.Inside.Definitions.{argument_use, block_uses, inst_reads, operand_read, passed_at};
 ghost use Rattle.regalloc2_function.specs.Inside.TableLength.{CoversDefinitions};
 ghost use Rattle.regalloc2_function.specs.Tables.{IsInfoOf};
 
@@ -356,9 +355,9 @@ fn arguments_fit<F: Function>(f: &F, block: Block, last: Inst) -> bool
 fn test_fit<F: Function>(f: &F) -> Result<(), RegAllocError>
     requires blocks { SuccessorsAreBlocks (F.function f.now) }
     requires follow { BlocksFollow (F.function f.now) }
-    ensures ok { OnOk result (ArgumentsFit (F.function f.now)) }
+    ensures ok { OnOk result (EachBlock (F.function f.now) (ArgumentsFitAt (F.function f.now))) }
     ensures err { IfErr result (λ e. (b : ℕ) × (e ≡ RegAllocError.Branch (last_of (block_at (F.function f.now) b)))
-        × IsFirstToFail (F.function f.now) (ArgumentsFitAt (F.function f.now)) b) }
+        × IsFirst (length (F.function f.now).blocks) (λ n. ArgumentsFitAt (F.function f.now) n (block_at (F.function f.now) n)) b) }
 {
     for b in 0..f.num_blocks() {
         let block = Block::new(b);

@@ -1,6 +1,14 @@
--- Ranges of instructions, as contracts see them.
+-- Numbers of instructions and blocks, and ranges of instructions, as contracts see them.
 use Rattle.std.specs.Prelude.{ℕ, zero, suc, ◌≡◌, ◌<◌, ◌+◌, ◌-◌, List, [], ◌∷◌, ◌++◌, refl}
 use Rattle.std.proofs.Common.{arith, ap}
+
+-- the number that stands for no instruction, and for no block
+abbrev pub invalid_number : ℕ
+invalid_number = 4294967295
+
+-- the numbers of instructions and blocks, with the invalid number, are below it
+abbrev pub number_limit : ℕ
+number_limit = 4294967296
 
 -- the instructions from `first` on, up to but without `end`
 pub record Span : Type 0 where

@@ -1,7 +1,7 @@
 //! Numbers of blocks.
 
 ghost use Rattle.std.specs.Prelude.{◌≡◌, ◌≢◌, ℕ, ◌+◌, ◌-◌, ◌<◌, ◌↔◌, IsTrue};
-ghost use Rattle.regalloc2_index.specs.Number.{invalid_number, number_limit};
+ghost use Rattle.regalloc2_index.specs.Range.{invalid_number, number_limit};
 
 use super::ContainerIndex;
 use std::marker::Model;

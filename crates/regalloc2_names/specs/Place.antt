@@ -1,6 +1,6 @@
 -- Places and program points, as contracts see them.
 use Rattle.std.specs.Prelude.{ℕ, ◌≡◌, ◌≤◌, ◌⊎◌, Option, None, Some, Bool, true, false, nat_eq, ◌<◌, ◌+◌, ◌*◌, ◌/◌, ◌%◌, nat_lt, if◌then◌else◌}
-use Rattle.regalloc2_index.specs.Number.{invalid_number}
+use Rattle.regalloc2_index.specs.Range.{invalid_number}
 use Rattle.regalloc2_names.specs.declared.AllocationKind.{AllocationKind}
 use Rattle.regalloc2_names.specs.declared.AllocationKind.TheVariants.{None as NoKind, Reg as RegKind, Stack as StackKind}
 use Rattle.regalloc2_names.specs.declared.sets.PRegSet.{PRegSet}

@@ -1,7 +1,7 @@
 //! Virtual registers.
 
 ghost use Rattle.std.specs.Prelude.{◌≡◌, ℕ, ◌<◌, ◌≤◌, ◌↔◌, IsTrue};
-ghost use Rattle.regalloc2_index.specs.Number.{number_limit};
+ghost use Rattle.regalloc2_index.specs.Range.{number_limit};
 ghost use Rattle.regalloc2_names.specs.RegisterBits.{IsVRegBits, bits_of_vreg, vreg_of_bits};
 ghost use Rattle.regalloc2_names.specs.Register.{IsVirtualRegister, invalid_vreg};
 

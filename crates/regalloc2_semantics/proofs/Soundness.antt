@@ -7,11 +7,12 @@ use Rattle.std.proofs.lemmas.List.{get_or_past}
 use Rattle.std.proofs.lemmas.List.Sums.{get_or-le-sum_by, sum_by-cons, count_by-le-length}
 use Rattle.regalloc2_names.specs.Register.{VirtualRegister, is_vreg}
 use Rattle.regalloc2_names.specs.Operand.{OperandValue, is_def}
-use Rattle.regalloc2_function.specs.FunctionValue.{FunctionValue, BlockValue, InstValue, block_at, inst_at, no_block, no_inst, no_operand, op_at}
-use Rattle.regalloc2_function.specs.WellFormed.{defines_number, times_in, ways_into, DefinedOnce, PredecessorsAgree, NoCriticalEdge}
+use Rattle.regalloc2_function.specs.FunctionValue.{FunctionValue, BlockValue, InstValue, block_at, inst_at, no_block, no_inst, no_operand, op_at, EachBlock}
+use Rattle.regalloc2_function.specs.WellFormed.{times_in, ways_into, DefinedOnce, NotCriticalAt, PredecessorsAt}
 use Rattle.regalloc2_semantics.specs.Live.{Undefined, names, HasEdge, target_at}
 use Rattle.regalloc2_semantics.specs.Sound.{IsParameter, IsEnteredOnce, WellFormedAreSound}
 use Rattle.regalloc2_semantics.proofs.Cells.{is_vreg-true}
+use Rattle.regalloc2_function.proofs.DefsCounted.{defines_number}
 
 -- sums by recursion
 abbrev pub total : List ℕ → ℕ
@@ -166,7 +167,7 @@ module _ (f : FunctionValue) (once : DefinedOnce f) where
       let z = at_most_one v.number in absurd (omega arith)
 
 -- a successor is counted, among successors and so among predecessors
-counted_among : (f : FunctionValue) → PredecessorsAgree f → (b k : ℕ) → HasEdge f b k → target_at f b k < length f.blocks →
+counted_among : (f : FunctionValue) → EachBlock f (PredecessorsAt f) → (b k : ℕ) → HasEdge f b k → target_at f b k < length f.blocks →
     1 ≤ times_in b (block_at f (target_at f b k)).preds
 counted_among f agree b k edge lt =
     let t : ℕ = target_at f b k in
@@ -180,7 +181,7 @@ preds_below : (f : FunctionValue) (t : ℕ) → length (block_at f t).preds ≤ 
 preds_below f t = omega arith
 
 -- a block that has one way in, and an edge, is entered by the edge's block alone
-pub entered_once : (f : FunctionValue) → PredecessorsAgree f → (b k : ℕ) → HasEdge f b k → target_at f b k < length f.blocks →
+pub entered_once : (f : FunctionValue) → EachBlock f (PredecessorsAt f) → (b k : ℕ) → HasEdge f b k → target_at f b k < length f.blocks →
     ways_into f (target_at f b k) ≤ 1 → IsEnteredOnce f (target_at f b k)
 entered_once f agree b k edge lt ways =
     let t : ℕ = target_at f b k in
@@ -215,7 +216,7 @@ find n (x ∷ xs) h = elim (cases_eq x n) [
       (suc r.0, omega (arith, r.1), r.2))
 ]
 
-critical : (f : FunctionValue) → PredecessorsAgree f → NoCriticalEdge f → (b i j : ℕ) → HasEdge f b i → HasEdge f b j → i ≢ j →
+critical : (f : FunctionValue) → EachBlock f (PredecessorsAt f) → EachBlock f (NotCriticalAt f) → (b i j : ℕ) → HasEdge f b i → HasEdge f b j → i ≢ j →
     target_at f b j < length f.blocks → IsEnteredOnce f (target_at f b j)
 critical f agree none b i j x y ne lt =
     let t : ℕ = target_at f b j in

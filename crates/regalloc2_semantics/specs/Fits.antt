@@ -9,26 +9,18 @@ use Rattle.regalloc2_names.specs.Register.{Register, class_code, has_register}
 use Rattle.regalloc2_names.specs.Operand.{OperandValue, is_def, is_late, is_fixed_nonallocatable}
 use Rattle.regalloc2_function.specs.FunctionValue.{FunctionValue, InstValue, EachOperand}
 use Rattle.regalloc2_function.specs.Machine.{MachineValue, is_allocatable, scratch_of, IsFixedStackSlot, count_below, register_number, allocatable_count}
+use Rattle.regalloc2_function.specs.WellFormed.{IsReused}
 use Rattle.regalloc2_function.specs.Fitting.{NamesClass}
 
--- an operand holds the early, or the late, part of its instruction; a use that is reused holds both
-abbrev pub IsReused : InstValue → ℕ → Type 0
-IsReused i k = (j : ℕ) × (d : OperandValue) × (j < length i.operands) × ((slice_index_or i.operands j d).constraint ≡ Reuse k)
+-- an operand takes the early position of its instruction; a late definition does so only if it is a reuse
+abbrev pub TakesEarly : OperandValue → Type 0
+TakesEarly o = (is_def o.kind && is_late o.position) ≡ true → (n : ℕ) × (o.constraint ≡ Reuse n)
 
-abbrev pub is_reuse : OperandConstraint → Bool
-is_reuse Any = false
-is_reuse Reg = false
-is_reuse Stack = false
-is_reuse (FixedReg r) = false
-is_reuse (Reuse n) = true
-is_reuse (Limit n) = false
+-- operand `k` takes the late position of its instruction; an early use does so only if it is reused
+abbrev pub TakesLate : InstValue → ℕ → OperandValue → Type 0
+TakesLate i k o = (not (is_def o.kind) && not (is_late o.position)) ≡ true → IsReused i k
 
-abbrev pub HoldsEarly : OperandValue → Type 0
-HoldsEarly o = (is_def o.kind && is_late o.position && not (is_reuse o.constraint)) ≡ false
-
-abbrev pub HoldsLate : InstValue → ℕ → OperandValue → Type 0
-HoldsLate i k o = (not (is_def o.kind) && not (is_late o.position)) ≡ true → IsReused i k
-
+-- the constraint `Reg`: any register
 abbrev pub is_under_reg : OperandConstraint → Bool
 is_under_reg Any = false
 is_under_reg Reg = true
@@ -37,6 +29,7 @@ is_under_reg (FixedReg r) = false
 is_under_reg (Reuse n) = false
 is_under_reg (Limit n) = false
 
+-- the constraint that names the register
 abbrev pub is_fixed_to : Register → OperandConstraint → Bool
 is_fixed_to q Any = false
 is_fixed_to q Reg = false
@@ -52,12 +45,8 @@ need_of env class i =
     + count_below (λ n. is_allocatable env class (register_number class n)
     && (has_register i.clobbers (register_number class n) || nat_lt 0 (count_by (λ o. is_fixed_to (register_number class n) o.constraint) i.operands))) 64
 
--- one more where the class has fixed stack slots and no dedicated scratch register
-abbrev pub spare_of : MachineValue → RegClass → ℕ
-spare_of env class = if nat_lt 0 (count_by (λ r. nat_eq (class_code r.class) (class_code class)) env.fixed_stack_slots)
-    && is_none (scratch_of env class) then 1 else 0
-
--- an instruction that has registers enough
+-- An instruction that has registers enough: besides the registers that it needs, one more where the class has fixed stack
+-- slots and no dedicated scratch register.
 pub record Fits (f : FunctionValue) (env : MachineValue) (i : InstValue) : Type 0 where
   pub fixed : EachOperand i (λ k o. is_fixed_nonallocatable o ≡ false → (r : Register) → o.constraint ≡ FixedReg r → (is_allocatable env r.class r ≡ true)
       ⊎ IsFixedStackSlot env r)
@@ -65,5 +54,7 @@ pub record Fits (f : FunctionValue) (env : MachineValue) (i : InstValue) : Type 
       let a : OperandValue = slice_index_or i.operands j d in
       let b : OperandValue = slice_index_or i.operands k e in
       is_fixed_nonallocatable a ≡ false → is_fixed_nonallocatable b ≡ false → a.constraint ≡ FixedReg r → b.constraint ≡ FixedReg r →
-      (HoldsEarly a × HoldsEarly b → ⊥) × (HoldsLate i j a × HoldsLate i k b → ⊥)
-  pub enough : (c : RegClass) → NamesClass f c → need_of env c i + spare_of env c ≤ allocatable_count env c
+      (TakesEarly a × TakesEarly b → ⊥) × (TakesLate i j a × TakesLate i k b → ⊥)
+  pub enough : (c : RegClass) → NamesClass f c → need_of env c i
+      + (if nat_lt 0 (count_by (λ r. nat_eq (class_code r.class) (class_code c)) env.fixed_stack_slots) && is_none (scratch_of env c) then 1 else 0)
+      ≤ allocatable_count env c

@@ -2,7 +2,7 @@
 //! A list by number gives the index of each number's entry in a table.
 
 ghost use Rattle.std.specs.Prelude.{ℕ, ◌≡◌, ◌≢◌, ◌<◌, length, set, slice_index_or, IfOk, None, Some};
-ghost use Rattle.regalloc2_index.specs.Number.{number_limit};
+ghost use Rattle.regalloc2_index.specs.Range.{number_limit};
 ghost use Rattle.regalloc2_analysis.specs.LiveRanges.Entries.{AreEntryIndexes, HasEntry, IsApart, spread};
 
 use crate::marks::is_marked;

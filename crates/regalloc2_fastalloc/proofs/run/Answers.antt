@@ -1,10 +1,10 @@
-use Rattle.std.proofs.Common.{Ok, Err, Bool, sym, subst}
+use Rattle.std.proofs.Common.{Ok, Err, Bool, ◌≡◌, ◌<◌, ◌^◌, true, sym, subst}
 use Rattle.std.proofs.lemmas.Result.{err_from_is_err_and}
-use Rattle.regalloc2_function.specs.FunctionValue.{FunctionValue}
+use Rattle.regalloc2_function.specs.FunctionValue.{FunctionValue, operand_count}
 use Rattle.regalloc2_function.specs.Machine.{MachineValue}
 use Rattle.regalloc2_function.specs.Views.{machine_of}
 use Rattle.regalloc2_function.specs.WellFormed.{IsWellFormed}
-use Rattle.regalloc2_fastalloc.specs.ErrorReason.{IsReason, HasFewOperands, IsValidIfChecked}
+use Rattle.regalloc2_fastalloc.specs.ErrorReason.{IsReason}
 use Rattle.regalloc2_fastalloc.proofs.ErrorsHaveReasons.{allocation_reason, fault_is_reason, counted_alone, passed_unlimited}
 use Rattle.regalloc2_fastalloc.specs.Survey.{IsSurveyError}
 use Rattle.regalloc2_fastalloc.proofs.PassOverInsts.{survey_counted, survey_reason}
@@ -30,7 +30,7 @@ returns-in_err-validate_function-clause-refused g c =
     let f : FunctionValue = g.F.Function.function c.args.f.now in
     let env : MachineValue = machine_of c.args.env.now in
     let asked : Bool = c.args.options.now.validate_ssa in
-    let few : HasFewOperands f = c.in_ok-found.ensures.ok.few in
+    let few : operand_count f < 2 ^ 32 = c.in_ok-found.ensures.ok.few in
     let p = err_from_is_err_and c.from_residual-in_err-validate_function.result c.from_residual-in_err-validate_function.ensures.1 in
     rw p.1 (subst (IsReason f env asked) (sym p.2) (fault_is_reason f env asked few c.if-options.true c.in_err-validate_function.ensures.refused))
 
@@ -38,7 +38,7 @@ pub returns-in_err-validate_function-clause-many_operands : goal.returns-in_err-
 returns-in_err-validate_function-clause-many_operands g c =
     let f : FunctionValue = g.F.Function.function c.args.f.now in
     let env : MachineValue = machine_of c.args.env.now in
-    let few : HasFewOperands f = c.in_ok-found.ensures.ok.few in
+    let few : operand_count f < 2 ^ 32 = c.in_ok-found.ensures.ok.few in
     counted_alone f env c.args.options.now.validate_ssa c.from_residual-in_err-validate_function.result few
     (returns-in_err-validate_function-clause-refused g c)
 
@@ -55,7 +55,7 @@ returns-in-Ok-clause-passes_checks g c = record {
 
 pub returns-in-Err-clause-refused : goal.returns-in-Err-clause-refused
 returns-in-Err-clause-refused g c =
-    let owed : IsValidIfChecked (g.F.Function.function c.args.f.now) (machine_of c.args.env.now) c.args.options.now.validate_ssa = elim c.if-options.branch [
+    let owed : c.args.options.now.validate_ssa ≡ true → IsWellFormed (machine_of c.args.env.now) (g.F.Function.function c.args.f.now) = elim c.if-options.branch [
       | then-options+in_ok-validate_function w ↦ λ on. w.in_ok-validate_function.ensures.ok
       | else-options w ↦ λ on. c.requires.well_formed w.if-options.false
     ] in

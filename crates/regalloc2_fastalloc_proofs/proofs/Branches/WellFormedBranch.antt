@@ -5,8 +5,8 @@ use Rattle.std.proofs.lemmas.List.{get_or-map}
 use Rattle.regalloc2_names.specs.declared.RegClass.TheVariants.{Int}
 use Rattle.regalloc2_names.specs.Register.{VirtualRegister, no_vreg}
 use Rattle.regalloc2_names.specs.Operand.{OperandValue}
-use Rattle.regalloc2_function.specs.FunctionValue.{FunctionValue, block_at, inst_at, last_of}
-use Rattle.regalloc2_function.specs.WellFormed.{ways_into, PredecessorsAgree, NoOperandsIntoJoins, ArgumentsCounted, ArgumentsFit}
+use Rattle.regalloc2_function.specs.FunctionValue.{FunctionValue, block_at, inst_at, last_of, EachBlock}
+use Rattle.regalloc2_function.specs.WellFormed.{ways_into, ArgumentsFitAt, CountedAt, NoOperandsAt, PredecessorsAt}
 use Rattle.regalloc2_semantics.specs.Runs.{arguments_at}
 use Rattle.regalloc2_semantics.specs.Live.{names, HasEdge, target_at}
 use Rattle.regalloc2_carry.specs.Blocks.{ExcusedAreSilent}
@@ -24,7 +24,7 @@ unread_none ops v none j lt reads is = (let n : length ops ≡ 0 = ap length non
 
 -- the last instruction of a block doesn't read the parameters of its successors: the branches into a block with several edges have no operands and
 -- the parameters of other successors are silent in the block
-pub unread_parameters : (f : FunctionValue) (b last : ℕ) → PredecessorsAgree f → NoOperandsIntoJoins f → ExcusedAreSilent f b → b < length f.blocks →
+pub unread_parameters : (f : FunctionValue) (b last : ℕ) → EachBlock f (PredecessorsAt f) → EachBlock f (NoOperandsAt f) → ExcusedAreSilent f b → b < length f.blocks →
     ((e : ℕ) → HasEdge f b e → target_at f b e < length f.blocks)
     → (block_at f b).range.first ≤ last → last + 1 ≡ (block_at f b).range.end → (e : ℕ) (w : VirtualRegister) → HasEdge f b e →
     names w (params_on f b e) ≡ true → ReadsOthersOnly (inst_at f last).operands w
@@ -36,7 +36,7 @@ unread_parameters f b last agree joins silent within targets first end e w edge 
 ]
 
 -- an argument has its parameter's class
-pub argument_classes : (f : FunctionValue) (b : ℕ) → ArgumentsCounted f → ArgumentsFit f → b < length f.blocks → (e j : ℕ) → HasEdge f b e →
+pub argument_classes : (f : FunctionValue) (b : ℕ) → EachBlock f (CountedAt f) → EachBlock f (ArgumentsFitAt f) → b < length f.blocks → (e j : ℕ) → HasEdge f b e →
     j < length (params_on f b e) →
     (argument_at (arguments_at f b e) j).class ≡ (argument_at (params_on f b e) j).class
 argument_classes f b counted fits within e j edge lt =

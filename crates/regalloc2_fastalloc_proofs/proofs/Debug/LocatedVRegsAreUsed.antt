@@ -4,9 +4,9 @@ use Rattle.std.proofs.lemmas.Bool.{cases_eq}
 use Rattle.regalloc2_names.specs.Register.{VirtualRegister}
 use Rattle.regalloc2_names.specs.Operand.{OperandValue, is_reading}
 use Rattle.regalloc2_names.specs.Place.{Place, NoPlace, InRegister}
-use Rattle.regalloc2_function.specs.FunctionValue.{FunctionValue, block_at, inst_at, op_at}
+use Rattle.regalloc2_function.specs.FunctionValue.{FunctionValue, block_at, inst_at, op_at, EachBlock}
 use Rattle.regalloc2_semantics.specs.Runs.{arguments_at}
-use Rattle.regalloc2_function.specs.WellFormed.{ArgumentsCounted, BlocksEnd, BlocksFollow}
+use Rattle.regalloc2_function.specs.WellFormed.{BlocksFollow, CountedAt, EndsAt}
 use Rattle.regalloc2_carry.proofs.Plain.{no_some}
 use Rattle.regalloc2_analysis.specs.LiveRanges.LastUses.{reads, passes}
 use Rattle.regalloc2_fastalloc_state.specs.StateParts.{SetsAlloc, alloc_of, no_allocs}
@@ -72,7 +72,7 @@ none_located f i n watched t e x unused =
     let empty = begun_empty t n e in
     record { nowhere = empty.nowhere x; unheld = λ r v small held. absurd (no_some v (sym (empty.nobody r small) ∙ held)) }
 
-module _ (f : FunctionValue) (follow : BlocksFollow f) (ends : BlocksEnd f) (counted : ArgumentsCounted f) (b : ℕ) (lt : b < length f.blocks) where
+module _ (f : FunctionValue) (follow : BlocksFollow f) (ends : EachBlock f (EndsAt f)) (counted : EachBlock f (CountedAt f)) (b : ℕ) (lt : b < length f.blocks) where
   -- an instruction more
   pub inst_located : (i : ℕ) (before_it places : List Place) (old new : StateValue) → (block_at f b).range.first ≤ i → i < (block_at f b).range.end →
       i < length f.insts → AllocsInstInBlock f b i before_it places old new → LocatedAreUsed f (i + 1) old → LocatedAreUsed f i new

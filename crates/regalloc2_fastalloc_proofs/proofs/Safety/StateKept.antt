@@ -10,8 +10,8 @@ use Rattle.regalloc2_names.specs.declared.sets.PRegSet.{PRegSet}
 use Rattle.regalloc2_names.specs.Register.{Register, VirtualRegister, class_code, no_vreg, has_register}
 use Rattle.regalloc2_names.specs.Place.{Place, before, after}
 use Rattle.regalloc2_names.specs.Operand.{OperandValue}
-use Rattle.regalloc2_function.specs.FunctionValue.{FunctionValue, InstValue, block_at, inst_at, no_operand}
-use Rattle.regalloc2_function.specs.WellFormed.{BlocksEnd, BlocksFollow}
+use Rattle.regalloc2_function.specs.FunctionValue.{FunctionValue, InstValue, block_at, inst_at, no_operand, EachBlock}
+use Rattle.regalloc2_function.specs.WellFormed.{BlocksFollow, EndsAt}
 use Rattle.regalloc2_carry.proofs.SingleDef.{Made}
 use Rattle.regalloc2_carry.proofs.SingleDef.Made.{by_operand}
 use Rattle.regalloc2_fastalloc_state.specs.declared.inst_regs.InstRegs.{InstRegs}
@@ -89,7 +89,7 @@ lent_few f i = few (inst_at f i).is_branch
     few false = omega arith
 
 -- no instruction of a block but its last one is a branch; only branches add temporary slots
-lent_none : (f : FunctionValue) → BlocksEnd f → (b i : ℕ) → b < length f.blocks → (block_at f b).range.first ≤ i → i + 1 < (block_at f b).range.end →
+lent_none : (f : FunctionValue) → EachBlock f (EndsAt f) → (b i : ℕ) → b < length f.blocks → (block_at f b).range.first ≤ i → i + 1 < (block_at f b).range.end →
     temp_slots_at f i ≡ 0
 lent_none f ends b i lt from upto =
     let e : (inst_at f i).is_branch ≡ false = ((ends b lt).1 i from (omega (arith, upto)) (omega (arith, upto))).0 in
@@ -100,7 +100,7 @@ pub lent_six : (f : FunctionValue) (i : ℕ) (b : Bool) → b ≡ (inst_at f i).
 lent_six f i b same on = let e : (inst_at f i).is_branch ≡ true = sym same ∙ on in rw e refl
 
 -- a branch is the last instruction of its block
-pub ends_in_branch : (f : FunctionValue) → BlocksEnd f → (b i : ℕ) → b < length f.blocks → (block_at f b).range.first ≤ i → i < (block_at f b).range.end →
+pub ends_in_branch : (f : FunctionValue) → EachBlock f (EndsAt f) → (b i : ℕ) → b < length f.blocks → (block_at f b).range.first ≤ i → i < (block_at f b).range.end →
     (inst_at f i).is_branch ≡ true → i + 1 ≡ (block_at f b).range.end
 ends_in_branch f ends b i lt from upto on = elim (cases_eq (i + 1) (block_at f b).range.end) [
   | inl e ↦ e
@@ -108,7 +108,7 @@ ends_in_branch f ends b i lt from upto on = elim (cases_eq (i + 1) (block_at f b
 ]
 
 -- how many temporary slots a block has added before an instruction, and may add at it
-pub lent_so_far : (f : FunctionValue) → BlocksEnd f → (b i : ℕ) → b < length f.blocks → (block_at f b).range.first ≤ i → i < (block_at f b).range.end
+pub lent_so_far : (f : FunctionValue) → EachBlock f (EndsAt f) → (b i : ℕ) → b < length f.blocks → (block_at f b).range.first ≤ i → i < (block_at f b).range.end
     → (old new : StateValue) → AddsTempSlotsAtMost 6 old new → (i + 1 ≡ (block_at f b).range.end → AddsTempSlotsAtMost 0 old new) → (k : ℕ)
     × (k + temp_slots_at f i ≤ 6) × AddsTempSlotsAtMost k old new
 lent_so_far f ends b i lt from upto old new all none = elim (cases_eq (i + 1) (block_at f b).range.end) [

@@ -2,8 +2,8 @@
 use Rattle.std.proofs.Common.{ℕ, ◌+◌, ◌<◌, List, length}
 use Rattle.regalloc2_names.specs.Register.{VirtualRegister}
 use Rattle.regalloc2_names.specs.Place.{Place}
-use Rattle.regalloc2_function.specs.FunctionValue.{FunctionValue, block_at}
-use Rattle.regalloc2_function.specs.WellFormed.{ArgumentsCounted, BlocksFollow, BlocksEnd, DefinedOnce, UsesAreDefined}
+use Rattle.regalloc2_function.specs.FunctionValue.{FunctionValue, block_at, EachBlock}
+use Rattle.regalloc2_function.specs.WellFormed.{BlocksFollow, DefinedOnce, UsesAreDefined, CountedAt, EndsAt}
 use Rattle.regalloc2_carry.proofs.SingleDef.{Made}
 use Rattle.regalloc2_fastalloc_proofs.specs.InstSteps.{StateValue}
 use Rattle.regalloc2_fastalloc_proofs.specs.BlockSteps.{AllocsBlockInsts, BeginsBlock, AllocsBlocks}
@@ -16,14 +16,14 @@ pub record FunctionLaws : Type 0 where
   pub f : FunctionValue
   pub once : DefinedOnce f
   pub follow : BlocksFollow f
-  pub ends : BlocksEnd f
+  pub ends : EachBlock f (EndsAt f)
   pub uses : UsesAreDefined f
-  pub counted : ArgumentsCounted f
+  pub counted : EachBlock f (CountedAt f)
   pub proper : ProperInsts (Made f) f
   pub kept : BranchKept f
 
 -- the record, built from its parts
-abbrev pub laws_of : (f : FunctionValue) → DefinedOnce f → BlocksFollow f → BlocksEnd f → UsesAreDefined f → ArgumentsCounted f → ProperInsts (Made f) f →
+abbrev pub laws_of : (f : FunctionValue) → DefinedOnce f → BlocksFollow f → EachBlock f (EndsAt f) → UsesAreDefined f → EachBlock f (CountedAt f) → ProperInsts (Made f) f →
     BranchKept f → FunctionLaws
 laws_of f once follow ends uses counted proper kept =
     record { f = f; once = once; follow = follow; ends = ends; uses = uses; counted = counted; proper = proper; kept = kept }
@@ -36,11 +36,11 @@ pub record PlacedCode : Type 1 where
   pub proper : ProperInsts Known f
   pub kept : BranchKept f
   pub follow : BlocksFollow f
-  pub ends : BlocksEnd f
+  pub ends : EachBlock f (EndsAt f)
   pub placesf : ℕ → List Place
 
 -- the record, built from its parts
-abbrev pub code_of : (Known : VirtualRegister → Type 0) (f : FunctionValue) → ProperInsts Known f → BranchKept f → BlocksFollow f → BlocksEnd f →
+abbrev pub code_of : (Known : VirtualRegister → Type 0) (f : FunctionValue) → ProperInsts Known f → BranchKept f → BlocksFollow f → EachBlock f (EndsAt f) →
     (ℕ → List Place) → PlacedCode
 code_of Known f proper kept follow ends placesf =
     record { Known = Known; f = f; proper = proper; kept = kept; follow = follow; ends = ends; placesf = placesf }

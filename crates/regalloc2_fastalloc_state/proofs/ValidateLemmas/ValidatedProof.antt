@@ -8,7 +8,8 @@ use Rattle.regalloc2_function.specs.FunctionValue.{FunctionValue, inst_at, no_in
 use Rattle.regalloc2_function.specs.Machine.{MachineValue}
 use Rattle.regalloc2_function.specs.Reasons.{HasShape, IsShapeFault, HasSoundness, IsSoundnessFault, IsFunctionFault}
 use Rattle.regalloc2_function.specs.WellFormed.{ReusesAreSound, FixedAvoidClobbers, IsWellFormed}
-use Rattle.regalloc2_function.specs.Reasons.IsFunctionFault.{memory, misshapen, unsound}
+use Rattle.regalloc2_function.specs.Reasons.IsFunctionFault.{memory, misshapen, unsound, unsound_reuse, clashing}
+use Rattle.regalloc2_fastalloc_state.specs.Validate.Constraints.{IsFixedFault}
 
 -- what the tests test is what a well-formed function has
 pub tested_well_formed : (f : FunctionValue) (env : MachineValue) → HasShape f → HasSoundness f → ((i : ℕ) → i < length f.insts → ReusesAreSound env (inst_at f i)) →
@@ -45,6 +46,12 @@ shape_fault f env e (inr h) = misshapen h
 pub soundness_fault : (f : FunctionValue) (env : MachineValue) (e : RegAllocError) → HasShape f → (e ≡ Memory) ⊎ IsSoundnessFault f e → IsFunctionFault f env e
 soundness_fault f env e shape (inl m) = rw m memory
 soundness_fault f env e shape (inr h) = unsound shape h
+
+-- where all else is right, an error of reuses or fixed registers is an error of the whole validation
+pub fixed_fault : (f : FunctionValue) (env : MachineValue) → HasShape f → HasSoundness f → (e : RegAllocError) → IsFixedFault f env e →
+    IsFunctionFault f env e
+fixed_fault f env shape sound e (i, is, inl first) = rw is (unsound_reuse i shape sound first)
+fixed_fault f env shape sound e (i, is, inr (reuses, first)) = rw is (clashing i shape sound reuses first)
 
 -- where the last test passes, what is known anyway and what the test says
 pub on_ok_any : {T E P : Type 0} (r : Result T E) → P → OnOk r P

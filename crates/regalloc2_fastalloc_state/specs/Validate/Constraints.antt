@@ -1,19 +1,30 @@
 -- What the tests of operands' constraints say, one instruction at a time.
 use Rattle.std.specs.Prelude.{ℕ, ◌≡◌, ◌<◌, ◌⊎◌, Bool, true, false, List, length}
-use Rattle.regalloc2_names.specs.declared.OperandConstraint.TheVariants.{FixedReg, Reuse}
+use Rattle.regalloc2_names.specs.declared.OperandConstraint.TheVariants.{FixedReg, Limit, Reuse}
 use Rattle.regalloc2_names.specs.declared.OperandKind.TheVariants.{Def, Use}
 use Rattle.regalloc2_names.specs.declared.OperandPos.TheVariants.{Early, Late}
+use Rattle.regalloc2_names.specs.declared.RegAllocError.{RegAllocError}
+use Rattle.regalloc2_names.specs.declared.RegAllocError.TheVariants.{Unsupported}
 use Rattle.regalloc2_names.specs.declared.RegClass.{RegClass}
 use Rattle.regalloc2_names.specs.declared.sets.PRegSet.{PRegSet}
 use Rattle.regalloc2_names.specs.Register.{Register, has_register}
-use Rattle.regalloc2_names.specs.Operand.{OperandValue, is_reading}
-use Rattle.regalloc2_function.specs.FunctionValue.{op_at}
+use Rattle.regalloc2_names.specs.Operand.{OperandValue, is_def, is_reading}
+use Rattle.regalloc2_function.specs.FunctionValue.{FunctionValue, inst_at, op_at}
 use Rattle.regalloc2_function.specs.Machine.{MachineValue}
-use Rattle.regalloc2_function.specs.WellFormed.{MayBeReused}
+use Rattle.regalloc2_function.specs.WellFormed.{FixedAvoidClobbers, IsInPlace, MayBeReused, ReusesAreSound}
+use Rattle.regalloc2_function.specs.Reasons.{IsFirst}
 
 -- an operand that isn't a reuse
 abbrev pub IsNoReuse : OperandValue → Type 0
 IsNoReuse o = (n : ℕ) → o.constraint ≡ Reuse n → ⊥
+
+-- an operand without a limit
+abbrev pub IsUnlimited : OperandValue → Type 0
+IsUnlimited o = (n : ℕ) → o.constraint ≡ Limit n → ⊥
+
+-- an operand that, if it is a definition, is under a constraint whose place is known before registers are chosen
+abbrev pub DefinesInPlace : OperandValue → Type 0
+DefinesInPlace o = is_def o.kind ≡ true → IsInPlace o.constraint
 
 -- a reuse names the operand k
 abbrev pub IsReusedOperand : List OperandValue → ℕ → Type 0
@@ -45,3 +56,9 @@ AvoidsClobbers clobbers o is_reused = (r : Register) → o.constraint ≡ FixedR
 abbrev pub OperandAvoidsClobbers : PRegSet → List OperandValue → ℕ → Type 0
 OperandAvoidsClobbers clobbers operands k = (r : Register) → (op_at operands k).constraint ≡ FixedReg r → ((op_at operands k).kind ≡ Def)
     ⊎ ((op_at operands k).position ≡ Late) ⊎ IsReusedOperand operands k → has_register clobbers r ≡ false
+
+-- where the tests of reuses, and then of fixed registers, fail first
+abbrev pub IsFixedFault : FunctionValue → MachineValue → RegAllocError → Type 0
+IsFixedFault f env e = (i : ℕ) × (e ≡ Unsupported i) × (IsFirst (length f.insts) (λ j. ReusesAreSound env (inst_at f j)) i
+    ⊎ (((j : ℕ) → j < length f.insts → ReusesAreSound env (inst_at f j))
+    × IsFirst (length f.insts) (λ j. FixedAvoidClobbers (inst_at f j)) i))

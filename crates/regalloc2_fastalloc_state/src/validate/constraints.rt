@@ -3,14 +3,13 @@
 ghost use Rattle.std.specs.Prelude.{ℕ, ◌≡◌, ◌<◌, ◌↔◌, All, length, true, false, IsTrue, IsFalse, IsOk, OnOk, IfSome, IfNone, IfErr, slice_index_or};
 ghost use Rattle.regalloc2_function.specs.FunctionValue.{inst_at, op_at};
 ghost use Rattle.regalloc2_function.specs.Views.{machine_of};
-ghost use Rattle.regalloc2_function.specs.WellFormed.{MayBeReused, ReusesAreSound, FixedAvoidClobbers, IsUnlimited, AreUnlimited, BranchDefinesInPlace};
-ghost use Rattle.regalloc2_function.specs.WellFormed.{DefinesInPlace};
+ghost use Rattle.regalloc2_function.specs.WellFormed.{MayBeReused, ReusesAreSound, FixedAvoidClobbers, AreUnlimited, BranchDefinesInPlace};
 ghost use Rattle.regalloc2_names.specs.Packing.{IsConstraintOf};
 ghost use Rattle.regalloc2_names.specs.Register.{Register, has_register};
 ghost use Rattle.regalloc2_fastalloc_state.specs.Validate.NoLimits.{IsTakenOperand, AreTaken};
 ghost use Rattle.regalloc2_fastalloc_state.specs.Validate.Constraints.{IsNoReuse, IsReusedOperand, IsReuseTarget, IsSoundReuse, AreReusesApart};
-ghost use Rattle.regalloc2_fastalloc_state.specs.Validate.Constraints.{AvoidsClobbers, OperandAvoidsClobbers};
-ghost use Rattle.regalloc2_function.specs.Reasons.{IsFirstFailing, IsFixedFault, IsUnsupported};
+ghost use Rattle.regalloc2_fastalloc_state.specs.Validate.Constraints.{AvoidsClobbers, DefinesInPlace, IsFixedFault, IsUnlimited, OperandAvoidsClobbers};
+ghost use Rattle.regalloc2_function.specs.Reasons.{IsFirst, IsUnsupported};
 
 use regalloc2_function::{Function, MachineEnv};
 use regalloc2_index::Inst;
@@ -244,7 +243,8 @@ fn validate_reuses<F: Function, B: Allocator>(
     env: &MachineEnv<B>,
 ) -> Result<(), RegAllocError>
     ensures ok { IsOk result ↔ ((i : ℕ) → i < length (F.function f.now).insts → ReusesAreSound (machine_of env.now) (inst_at (F.function f.now) i)) }
-    ensures first { IfErr result (λ e. (i : ℕ) × (e ≡ RegAllocError.Unsupported i) × IsFirstFailing (F.function f.now) (ReusesAreSound (machine_of env.now)) i) }
+    ensures first { IfErr result (λ e. (i : ℕ) × (e ≡ RegAllocError.Unsupported i)
+        × IsFirst (length (F.function f.now).insts) (λ j. ReusesAreSound (machine_of env.now) (inst_at (F.function f.now) j)) i) }
 {
     for i in 0..f.num_insts() {
         let inst = Inst::new(i);
@@ -259,7 +259,8 @@ fn validate_reuses<F: Function, B: Allocator>(
 /// instruction that fails.
 fn validate_clobbers<F: Function>(f: &F) -> Result<(), RegAllocError>
     ensures ok { IsOk result ↔ ((i : ℕ) → i < length (F.function f.now).insts → FixedAvoidClobbers (inst_at (F.function f.now) i)) }
-    ensures first { IfErr result (λ e. (i : ℕ) × (e ≡ RegAllocError.Unsupported i) × IsFirstFailing (F.function f.now) (FixedAvoidClobbers) i) }
+    ensures first { IfErr result (λ e. (i : ℕ) × (e ≡ RegAllocError.Unsupported i)
+        × IsFirst (length (F.function f.now).insts) (λ j. FixedAvoidClobbers (inst_at (F.function f.now) j)) i) }
 {
     for i in 0..f.num_insts() {
         let inst = Inst::new(i);
@@ -296,7 +297,8 @@ pub fn validate_fixed<F: Function, B: Allocator>(
 pub fn validate_limits<F: Function>(f: &F) -> Result<(), RegAllocError>
     ensures ok { IsOk result ↔ ((i : ℕ) → i < length (F.function f.now).insts → AreUnlimited (inst_at (F.function f.now) i)) }
     ensures taken { OnOk result (AreTaken (F.function f.now)) }
-    ensures first { IfErr result (λ e. (i : ℕ) × (e ≡ RegAllocError.Unsupported i) × IsFirstFailing (F.function f.now) (AreUnlimited) i) }
+    ensures first { IfErr result (λ e. (i : ℕ) × (e ≡ RegAllocError.Unsupported i)
+        × IsFirst (length (F.function f.now).insts) (λ j. AreUnlimited (inst_at (F.function f.now) j)) i) }
 {
     for i in 0..f.num_insts() {
         let inst = Inst::new(i);
@@ -349,7 +351,8 @@ pub fn is_sound_branch<F: Function>(f: &F, inst: Inst) -> bool
 /// Upstream's fast allocator stops the program there.
 pub fn validate_branches<F: Function>(f: &F) -> Result<(), RegAllocError>
     ensures ok { IsOk result ↔ ((i : ℕ) → i < length (F.function f.now).insts → BranchDefinesInPlace (inst_at (F.function f.now) i)) }
-    ensures first { IfErr result (λ e. (i : ℕ) × (e ≡ RegAllocError.Unsupported i) × IsFirstFailing (F.function f.now) (BranchDefinesInPlace) i) }
+    ensures first { IfErr result (λ e. (i : ℕ) × (e ≡ RegAllocError.Unsupported i)
+        × IsFirst (length (F.function f.now).insts) (λ j. BranchDefinesInPlace (inst_at (F.function f.now) j)) i) }
 {
     for i in 0..f.num_insts() {
         let inst = Inst::new(i);

@@ -2,8 +2,8 @@
 use Rattle.std.proofs.Common.{◌≡◌, ◌∙◌, ℕ, zero, suc, ◌+◌, ◌<◌, Bool, true, false, cond, nat_eq, List, [], ◌∷◌, get_or, map, refl, sym, ap, arith}
 use Rattle.std.proofs.Math.ListN.{get_or-map as get_or_map}
 use Rattle.std.proofs.lemmas.Bool.Decides.{nat_tests}
-use Rattle.regalloc2_function.specs.FunctionValue.{FunctionValue, BlockValue, block_at, no_block}
-use Rattle.regalloc2_function.specs.WellFormed.{PredecessorsAgree, times_in}
+use Rattle.regalloc2_function.specs.FunctionValue.{FunctionValue, BlockValue, block_at, no_block, EachBlock}
+use Rattle.regalloc2_function.specs.WellFormed.{times_in, PredecessorsAt}
 use Rattle.regalloc2_serialize.specs.TableFunction.Draft.{DraftValue, declared_with, draft_at}
 use Rattle.regalloc2_serialize.specs.TableFunction.Built.{without_preds, edges_to, preds_from}
 use Rattle.regalloc2_serialize.specs.Rewrite.Laid.{HasDrafts}
@@ -61,7 +61,7 @@ preds-counted b first (suc k) (succs ∷ rest) =
     ∙ omega (arith, edges-other b (first + 1 + k) first succs apart, preds-counted b (first + 1) k rest))
 
 -- in a function of partial blocks, predecessors agree with successors
-pub preds-agree : (ds : List DraftValue) (f : FunctionValue) → HasDrafts ds f → PredecessorsAgree f
+pub preds-agree : (ds : List DraftValue) (f : FunctionValue) → HasDrafts ds f → EachBlock f (PredecessorsAt f)
 preds-agree ds f h n less p =
     let succs : (block_at f p).succs ≡ (draft_at ds p).succs =
     ap (λ (b : BlockValue). b.succs) (sym (get_or_map without_preds f.blocks p no_block) ∙ ap (λ (bs : List BlockValue). get_or bs p no_block) h.blocks)

@@ -7,8 +7,8 @@ use Rattle.std.proofs.lemmas.List.{append-nil, get_or_append_left, length-append
 use Rattle.std.proofs.lemmas.List.Concat.{flat_map-append}
 use Rattle.std.proofs.lemmas.List.FromFn.{get_or-map-range_with_len, length-map-range_with_len}
 use Rattle.regalloc2_names.specs.declared.sets.PRegSet.{PRegSet}
-use Rattle.regalloc2_function.specs.FunctionValue.{FunctionValue, block_at, inst_at, no_inst, last_of}
-use Rattle.regalloc2_function.specs.WellFormed.{BlocksEnd, BlocksFollow, IsFramed}
+use Rattle.regalloc2_function.specs.FunctionValue.{FunctionValue, block_at, inst_at, no_inst, last_of, EachBlock}
+use Rattle.regalloc2_function.specs.WellFormed.{BlocksFollow, IsFramed, EndsAt}
 use Rattle.regalloc2_serialize.specs.CopyOfFunction.{shown_inst}
 use Rattle.regalloc2_serialize.specs.TableFunction.Draft.{DraftValue}
 use Rattle.regalloc2_serialize.specs.TableFunction.Built.{insts_of}
@@ -111,7 +111,7 @@ module _ (none : PRegSet) (f : FunctionValue) (framed : IsFramed f) where
       ∙ ap (λ xs. get_or xs i no_inst) (insts-kept f framed) ∙ get_or-map-range_with_len (inst_at f) 0 (length f.insts) i i no_inst less at
 
 -- no instruction of a structurally valid function's block is both a branch and a return: a copy has all of it
-pub inst-shown : (f : FunctionValue) → BlocksEnd f → (b : ℕ) → b < length f.blocks → (i : ℕ) → (block_at f b).range.first ≤ i → i < (block_at f b).range.end →
+pub inst-shown : (f : FunctionValue) → EachBlock f (EndsAt f) → (b : ℕ) → b < length f.blocks → (i : ℕ) → (block_at f b).range.first ≤ i → i < (block_at f b).range.end →
     shown_inst (inst_at f i) ≡ inst_at f i
 inst-shown f ends b less i from upto = inst-kept (inst_at f i) (by (nat_lt i (last_of (block_at f b))) refl)
   where

@@ -4,8 +4,8 @@ use Rattle.std.specs.Prelude.{◌≢◌, Contains, nat_lt, slice_index, sum_by}
 use Rattle.std.specs.List.{range_with_len}
 use Rattle.std.proofs.lemmas.List.{get_or_default, get_or_past, map-append}
 use Rattle.regalloc2_names.specs.declared.sets.PRegSet.{PRegSet}
-use Rattle.regalloc2_function.specs.FunctionValue.{FunctionValue, BlockValue, block_at, no_block}
-use Rattle.regalloc2_function.specs.WellFormed.{IsFramed, NoCriticalEdge, PredecessorsAgree, times_in, ways_into}
+use Rattle.regalloc2_function.specs.FunctionValue.{FunctionValue, BlockValue, block_at, no_block, EachBlock}
+use Rattle.regalloc2_function.specs.WellFormed.{IsFramed, times_in, ways_into, NotCriticalAt, PredecessorsAt}
 use Rattle.regalloc2_serialize.specs.TableFunction.Draft.{DraftValue, draft_at}
 use Rattle.regalloc2_serialize.specs.Rewrite.Laid.{HasDrafts}
 use Rattle.regalloc2_serialize.specs.Rewrite.SplitEdges.{entries_into, is_critical, jump_on, kept_block, number_on, split_succ}
@@ -97,7 +97,7 @@ module _ (none : PRegSet) (f : FunctionValue) (framed : IsFramed f) (g : Functio
   many : length g.blocks ≡ length (all none f)
   many = count-laid (all none f) g h
 
-  pub agree : PredecessorsAgree g
+  pub agree : EachBlock g (PredecessorsAt g)
   agree = preds-agree (all none f) g h
 
   succs-kept : (p : ℕ) → p < length f.blocks → (block_at g p).succs ≡ (kept_block f p).succs
@@ -217,7 +217,7 @@ module _ (none : PRegSet) (f : FunctionValue) (framed : IsFramed f) (g : Functio
         by false e = is-past 1 (length (block_at f p).succs) e
 
     -- no edge is critical
-    pub no-critical : NoCriticalEdge g
+    pub no-critical : EachBlock g (NotCriticalAt g)
     no-critical n less ways j d inside = by (nat_lt p (length f.blocks)) refl
       where
         p : ℕ

@@ -3,9 +3,9 @@
 use Rattle.std.specs.Prelude.{ℕ, ◌≡◌, ◌↔◌, ◌+◌, ◌-◌, ◌<◌, nat_eq, List, [], length, map, slice_index, All, Contains}
 use Rattle.std.specs.List.{position_or_len, range_with_len}
 use Rattle.regalloc2_names.specs.Register.{VirtualRegister}
-use Rattle.regalloc2_function.specs.FunctionValue.{FunctionValue, block_at, inst_at}
+use Rattle.regalloc2_function.specs.FunctionValue.{FunctionValue, block_at, inst_at, EachBlock}
 use Rattle.regalloc2_semantics.specs.Runs.{Way, IsPath, last_inst, arguments_at, source_before}
-use Rattle.regalloc2_function.specs.WellFormed.{IsFramed, PredecessorsAgree}
+use Rattle.regalloc2_function.specs.WellFormed.{IsFramed, PredecessorsAt}
 use Rattle.regalloc2_serialize.specs.TableFunction.Draft.{DraftValue}
 use Rattle.regalloc2_serialize.specs.declared.rewrite.error.RewriteError.{RewriteError}
 use Rattle.regalloc2_serialize.specs.declared.rewrite.error.RewriteError.TheVariants.{Memory, Unframed, NoOrder, Labels, TooManyBlocks, TooManyInsts}
@@ -45,7 +45,7 @@ pub record HasSamePaths (f g : FunctionValue) : Type 0 where
 -- `g` is `f` with its blocks in that order, and without labels
 pub record IsRenumbered (f : FunctionValue) (order : List ℕ) (g : FunctionValue) : Type 0 where
   pub framed : IsFramed g
-  pub predecessors : PredecessorsAgree g
+  pub predecessors : EachBlock g (PredecessorsAt g)
   pub count : length g.blocks ≡ length f.blocks
   pub blocks : (n : ℕ) → n < length f.blocks → IsRenumberedBlock f order (slice_index order n) g n
   pub entry : g.entry ≡ new_number order f.entry

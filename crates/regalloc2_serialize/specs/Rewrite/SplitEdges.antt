@@ -7,9 +7,9 @@ use Rattle.std.specs.List.{range_with_len}
 use Rattle.std.specs.Option.{option_map}
 use Rattle.regalloc2_names.specs.Register.{Register, VirtualRegister, has_register}
 use Rattle.regalloc2_names.specs.declared.sets.PRegSet.{PRegSet}
-use Rattle.regalloc2_function.specs.FunctionValue.{FunctionValue, InstValue, block_at, inst_at}
+use Rattle.regalloc2_function.specs.FunctionValue.{FunctionValue, InstValue, block_at, inst_at, EachBlock}
 use Rattle.regalloc2_semantics.specs.Runs.{Way, Onward, ToSuccessor, IsPath, end_of, Stamp, arguments_at, source_before}
-use Rattle.regalloc2_function.specs.WellFormed.{IsFramed, NoCriticalEdge, PredecessorsAgree, times_in}
+use Rattle.regalloc2_function.specs.WellFormed.{IsFramed, times_in, NotCriticalAt, PredecessorsAt}
 use Rattle.regalloc2_serialize.specs.TableFunction.Draft.{DraftValue}
 use Rattle.regalloc2_serialize.specs.declared.rewrite.error.RewriteError.{RewriteError}
 use Rattle.regalloc2_serialize.specs.declared.rewrite.error.RewriteError.TheVariants.{Memory, Unframed, NoOrder, Labels, TooManyBlocks, TooManyInsts}
@@ -104,8 +104,8 @@ pub record HasSplitPaths (f g : FunctionValue) : Type 0 where
 -- `g` is `f` with a block on each critical edge, and no other change
 pub record HasSplitEdges (f g : FunctionValue) : Type 0 where
   pub framed : IsFramed g
-  pub predecessors : PredecessorsAgree g
-  pub no_critical_edge : NoCriticalEdge g
+  pub predecessors : EachBlock g (PredecessorsAt g)
+  pub no_critical_edge : EachBlock g (NotCriticalAt g)
   pub kept : (b : ℕ) → b < length f.blocks → IsKeptBlock f b g
   pub new : (n : ℕ) → length f.blocks ≤ n → n < length g.blocks → IsOfEdge f g n
   pub insts : (i : ℕ) → i < length f.insts → inst_at g i ≡ inst_at f i

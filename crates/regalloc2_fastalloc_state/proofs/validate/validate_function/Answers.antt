@@ -3,9 +3,9 @@ use Rattle.std.proofs.lemmas.Result.{IfErr-weaker, err_from_is_err_and}
 use Rattle.regalloc2_function.specs.FunctionValue.{FunctionValue}
 use Rattle.regalloc2_function.specs.Machine.{MachineValue}
 use Rattle.regalloc2_function.specs.Views.{machine_of}
-use Rattle.regalloc2_function.specs.Reasons.{IsFixedFault, IsFunctionFault}
-use Rattle.regalloc2_function.specs.Reasons.IsFunctionFault.{clashing}
-use Rattle.regalloc2_fastalloc_state.proofs.ValidateLemmas.ValidatedProof.{tested_on_ok, shape_fault, soundness_fault}
+use Rattle.regalloc2_function.specs.Reasons.{IsFunctionFault}
+use Rattle.regalloc2_fastalloc_state.specs.Validate.Constraints.{IsFixedFault}
+use Rattle.regalloc2_fastalloc_state.proofs.ValidateLemmas.ValidatedProof.{tested_on_ok, shape_fault, soundness_fault, fixed_fault}
 use Rattle.regalloc2_fastalloc_state.proofs.validate.validate_function.Goals as goal
 
 pub returns-in_err-test_shape-clause-refused : goal.returns-in_err-test_shape-clause-refused
@@ -31,4 +31,4 @@ returns-clause-refused g c =
     let f : FunctionValue = g.F.Function.function c.args.f.now in
     let env : MachineValue = machine_of c.args.env.now in
     IfErr-weaker c.validate_fixed.result (IsFixedFault f env) (IsFunctionFault f env)
-    (λ e h. clashing c.in_ok-test_shape.ensures.ok c.in_ok-test_soundness.ensures.sound h) c.validate_fixed.ensures.refused
+    (fixed_fault f env c.in_ok-test_shape.ensures.ok c.in_ok-test_soundness.ensures.sound) c.validate_fixed.ensures.refused

@@ -1,6 +1,6 @@
 use Rattle.std.proofs.Common.{ℕ, ◌<◌, ◌≤◌, length, refl, arith}
 use Rattle.regalloc2_function.specs.FunctionValue.{FunctionValue, block_at}
-use Rattle.regalloc2_function.specs.Reasons.{IsFirstFork}
+use Rattle.regalloc2_function.specs.Reasons.{IsFirstIn}
 use Rattle.regalloc2_function.proofs.ListsInParts.{first_not_all}
 use Rattle.regalloc2_function.proofs.blocks.test_edges.Goals as goal
 
@@ -9,7 +9,7 @@ returns-in-Some-clause-err g c =
     let f : FunctionValue = g.F.Function.function c.args.f.now in
     let b : ℕ = c.new-block.result in
     let less : b < length f.blocks = omega (arith, c.loop-b.invariant.within, c.new-block.ensures) in
-    let fork : IsFirstFork f (block_at f b) c.in-Some.pred = rw c.block_preds.ensures at c.in-Some.ensures.first in (
+    let fork : IsFirstIn (λ p. length (block_at f p).succs ≤ 1) (block_at f b).preds c.in-Some.pred = rw c.block_preds.ensures at c.in-Some.ensures.first in (
       b,
       c.in-Some.pred,
       refl,

@@ -2,10 +2,10 @@ use Rattle.std.proofs.Common.{◌≡◌, ◌⊎◌, inl, inr, refl, sym, subst}
 use Rattle.std.proofs.lemmas.Result.{IfErr-weaker, IfOk-weaker, err_from_is_err_and}
 use Rattle.regalloc2_names.specs.declared.RegAllocError.{RegAllocError}
 use Rattle.regalloc2_names.specs.declared.RegAllocError.TheVariants.{Memory}
-use Rattle.regalloc2_function.specs.FunctionValue.{FunctionValue, block_at}
+use Rattle.regalloc2_function.specs.FunctionValue.{FunctionValue, block_at, EachBlock}
 use Rattle.regalloc2_function.specs.Reasons.{HasShape, IsShapeFault}
 use Rattle.regalloc2_function.specs.Reasons.IsShapeFault.{apart, critical, operands, outside, unlisted}
-use Rattle.regalloc2_function.specs.WellFormed.{BlocksFollow, NoOperandsIntoJoins}
+use Rattle.regalloc2_function.specs.WellFormed.{BlocksFollow, NoOperandsAt}
 use Rattle.regalloc2_function.proofs.ErrorOnlyOutOfMemory.{shape_refused}
 use Rattle.regalloc2_function.proofs.PredsListed.{are_blocks}
 use Rattle.regalloc2_function.proofs.blocks.test_shape.Goals as goal
@@ -97,7 +97,7 @@ test_branches-requires-clause-follow g c = c.in_ok-test_blocks.ensures.ok.0 refl
 pub returns-clause-ok : goal.returns-clause-ok
 returns-clause-ok g c =
     let f : FunctionValue = g.F.Function.function c.args.f.now in
-    IfOk-weaker c.test_branches.result (λ _. NoOperandsIntoJoins f) (λ _. HasShape f) (λ _ h. record {
+    IfOk-weaker c.test_branches.result (λ _. EachBlock f (NoOperandsAt f)) (λ _. HasShape f) (λ _ h. record {
       successors = c.in_ok-test_successors.ensures.ok;
       follow = c.in_ok-test_blocks.ensures.ok.0 refl;
       predecessors = c.in_ok-test_predecessors.ensures.ok;

@@ -1,8 +1,8 @@
 use Rattle.std.proofs.Common.{ℕ, ◌≡◌, ◌<◌, length}
 use Rattle.std.specs.Prelude.{Any, ◌⊎◌}
 use Rattle.regalloc2_function.specs.FunctionValue.{block_at}
-use Rattle.regalloc2_function.specs.Fitting.{NamesByArgument}
 use Rattle.regalloc2_function.proofs.machine.blocks_name.Given as goal
+use Rattle.regalloc2_function.specs.Inside.NamedClasses.{NamesByArgument}
 
 -- no block so far names a vreg of the class
 abbrev pub invariant-loop-b : goal.invariant-loop-b

@@ -3,8 +3,7 @@ use Rattle.std.specs.Prelude.{flat_map, map}
 use Rattle.std.proofs.lemmas.Result.{on_ok_weaker, IfErr-weaker, err_from_is_err_and}
 use Rattle.regalloc2_index.specs.Range.{numbers_of}
 use Rattle.regalloc2_function.specs.FunctionValue.{FunctionValue, BlockValue, block_at}
-use Rattle.regalloc2_function.specs.Reasons.{param_definition, inst_definitions, block_definitions}
-use Rattle.regalloc2_function.specs.Inside.Definitions.{NotesDefinitions, NamesTaken}
+use Rattle.regalloc2_function.specs.Inside.Definitions.{NotesDefinitions, NamesTaken, param_definition, inst_definitions, block_definitions}
 use Rattle.regalloc2_function.specs.Inside.Definitions.NotesDefinitions.{none}
 use Rattle.regalloc2_function.proofs.NotedInParts.{names_in_part, notes_append}
 use Rattle.regalloc2_function.proofs.ssa.note_block.Goals as goal

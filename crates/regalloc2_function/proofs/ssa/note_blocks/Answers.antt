@@ -2,13 +2,14 @@ use Rattle.std.proofs.Common.{◌+◌, ◌<◌, length, take, drop, arith}
 use Rattle.std.specs.Prelude.{flat_map}
 use Rattle.std.proofs.lemmas.Result.{err_from_is_err_and}
 use Rattle.regalloc2_function.specs.FunctionValue.{FunctionValue, block_at}
-use Rattle.regalloc2_function.specs.Reasons.{block_definitions, definitions_in}
+use Rattle.regalloc2_function.specs.Reasons.{definitions_in}
 use Rattle.regalloc2_function.specs.Inside.Definitions.NotesDefinitions.{none}
 use Rattle.regalloc2_function.proofs.ListsInParts.{flat_split, flat_more}
 use Rattle.regalloc2_function.proofs.Following.{end_within}
 use Rattle.regalloc2_function.proofs.BlockRanges.{block_is}
 use Rattle.regalloc2_function.proofs.NotedInParts.{names_in_part, notes_append}
 use Rattle.regalloc2_function.proofs.ssa.note_blocks.Goals as goal
+use Rattle.regalloc2_function.specs.Inside.Definitions.{block_definitions}
 
 pub loop-b-init : goal.loop-b-init
 loop-b-init g c = none

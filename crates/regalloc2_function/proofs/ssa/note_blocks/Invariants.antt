@@ -1,7 +1,6 @@
 use Rattle.std.proofs.Common.{take}
 use Rattle.std.specs.Prelude.{flat_map}
-use Rattle.regalloc2_function.specs.Reasons.{block_definitions}
-use Rattle.regalloc2_function.specs.Inside.Definitions.{NotesDefinitions}
+use Rattle.regalloc2_function.specs.Inside.Definitions.{NotesDefinitions, block_definitions}
 use Rattle.regalloc2_function.proofs.ssa.note_blocks.Given as goal
 
 -- the blocks so far are noted

@@ -3,11 +3,11 @@ use Rattle.std.specs.Prelude.{flat_map}
 use Rattle.std.proofs.lemmas.Result.{err_from_is_err_and}
 use Rattle.regalloc2_index.specs.Range.{numbers_from, numbers_of}
 use Rattle.regalloc2_function.specs.FunctionValue.{FunctionValue}
-use Rattle.regalloc2_function.specs.Reasons.{inst_definitions}
 use Rattle.regalloc2_function.specs.Inside.Definitions.NotesDefinitions.{none}
 use Rattle.regalloc2_function.proofs.ListsInParts.{numbers_split, numbers_more}
 use Rattle.regalloc2_function.proofs.NotedInParts.{names_in_part, notes_append}
 use Rattle.regalloc2_function.proofs.ssa.note_insts.Goals as goal
+use Rattle.regalloc2_function.specs.Inside.Definitions.{inst_definitions}
 
 pub loop-i-init : goal.loop-i-init
 loop-i-init g c = none

@@ -1,7 +1,6 @@
 use Rattle.std.specs.Prelude.{flat_map}
 use Rattle.regalloc2_index.specs.Range.{numbers_from}
-use Rattle.regalloc2_function.specs.Reasons.{inst_definitions}
-use Rattle.regalloc2_function.specs.Inside.Definitions.{NotesDefinitions}
+use Rattle.regalloc2_function.specs.Inside.Definitions.{NotesDefinitions, inst_definitions}
 use Rattle.regalloc2_function.proofs.ssa.note_insts.Given as goal
 
 -- the instructions so far are noted

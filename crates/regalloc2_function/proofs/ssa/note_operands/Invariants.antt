@@ -1,7 +1,6 @@
 use Rattle.std.proofs.Common.{take}
 use Rattle.std.specs.Prelude.{filter_map}
-use Rattle.regalloc2_function.specs.Reasons.{operand_definition}
-use Rattle.regalloc2_function.specs.Inside.Definitions.{NotesDefinitions}
+use Rattle.regalloc2_function.specs.Inside.Definitions.{NotesDefinitions, operand_definition}
 use Rattle.regalloc2_function.proofs.ssa.note_operands.Given as goal
 
 -- the definitions so far are noted

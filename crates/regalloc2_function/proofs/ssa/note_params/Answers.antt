@@ -1,12 +1,12 @@
 use Rattle.std.proofs.Common.{◌≡◌, ◌+◌, [], ◌∷◌, take, drop, ap, arith}
 use Rattle.std.specs.Prelude.{map}
 use Rattle.regalloc2_names.specs.Place.{before}
-use Rattle.regalloc2_function.specs.Reasons.{param_definition}
 use Rattle.regalloc2_function.specs.Inside.Definitions.NotesDefinitions.{none, more}
 use Rattle.regalloc2_function.proofs.ListsInParts.{map_split, map_more}
 use Rattle.regalloc2_function.proofs.NotedInParts.{names_in_part, taken_now}
 use Rattle.regalloc2_names.specs.declared.RegAllocError.TheVariants.{SSA}
 use Rattle.regalloc2_function.proofs.ssa.note_params.Goals as goal
+use Rattle.regalloc2_function.specs.Inside.Definitions.{param_definition}
 
 pub loop-param-init : goal.loop-param-init
 loop-param-init c = none

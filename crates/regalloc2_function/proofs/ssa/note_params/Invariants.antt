@@ -1,7 +1,6 @@
 use Rattle.std.proofs.Common.{take}
 use Rattle.std.specs.Prelude.{map}
-use Rattle.regalloc2_function.specs.Reasons.{param_definition}
-use Rattle.regalloc2_function.specs.Inside.Definitions.{NotesDefinitions}
+use Rattle.regalloc2_function.specs.Inside.Definitions.{NotesDefinitions, param_definition}
 use Rattle.regalloc2_function.proofs.ssa.note_params.Given as goal
 
 -- the parameters so far are noted

@@ -2,8 +2,7 @@ use Rattle.std.proofs.Common.{◌≡◌, ◌+◌, [], ◌∷◌, take, drop, ref
 use Rattle.std.specs.Prelude.{map}
 use Rattle.std.proofs.lemmas.List.Elements.{All-push, All-same}
 use Rattle.regalloc2_names.specs.Place.{after}
-use Rattle.regalloc2_function.specs.Reasons.{argument_use}
-use Rattle.regalloc2_function.specs.Inside.Definitions.{IsUsable}
+use Rattle.regalloc2_function.specs.Inside.Definitions.{IsUsable, argument_use}
 use Rattle.regalloc2_function.proofs.ListsInParts.{map_split, map_more, map_taken}
 use Rattle.regalloc2_function.proofs.NotedInParts.{unusable_in_part, unusable_now}
 use Rattle.std.proofs.lemmas.Bool.{false≢true}

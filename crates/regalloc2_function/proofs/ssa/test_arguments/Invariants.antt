@@ -1,7 +1,6 @@
 use Rattle.std.proofs.Common.{take}
 use Rattle.std.specs.Prelude.{All, map}
-use Rattle.regalloc2_function.specs.Reasons.{argument_use}
-use Rattle.regalloc2_function.specs.Inside.Definitions.{IsUsable}
+use Rattle.regalloc2_function.specs.Inside.Definitions.{IsUsable, argument_use}
 use Rattle.regalloc2_function.proofs.ssa.test_arguments.Given as goal
 
 -- the arguments so far are usable

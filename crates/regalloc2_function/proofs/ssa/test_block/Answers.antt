@@ -4,8 +4,7 @@ use Rattle.std.proofs.lemmas.Result.{on_ok_weaker, IfErr-weaker, err_from_is_err
 use Rattle.std.proofs.lemmas.List.Elements.{All-append, All-nil}
 use Rattle.regalloc2_index.specs.Range.{numbers_from, numbers_of}
 use Rattle.regalloc2_function.specs.FunctionValue.{FunctionValue, BlockValue, block_at}
-use Rattle.regalloc2_function.specs.Reasons.{inst_reads, passed_at, block_uses}
-use Rattle.regalloc2_function.specs.Inside.Definitions.{IsUsable, NamesUnusable}
+use Rattle.regalloc2_function.specs.Inside.Definitions.{IsUsable, NamesUnusable, inst_reads, passed_at, block_uses}
 use Rattle.regalloc2_function.proofs.NotedInParts.{unusable_in_part}
 use Rattle.regalloc2_function.proofs.ssa.test_block.Goals as goal
 

@@ -3,8 +3,8 @@ use Rattle.std.specs.Prelude.{flat_map}
 use Rattle.std.proofs.lemmas.Result.{err_from_is_err_and}
 use Rattle.std.proofs.lemmas.List.Elements.{All-append, All-same}
 use Rattle.regalloc2_function.specs.FunctionValue.{FunctionValue, block_at}
-use Rattle.regalloc2_function.specs.Reasons.{block_uses, uses_in}
-use Rattle.regalloc2_function.specs.Inside.Definitions.{IsUsable}
+use Rattle.regalloc2_function.specs.Reasons.{uses_in}
+use Rattle.regalloc2_function.specs.Inside.Definitions.{IsUsable, block_uses}
 use Rattle.regalloc2_function.proofs.ListsInParts.{flat_split, flat_more, flat_taken}
 use Rattle.regalloc2_function.proofs.Following.{end_within}
 use Rattle.regalloc2_function.proofs.BlockRanges.{block_is}

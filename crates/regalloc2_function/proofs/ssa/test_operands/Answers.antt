@@ -4,8 +4,8 @@ use Rattle.std.proofs.lemmas.List.Elements.{All-push, All-same}
 use Rattle.regalloc2_names.specs.Operand.{is_reading}
 use Rattle.regalloc2_names.specs.Place.{before}
 use Rattle.regalloc2_names.specs.Register.{VirtualRegister}
-use Rattle.regalloc2_function.specs.Reasons.{UseSite, operand_read}
-use Rattle.regalloc2_function.specs.Inside.Definitions.{IsUsable}
+use Rattle.regalloc2_function.specs.Reasons.{Site}
+use Rattle.regalloc2_function.specs.Inside.Definitions.{IsUsable, operand_read}
 use Rattle.regalloc2_function.proofs.ListsInParts.{filter_split, filter_more, filter_taken}
 use Rattle.regalloc2_function.proofs.NotedInParts.{unusable_in_part, unusable_now}
 use Rattle.regalloc2_names.specs.declared.RegAllocError.TheVariants.{SSA}
@@ -13,7 +13,7 @@ use Rattle.std.proofs.lemmas.Bool.{false≢true}
 use Rattle.regalloc2_function.proofs.ssa.test_operands.Goals as goal
 use Rattle.regalloc2_function.proofs.ssa.test_operands.Goals.{else-is_reading-via-then-is_reading+else-not-is_usable, else-is_reading-via-else-is_reading}
 
-abbrev read_use : ℕ → VirtualRegister → UseSite
+abbrev read_use : ℕ → VirtualRegister → Site
 read_use i v = record { vreg = v; inst = i; point = before i }
 
 pub returns-then-not-is_usable-clause-err : goal.returns-then-not-is_usable-clause-err

@@ -1,7 +1,6 @@
 use Rattle.std.proofs.Common.{take}
 use Rattle.std.specs.Prelude.{All, filter_map}
-use Rattle.regalloc2_function.specs.Reasons.{operand_read}
-use Rattle.regalloc2_function.specs.Inside.Definitions.{IsUsable}
+use Rattle.regalloc2_function.specs.Inside.Definitions.{IsUsable, operand_read}
 use Rattle.regalloc2_function.proofs.ssa.test_operands.Given as goal
 
 -- the reads so far are usable

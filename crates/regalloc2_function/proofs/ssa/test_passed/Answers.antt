@@ -4,8 +4,7 @@ use Rattle.std.proofs.lemmas.List.Elements.{All-append, All-nil, All-same}
 use Rattle.std.proofs.lemmas.Result.{err_from_is_err_and}
 use Rattle.regalloc2_index.specs.Range.{numbers_from}
 use Rattle.regalloc2_function.specs.FunctionValue.{BlockValue, block_at, last_of}
-use Rattle.regalloc2_function.specs.Reasons.{passed_at}
-use Rattle.regalloc2_function.specs.Inside.Definitions.{IsUsable}
+use Rattle.regalloc2_function.specs.Inside.Definitions.{IsUsable, passed_at}
 use Rattle.regalloc2_function.proofs.ListsInParts.{numbers_split, numbers_more}
 use Rattle.regalloc2_function.proofs.NotedInParts.{unusable_in_part}
 use Rattle.regalloc2_function.proofs.ssa.test_passed.Goals as goal

@@ -1,8 +1,7 @@
 use Rattle.std.specs.Prelude.{All, flat_map}
 use Rattle.regalloc2_index.specs.Range.{numbers_from}
 use Rattle.regalloc2_function.specs.FunctionValue.{block_at}
-use Rattle.regalloc2_function.specs.Reasons.{passed_at}
-use Rattle.regalloc2_function.specs.Inside.Definitions.{IsUsable}
+use Rattle.regalloc2_function.specs.Inside.Definitions.{IsUsable, passed_at}
 use Rattle.regalloc2_function.proofs.ssa.test_passed.Given as goal
 
 -- the successors so far are passed what is usable

@@ -4,8 +4,7 @@ use Rattle.std.proofs.lemmas.List.Elements.{All-append, All-same}
 use Rattle.std.proofs.lemmas.Result.{err_from_is_err_and}
 use Rattle.regalloc2_index.specs.Range.{numbers_from, numbers_of}
 use Rattle.regalloc2_function.specs.FunctionValue.{FunctionValue}
-use Rattle.regalloc2_function.specs.Reasons.{inst_reads}
-use Rattle.regalloc2_function.specs.Inside.Definitions.{IsUsable}
+use Rattle.regalloc2_function.specs.Inside.Definitions.{IsUsable, inst_reads}
 use Rattle.regalloc2_function.proofs.ListsInParts.{numbers_split, numbers_more}
 use Rattle.regalloc2_function.proofs.NotedInParts.{unusable_in_part}
 use Rattle.regalloc2_function.proofs.ssa.test_reads.Goals as goal

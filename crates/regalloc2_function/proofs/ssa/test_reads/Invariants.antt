@@ -1,7 +1,6 @@
 use Rattle.std.specs.Prelude.{All, flat_map}
 use Rattle.regalloc2_index.specs.Range.{numbers_from}
-use Rattle.regalloc2_function.specs.Reasons.{inst_reads}
-use Rattle.regalloc2_function.specs.Inside.Definitions.{IsUsable}
+use Rattle.regalloc2_function.specs.Inside.Definitions.{IsUsable, inst_reads}
 use Rattle.regalloc2_function.proofs.ssa.test_reads.Given as goal
 
 -- the instructions so far pass

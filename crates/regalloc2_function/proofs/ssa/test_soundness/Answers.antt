@@ -2,10 +2,10 @@ use Rattle.std.proofs.Common.{◌≡◌, ◌⊎◌, inl, inr, refl, sym, subst}
 use Rattle.std.proofs.lemmas.Result.{IfErr-weaker, err_from_is_err_and}
 use Rattle.regalloc2_names.specs.declared.RegAllocError.{RegAllocError}
 use Rattle.regalloc2_names.specs.declared.RegAllocError.TheVariants.{Memory}
-use Rattle.regalloc2_function.specs.FunctionValue.{FunctionValue}
+use Rattle.regalloc2_function.specs.FunctionValue.{FunctionValue, EachBlock}
 use Rattle.regalloc2_function.specs.Reasons.{IsDefinitionFault, IsSoundnessFault}
 use Rattle.regalloc2_function.specs.Reasons.IsSoundnessFault.{arguments, elsewhere, livein, open_end}
-use Rattle.regalloc2_function.specs.WellFormed.{BlocksEnd}
+use Rattle.regalloc2_function.specs.WellFormed.{EndsAt}
 use Rattle.regalloc2_function.proofs.ErrorOnlyOutOfMemory.{definition_fault, fit_counted, on_ok_both}
 use Rattle.regalloc2_function.proofs.ssa.test_soundness.Goals as goal
 
@@ -33,7 +33,7 @@ returns-in_err-test_fit-clause-refused g c =
     let f : FunctionValue = g.F.Function.function c.args.f.now in
     let p = err_from_is_err_and c.from_residual-in_err-test_fit.result c.from_residual-in_err-test_fit.ensures.1 in
     let h = c.in_err-test_fit.ensures.err in
-    let end : BlocksEnd f = c.in_ok-test_ends.ensures.ok.0 refl in
+    let end : EachBlock f (EndsAt f) = c.in_ok-test_ends.ensures.ok.0 refl in
     rw (p.1, p.2) (subst (Fault f) (sym h.1) (inr (arguments h.0 c.in_ok-test_entry.ensures.ok end h.2)))
 
 pub returns-in_err-test_fit-clause-accepted : goal.returns-in_err-test_fit-clause-accepted

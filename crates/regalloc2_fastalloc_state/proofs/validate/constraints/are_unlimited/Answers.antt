@@ -2,7 +2,7 @@ use Rattle.std.proofs.Common.{List, refl, sym, subst, arith, below_more, ◌∙�
 use Rattle.std.proofs.lemmas.List.{get_or_default}
 use Rattle.regalloc2_names.specs.Operand.{OperandValue}
 use Rattle.regalloc2_function.specs.FunctionValue.{no_operand, op_at}
-use Rattle.regalloc2_function.specs.WellFormed.{IsUnlimited}
+use Rattle.regalloc2_fastalloc_state.specs.Validate.Constraints.{IsUnlimited}
 use Rattle.regalloc2_fastalloc_state.specs.Validate.NoLimits.{IsTakenOperand}
 use Rattle.regalloc2_fastalloc_state.proofs.ValidateLemmas.OperandReads.{read_operand}
 use Rattle.std.proofs.lemmas.Bool.{false≢true}

@@ -1,6 +1,6 @@
 use Rattle.std.proofs.Common.{List, refl, sym, subst, arith, below_more, ◌∙◌}
 use Rattle.regalloc2_names.specs.Operand.{OperandValue}
-use Rattle.regalloc2_function.specs.WellFormed.{DefinesInPlace}
+use Rattle.regalloc2_fastalloc_state.specs.Validate.Constraints.{DefinesInPlace}
 use Rattle.regalloc2_fastalloc_state.proofs.ValidateLemmas.OperandReads.{read_operand}
 use Rattle.regalloc2_function.specs.FunctionValue.{op_at}
 use Rattle.std.proofs.lemmas.Bool.{false≢true}

@@ -1,5 +1,5 @@
 use Rattle.std.proofs.Common.{ℕ, ◌<◌}
-use Rattle.regalloc2_function.specs.WellFormed.{DefinesInPlace}
+use Rattle.regalloc2_fastalloc_state.specs.Validate.Constraints.{DefinesInPlace}
 use Rattle.regalloc2_function.specs.FunctionValue.{op_at}
 use Rattle.regalloc2_fastalloc_state.proofs.validate.constraints.define_in_place.Given as goal
 

@@ -16,11 +16,11 @@ returns-then-not-passes_clobber_test-clause-first g c =
     let less : c.new-inst.result < length f.insts = omega (arith, c.loop-i.invariant.within, c.new-inst.ensures) in (
       c.new-inst.result,
       refl,
-      record {
-        there = less;
-        fails = λ h. absurd (false≢true (sym c.if-not-passes_clobber_test.true ∙ c.passes_clobber_test.ensures.1 h));
-        passed = λ m low. c.loop-i.invariant.so_far m (omega (arith, c.new-inst.ensures));
-      },
+      (
+        less,
+        λ h. absurd (false≢true (sym c.if-not-passes_clobber_test.true ∙ c.passes_clobber_test.ensures.1 h)),
+        λ m low. c.loop-i.invariant.so_far m (omega (arith, c.new-inst.ensures)),
+      ),
     )
 
 pub loop-i-preserved : goal.loop-i-preserved

@@ -18,11 +18,11 @@ returns-then-not-has_no_limit-clause-first g c =
     let less : c.new-inst.result < length f.insts = omega (arith, c.loop-i.invariant.within, c.new-inst.ensures) in (
       c.new-inst.result,
       refl,
-      record {
-        there = less;
-        fails = λ h. absurd (false≢true (sym c.if-not-has_no_limit.true ∙ c.has_no_limit.ensures.unlimited.1 h));
-        passed = λ m low. c.loop-i.invariant.so_far m (omega (arith, c.new-inst.ensures));
-      },
+      (
+        less,
+        λ h. absurd (false≢true (sym c.if-not-has_no_limit.true ∙ c.has_no_limit.ensures.unlimited.1 h)),
+        λ m low. c.loop-i.invariant.so_far m (omega (arith, c.new-inst.ensures)),
+      ),
     )
 
 pub loop-i-preserved : goal.loop-i-preserved
