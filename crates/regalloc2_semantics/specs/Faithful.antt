@@ -70,10 +70,6 @@ pub record StepIsFaithful (f : FunctionValue) (env : MachineValue) (out : Output
 abbrev pub IsFaithful : FunctionValue → MachineValue → OutputValue → Type 0
 IsFaithful f env out = (ws : List Way) → IsPath f ws → StepIsFaithful f env out ws
 
--- no move at all goes from a stack place to another, on a path or not
-abbrev pub HasNoStackToStack : MachineValue → OutputValue → Type 0
-HasNoStackToStack env out = All (λ e. IsStackToStack env e.1 → ⊥) out.edits
-
 -- each edit is listed before or after an instruction of a block, and none after a block's last one
 abbrev pub EditsAreListed : FunctionValue → OutputValue → Type 0
 EditsAreListed f out = All (λ e. (b i : ℕ) × (b < length f.blocks) × ((block_at f b).range.first ≤ i) × (i < (block_at f b).range.end)

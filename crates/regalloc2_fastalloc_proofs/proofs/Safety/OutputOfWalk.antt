@@ -18,7 +18,7 @@ use Rattle.regalloc2_function.specs.FunctionValue.{FunctionValue, inst_at, opera
 use Rattle.regalloc2_function.specs.Machine.{MachineValue, is_allocatable, scratch_of, IsFixedStackSlot}
 use Rattle.regalloc2_function.specs.OutputValue.{OutputValue, DebugLocation, MoveValue, IsInOrder, alloc_start, alloc_end, allocs_of, place_at}
 use Rattle.regalloc2_semantics.specs.Debug.{IsKept}
-use Rattle.regalloc2_semantics.specs.Faithful.{ConstraintsMet, HasNoStackToStack, IsStackToStack, Meets}
+use Rattle.regalloc2_semantics.specs.Faithful.{ConstraintsMet, IsStackToStack, Meets}
 use Rattle.regalloc2_function.specs.Fitting.{MachineFits}
 use Rattle.regalloc2_semantics.specs.Places.{PlacesAreProper, IsProperPlace, IsMoveEnd}
 use Rattle.regalloc2_fastalloc_proofs.specs.InstSteps.{StateValue}
@@ -225,5 +225,5 @@ made_proper f env Known May t o m = record {
 
 -- no move of an output made of the final state is stack-to-stack
 pub made_in_registers : (f : FunctionValue) (env : MachineValue) (Known : VirtualRegister → Type 0) (May : ℕ → Type 0) (t : StateValue) (o : OutputValue) →
-    IsOutputOfWalk f env Known May t o → HasNoStackToStack env o
+    IsOutputOfWalk f env Known May t o → All (λ e. IsStackToStack env e.1 → ⊥) o.edits
 made_in_registers f env Known May t o m = each_edit f env Known May t o (λ e. IsStackToStack env e.1 → ⊥) m (λ e s. s.not_both)
