@@ -36,7 +36,7 @@ all_there g xs h = All-map IsSome (option_map g) xs (λ k d less. there_mapped g
 
 step_reads : (f : FunctionValue) (env : MachineValue) (out : OutputValue) → IsFaithful f env out → (ws : List Way) → IsPath f ws →
     All IsSome (source_reads f ws)
-step_reads f env out h ws p = each_reads (λ k o. source_read f ws o) 0 (last_inst f ws).operands (λ k d less yes. ((h ws p).reads k d less yes).0)
+step_reads f env out h ws p = each_reads (λ k o. source_read f ws o) 0 (last_inst f ws).operands (λ k d less yes. (h.reads ws p k d less yes).0)
 
 -- where an output is faithful, on every path each use of the function reads a number, whatever the instructions compute
 pub reads_numbers : (f : FunctionValue) (env : MachineValue) (out : OutputValue) → IsFaithful f env out → (meaning : Meaning) (ws : List Way) → IsPath f ws →

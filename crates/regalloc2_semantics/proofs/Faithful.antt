@@ -29,8 +29,8 @@ moves_before-All P out first i h =
 
 -- an output is faithful if constraints are met everywhere, no move is from stack to stack, and reads agree on every path
 pub faithful : FaithfulWhereReadsAgree
-faithful f env out constraints moves reads ws p = record {
-  reads = reads ws p;
-  constraints = constraints_met f env out constraints (end_of f ws).inst;
-  moves = moves_before-All (λ m. IsStackToStack env m → ⊥) out (block_at f (end_of f ws).block).range.first (end_of f ws).inst moves;
+faithful f env out constraints moves reads = record {
+  reads = reads;
+  constraints = λ ws p. constraints_met f env out constraints (end_of f ws).inst;
+  moves = λ ws p. moves_before-All (λ m. IsStackToStack env m → ⊥) out (block_at f (end_of f ws).block).range.first (end_of f ws).inst moves;
 }
