@@ -1,7 +1,7 @@
 -- The allocator's output, as contracts see it.
 -- Its parts are the fields of upstream's `Output`.
 use Rattle.std.specs.Prelude.{ℕ, ◌≡◌, ◌≢◌, ◌+◌, ◌≤◌, ◌<◌, Bool, ◌&&◌, ◌||◌, nat_eq, nat_lt, if◌then◌else◌, List, length, slice_index, slice_index_or}
-use Rattle.std.specs.Prelude.{slice_range, filter, map, All}
+use Rattle.std.specs.Prelude.{slice_range, All}
 use Rattle.std.specs.List.Sorted.{IsNonDecreasingBy}
 use Rattle.regalloc2_names.specs.Place.{Place, NoPlace, before}
 use Rattle.regalloc2_function.specs.FunctionValue.{FunctionValue, inst_at}
@@ -44,10 +44,6 @@ place_at places k = slice_index_or places k NoPlace
 -- whether an edit is listed before an instruction of a block that begins at first
 abbrev pub is_listed_at : ℕ → ℕ → ℕ → Bool
 is_listed_at first i point = nat_eq point (before i) || (nat_lt first i && nat_eq (point + 1) (before i))
-
--- the moves that are listed before an instruction
-abbrev pub moves_before : OutputValue → ℕ → ℕ → List MoveValue
-moves_before o first i = map (λ e. e.1) (filter (λ e. is_listed_at first i e.0) o.edits)
 
 -- the offsets are in order: the first is 0, none is below the one before, and none is past the places
 pub record OffsetsInOrder (o : OutputValue) : Type 0 where

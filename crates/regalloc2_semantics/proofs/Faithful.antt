@@ -6,7 +6,8 @@ use Rattle.std.proofs.lemmas.List.Elements.{All-filter, All-map}
 use Rattle.std.proofs.lemmas.Bool.{cases_lt}
 use Rattle.regalloc2_function.specs.FunctionValue.{FunctionValue, InstValue, block_at, inst_at, no_inst}
 use Rattle.regalloc2_function.specs.Machine.{MachineValue}
-use Rattle.regalloc2_function.specs.OutputValue.{OutputValue, MoveValue, is_listed_at, moves_before}
+use Rattle.regalloc2_function.specs.Listing.{moves_before}
+use Rattle.regalloc2_function.specs.OutputValue.{OutputValue, MoveValue, is_listed_at}
 use Rattle.regalloc2_semantics.specs.Runs.{end_of}
 use Rattle.regalloc2_semantics.specs.Faithful.{ConstraintsMet, IsStackToStack}
 use Rattle.regalloc2_semantics.specs.Laws.{FaithfulWhereReadsAgree}
