@@ -16,7 +16,7 @@ use Rattle.regalloc2_names.specs.Place.{Place, NoPlace, InRegister, InSlot}
 use Rattle.regalloc2_names.specs.Operand.{OperandValue, fixed_register, nonallocatable_register, is_fixed_nonallocatable}
 use Rattle.regalloc2_function.specs.FunctionValue.{FunctionValue, inst_at, operand_count, op_at}
 use Rattle.regalloc2_function.specs.Machine.{MachineValue, is_allocatable, scratch_of, IsFixedStackSlot}
-use Rattle.regalloc2_function.specs.OutputValue.{OutputValue, DebugLocation, MoveValue, IsInOrder, alloc_start, alloc_end, allocs_of, place_at}
+use Rattle.regalloc2_function.specs.OutputValue.{OutputValue, DebugLocation, MoveValue, IsInOrder, alloc_end, allocs_of, place_at}
 use Rattle.regalloc2_semantics.specs.Debug.{IsKept}
 use Rattle.regalloc2_semantics.specs.Faithful.{ConstraintsMet, IsStackToStack, Meets}
 use Rattle.regalloc2_function.specs.Fitting.{MachineFits}
@@ -121,11 +121,11 @@ pub place_is : (f : FunctionValue) (env : MachineValue) (Known : VirtualRegister
     IsOutputOfWalk f env Known May t o → (i : ℕ) → i < length f.insts → (k : ℕ) → k < length (inst_at f i).operands
     → place_at (allocs_of o i) k ≡ slice_index_or o.allocs (offset_of f i + k) NoPlace
 place_is f env Known May t o m i lt k less =
-    let a : alloc_start o i ≡ offset_of f i = m.offsets i lt in
+    let a : slice_index o.offsets i ≡ offset_of f i = m.offsets i lt in
     let b = end_is f env Known May t o m i lt in
     let n = offset_next f i lt in
-    get_or-take (alloc_end o i - alloc_start o i) (drop (alloc_start o i) o.allocs) k NoPlace (omega (arith, a, b, n, less))
-    ∙ get_or-drop (alloc_start o i) o.allocs k NoPlace ∙ ap (λ (j : ℕ). slice_index_or o.allocs (j + k) NoPlace) a
+    get_or-take (alloc_end o i - slice_index o.offsets i) (drop (slice_index o.offsets i) o.allocs) k NoPlace (omega (arith, a, b, n, less))
+    ∙ get_or-drop (slice_index o.offsets i) o.allocs k NoPlace ∙ ap (λ (j : ℕ). slice_index_or o.allocs (j + k) NoPlace) a
 
 -- the place of an operand is good
 pub operand_good : (f : FunctionValue) (env : MachineValue) (Known : VirtualRegister → Type 0) (May : ℕ → Type 0) (t : StateValue) (o : OutputValue) →
