@@ -52,8 +52,6 @@ unfoldable pub count_below : (ℕ → Bool) → ℕ → ℕ
 count_below p zero = 0
 count_below p (suc n) = (if p n then 1 else 0) + count_below p n
 
-abbrev pub register_number : RegClass → ℕ → Register
-register_number class n = record { number = n; class = class }
-
+-- how many registers may be allocated to vregs of a class
 unfoldable pub allocatable_count : MachineValue → RegClass → ℕ
-allocatable_count env class = count_below (λ n. is_allocatable env class (register_number class n)) 64
+allocatable_count env class = count_below (λ n. is_allocatable env class (record { number = n; class = class })) 64
