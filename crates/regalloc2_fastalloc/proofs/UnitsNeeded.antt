@@ -11,11 +11,15 @@ use Rattle.regalloc2_function.specs.OutputValue.{OutputValue}
 use Rattle.regalloc2_fastalloc_state.specs.StateParts.{SpillSlotsValue, SlotsHaveOneOwner, AreUpTo, owners, units_of, most_units}
 use Rattle.regalloc2_fastalloc_state.specs.OutOfResources.{SlotsExhaustedWith}
 use Rattle.regalloc2_carry.proofs.Plain.{each_of_three}
-use Rattle.regalloc2_semantics.specs.Places.{greatest_slot, units_at_most}
+use Rattle.regalloc2_semantics.specs.Places.{units_at_most}
 
 -- the sizes of a function's slots
 abbrev pub sizes_of : FunctionValue → List ℕ
 sizes_of f = slot_size f.slot_sizes Int ∷ slot_size f.slot_sizes Float ∷ slot_size f.slot_sizes Vector ∷ []
+
+-- the greatest of them
+abbrev greatest_slot : FunctionValue → ℕ
+greatest_slot f = max (slot_size f.slot_sizes Int) (max (slot_size f.slot_sizes Float) (slot_size f.slot_sizes Vector))
 
 -- slots of such sizes take as many units as the function asks for
 pub sizes_agree : (f : FunctionValue) (s : SpillSlotsValue) → s.sizes ≡ sizes_of f → (c : RegClass) → slot_size f.slot_sizes c ≡ units_of s c

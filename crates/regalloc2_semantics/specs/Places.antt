@@ -78,10 +78,8 @@ StandsInSlot f out v n =
     (i k : ℕ) × (d : OperandValue) × (i < length f.insts) × (k < length (inst_at f i).operands) × ((slice_index_or (inst_at f i).operands k d).vreg ≡ v)
     × (place_at (allocs_of out i) k ≡ InSlot n)
 
--- how many units the greatest slot takes
-abbrev pub greatest_slot : FunctionValue → ℕ
-greatest_slot f = max (slot_size f.slot_sizes Int) (max (slot_size f.slot_sizes Float) (slot_size f.slot_sizes Vector))
-
--- How many units slots may take: each less than twice its size, since it is aligned; there is one at most for each vreg, and six for the moves of each block.
+-- How many units slots may take: each less than twice the greatest size, since it is aligned; there is one at most for each vreg, and six for the moves of
+-- each block.
 abbrev pub units_at_most : FunctionValue → ℕ
-units_at_most f = 2 * greatest_slot f * (f.num_vregs + 6 * length f.blocks)
+units_at_most f =
+    2 * max (slot_size f.slot_sizes Int) (max (slot_size f.slot_sizes Float) (slot_size f.slot_sizes Vector)) * (f.num_vregs + 6 * length f.blocks)
