@@ -10,12 +10,12 @@ use Rattle.regalloc2_names.specs.declared.RegClass.{RegClass}
 use Rattle.regalloc2_function.specs.FunctionValue.{FunctionValue, block_at, inst_at, op_at, last_of}
 use Rattle.regalloc2_function.specs.Machine.{MachineValue, allocatable_count}
 use Rattle.regalloc2_function.specs.OutputValue.{OutputValue, IsInOrder, allocs_of, place_at}
-use Rattle.regalloc2_semantics.specs.Runs.{Way, end_of, IsPath, IsWrittenFirst, arguments_at}
+use Rattle.regalloc2_semantics.specs.Runs.{Way, first_of, end_of, IsPath, IsWrittenFirst, arguments_at}
 use Rattle.regalloc2_semantics.specs.Faithful.{ConstraintsMet, EditsAreListed, IsStackToStack, IsFaithful}
 use Rattle.regalloc2_semantics.specs.Debug.{HoldsValue as ShowsValue, AreDebugLocations}
 use Rattle.regalloc2_semantics.specs.Places.{IsProperPlace, PlacesAreProper, Owner, OfVReg, OfBranch, IsSlotOf, AreSlotsOwned, StandsInSlot, units_at_most}
 use Rattle.regalloc2_semantics.specs.Values.{Meaning, SameNumbers, numbers, source_reads}
-use Rattle.regalloc2_semantics.specs.Live.{DefinesNumber, IsEdgeInto, IsLive, HasEntered, HoldsValueAt}
+use Rattle.regalloc2_semantics.specs.Live.{DefinesNumber, IsEdgeInto, IsLive, HoldsValueAt}
 
 -- The allocated program runs as the function does, along every path from the entry: at each step each use finds in its place the function's own
 -- write, each place meets its constraint, and no move is stack-to-stack; and so each use reads the function's own number, whatever the instructions
@@ -49,9 +49,8 @@ pub data ArrivesAt (f : FunctionValue) (out : OutputValue) (slot : VirtualRegist
 pub record LiveInSlots (f : FunctionValue) (out : OutputValue) (owner : ℕ → Owner) : Type 0 where
   pub slot : VirtualRegister → ℕ
   pub operands : (v : VirtualRegister) (n : ℕ) → StandsInSlot f out v n → slot v ≡ n
-  pub owned : (ws : List Way) → IsPath f ws → HasEntered f ws → (v : VirtualRegister) → IsLive f v (end_of f ws) → owner (slot v) ≡ OfVReg v
-  pub live : (ws : List Way) → IsPath f ws → HasEntered f ws → (v : VirtualRegister) → IsLive f v (end_of f ws) → (p : Place) →
-      ArrivesAt f out slot (end_of f ws).block v p → HoldsValueAt f out ws p v
+  pub live : (ws : List Way) → IsPath f ws → end_of f ws ≡ first_of f (end_of f ws).block → (v : VirtualRegister) → IsLive f v (end_of f ws) →
+      (owner (slot v) ≡ OfVReg v) × ((p : Place) → ArrivesAt f out slot (end_of f ws).block v p → HoldsValueAt f out ws p v)
 
 -- The slot n of a branch i: it is the branch's first or second one for its class, and only moves name it, each at the point before the branch.
 pub record ServesBranch (out : OutputValue) (n i time : ℕ) : Type 0 where
