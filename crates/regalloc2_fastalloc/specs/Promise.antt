@@ -91,9 +91,9 @@ pub record HasRegistersForAll (f : FunctionValue) (env : MachineValue) : Type 0 
 -- The whole guarantee about an output. Only `faithful`, `live` and the last part of `labels` have a premise: that no path from the entry reads or
 -- passes a vreg before writing it.
 --     in_order            offsets and moves are well-ordered, and no move names a missing place
---     constraints         each operand's place meets its constraint, whether a path reaches it or not
---     proper              each operand's place, and each end of a move, is one of the machine's or a slot below the count; an operand that names a register
---                         and no vreg is in that register, which may be none of the machine's
+--     constraints         each operand's place meets its constraint, whether a path reaches it or not; so an operand that names a register and no vreg is
+--                         in that register, which may be none of the machine's
+--     proper              each other operand's place, and each end of a move, is one of the machine's or a slot below the count
 --     no_stack_to_stack   no move is stack-to-stack
 --     listed              each move is listed, none after the last instruction of a block
 --     faithful            the output runs as the function does

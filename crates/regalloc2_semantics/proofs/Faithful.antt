@@ -1,33 +1,16 @@
 -- From reads that agree to a faithful output.
-use Rattle.std.proofs.Common.{ℕ, ◌≡◌, ◌<◌, ◌≤◌, length, arith, ap, inl, inr, subst, Bool, true, cond, nat_eq}
-use Rattle.std.specs.Prelude.{All, filter, None, Some, slice_index_or}
+use Rattle.std.proofs.Common.{ℕ, ◌≡◌, ◌<◌, ◌≤◌, length, arith, ap, inl, inr}
+use Rattle.std.specs.Prelude.{All, filter}
 use Rattle.std.proofs.lemmas.List.{get_or_past}
 use Rattle.std.proofs.lemmas.List.Elements.{All-filter, All-map}
 use Rattle.std.proofs.lemmas.Bool.{cases_lt}
-use Rattle.regalloc2_names.specs.declared.OperandConstraint.{OperandConstraint}
-use Rattle.regalloc2_names.specs.declared.OperandConstraint.TheVariants.{FixedReg}
-use Rattle.regalloc2_names.specs.Operand.{OperandValue, fixed_register, nonallocatable_register}
-use Rattle.regalloc2_names.specs.Place.{InRegister}
-use Rattle.regalloc2_names.specs.Register.{Register}
-use Rattle.regalloc2_function.specs.FunctionValue.{FunctionValue, InstValue, EachOperand, block_at, inst_at, no_inst}
+use Rattle.regalloc2_function.specs.FunctionValue.{FunctionValue, InstValue, block_at, inst_at, no_inst}
 use Rattle.regalloc2_function.specs.Machine.{MachineValue}
 use Rattle.regalloc2_function.specs.Listing.{moves_before}
-use Rattle.regalloc2_function.specs.OutputValue.{OutputValue, MoveValue, allocs_of, place_at, is_listed_at}
+use Rattle.regalloc2_function.specs.OutputValue.{OutputValue, MoveValue, is_listed_at}
 use Rattle.regalloc2_semantics.specs.Runs.{end_of}
-use Rattle.regalloc2_semantics.specs.Faithful.{ConstraintsMet, IsStackToStack, Meets}
+use Rattle.regalloc2_semantics.specs.Faithful.{ConstraintsMet, IsStackToStack}
 use Rattle.regalloc2_semantics.specs.Laws.{FaithfulWhereReadsAgree}
-
--- where constraints are met, an operand that names a register and no vreg is in that register
-names_register : (b : Bool) (c : OperandConstraint) (r : Register) → cond b (fixed_register c) None ≡ Some r → c ≡ FixedReg r
-names_register true (FixedReg q) r e = (let same : q ≡ r = cc in ap FixedReg same)
-names_register b c r e = absurd cc
-
-pub nonallocatable_in_place : (f : FunctionValue) (env : MachineValue) (out : OutputValue) (i : ℕ) → ConstraintsMet f env out i →
-    EachOperand (inst_at f i) (λ k o. (r : Register) → nonallocatable_register o ≡ Some r → place_at (allocs_of out i) k ≡ InRegister r)
-nonallocatable_in_place f env out i met k d less r names =
-    let o : OperandValue = slice_index_or (inst_at f i).operands k d in
-    subst (λ (c : OperandConstraint). Meets env (length (inst_at f i).operands) (allocs_of out i) c (place_at (allocs_of out i) k))
-    (names_register (nat_eq o.vreg.number 1073741823) o.constraint r names) (met k d less)
 
 -- past the last instruction there are no operands
 none_past : (f : FunctionValue) (i : ℕ) → length f.insts ≤ i → length (inst_at f i).operands ≡ 0

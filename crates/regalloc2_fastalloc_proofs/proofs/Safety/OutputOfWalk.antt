@@ -1,8 +1,8 @@
 -- What holds at the walk's end, for operands under every constraint but `Limit`.
 use Rattle.regalloc2_parts.proofs.Resolving.{All-reversed}
-use Rattle.std.proofs.Common.{ℕ, ◌≡◌, ◌≢◌, ◌+◌, ◌-◌, ◌<◌, ◌≤◌, ⊎_elim, inl, inr, Bool, true, false, cond, List, length, drop, reverse, refl, sym, ap, ◌∙◌}
+use Rattle.std.proofs.Common.{ℕ, ◌≡◌, ◌≢◌, ◌+◌, ◌-◌, ◌<◌, ◌≤◌, ⊎_elim, inl, inr, true, false, cond, List, length, drop, reverse, refl, sym, ap, ◌∙◌}
 use Rattle.std.proofs.Common.{subst, arith, nat_eq, eq-eqb, slice_index_or, slice_index}
-use Rattle.std.specs.Prelude.{All, Any as SomeIn, None, Some, sum_by}
+use Rattle.std.specs.Prelude.{All, Any as SomeIn, Some, sum_by}
 use Rattle.std.specs.List.Sorted.{IsNonDecreasingBy}
 use Rattle.std.proofs.lemmas.Bool.{ne_eqb, cases_eq}
 use Rattle.std.proofs.lemmas.List.{get_or-take, get_or-drop, take_all, get_or_default}
@@ -13,7 +13,7 @@ use Rattle.regalloc2_names.specs.declared.OperandConstraint.TheVariants.{Any, Re
 use Rattle.regalloc2_names.specs.declared.RegClass.{RegClass}
 use Rattle.regalloc2_names.specs.Register.{Register, VirtualRegister, invalid_register}
 use Rattle.regalloc2_names.specs.Place.{Place, NoPlace, InRegister, InSlot}
-use Rattle.regalloc2_names.specs.Operand.{OperandValue, fixed_register, nonallocatable_register, is_fixed_nonallocatable}
+use Rattle.regalloc2_names.specs.Operand.{OperandValue, is_fixed_nonallocatable}
 use Rattle.regalloc2_function.specs.FunctionValue.{FunctionValue, inst_at, operand_count, op_at}
 use Rattle.regalloc2_function.specs.Machine.{MachineValue, is_allocatable, scratch_of, IsFixedStackSlot}
 use Rattle.regalloc2_function.specs.OutputValue.{OutputValue, DebugLocation, MoveValue, IsInOrder, alloc_end, allocs_of, place_at}
@@ -193,11 +193,6 @@ pub slots_below : (f : FunctionValue) (env : MachineValue) (Known : VirtualRegis
     IsOutputOfWalk f env Known May t o → AreBelow t.slots o.num_spillslots
 slots_below f env Known May t o m = subst (AreBelow t.slots) (sym m.count) m.kept.safe.slots
 
--- the register of an operand that names no vreg
-names_register : (b : Bool) (c : OperandConstraint) (r : Register) → cond b (fixed_register c) None ≡ Some r → c ≡ FixedReg r
-names_register true (FixedReg q) r e = (let same : q ≡ r = cc in ap FixedReg same)
-names_register b c r e = absurd cc
-
 -- in an output made of the final state operands and moves have valid places
 pub made_proper : (f : FunctionValue) (env : MachineValue) (Known : VirtualRegister → Type 0) (May : ℕ → Type 0) (t : StateValue) (o : OutputValue) →
     IsOutputOfWalk f env Known May t o → PlacesAreProper f env o
@@ -208,12 +203,6 @@ made_proper f env Known May t o m = record {
       subst (λ (x : OperandValue). IsProperPlace env o x.vreg.class (place_at (allocs_of o i) k)) (sym same)
       (proper_place env o t.slots (op_at ops k).vreg (place_at (allocs_of o i) k) (slots_below f env Known May t o m)
       ((operand_good f env Known May t o m i lt k less).place (ap is_fixed_nonallocatable (sym same) ∙ named)));
-  nonallocatable = λ i lt k d less r names.
-      let ops : List OperandValue = (inst_at f i).operands in
-      let same : slice_index_or ops k d ≡ op_at ops k = get_or_default ops k d _ less in
-      let x : OperandValue = op_at ops k in
-      let fixed : x.constraint ≡ FixedReg r = names_register (nat_eq x.vreg.number 1073741823) x.constraint r (ap nonallocatable_register (sym same) ∙ names) in
-      subst (λ (c : OperandConstraint). MeetsByItself env c (place_at (allocs_of o i) k)) fixed (operand_good f env Known May t o m i lt k less).meets;
   moves = each_edit f env Known May t o (λ e. IsMoveEnd env o e.1.from × IsMoveEnd env o e.1.to) m (λ e s. elim s.moves [
     | inl v ↦ (
       move_end env o t.slots v.vreg e.1.from (slots_below f env Known May t o m) v.from,
