@@ -16,7 +16,7 @@ use Rattle.regalloc2_function.specs.FunctionValue.{FunctionValue, block_at, inst
 use Rattle.regalloc2_function.specs.Machine.{MachineValue}
 use Rattle.regalloc2_function.specs.OutputValue.{OutputValue, MoveValue, allocs_of, place_at}
 use Rattle.regalloc2_semantics.specs.Runs.{Way, Location, end_of, IsPath, source_read, moves_at, allocated_read, IsReached}
-use Rattle.regalloc2_semantics.specs.Faithful.{ReadsAgree, Meets, ConstraintsMet, IsStackToStack, IsFaithful, Holds, cell_at}
+use Rattle.regalloc2_semantics.specs.Faithful.{ReadsAgree, Meets, ConstraintsMet, IsStackToStack, IsFaithful, HoldsOnPaths, cell_at}
 use Rattle.regalloc2_function.specs.WellFormed.{IsFramed}
 use Rattle.regalloc2_checker.specs.declared.errors.CheckerError.{CheckerError}
 use Rattle.regalloc2_checker.specs.Fixpoint.{IsReachedBlock, nth_of}
@@ -100,21 +100,21 @@ none_judged env inst ops places position Has (Some e) h (k, less, at, below, fau
 -- an instruction without errors
 fine_at : {A : Type 0} (f : FunctionValue) (env : MachineValue) (o : OutputValue) (l : Location) (r : InstReport {A = A} f env o l []) → (k : ℕ) →
     k < length (inst_at f l.inst).operands →
-    IsFineAt env (inst_at f l.inst).operands (allocs_of o l.inst) (Holds f o l (operand_at (inst_at f l.inst).operands k).position) k
+    IsFineAt env (inst_at f l.inst).operands (allocs_of o l.inst) (HoldsOnPaths f o l (operand_at (inst_at f l.inst).operands k).position) k
 fine_at f env o l r k less =
     let operands : List OperandValue = (inst_at f l.inst).operands in
     let none = right_none r.of_moves (option_to_list r.of_early ++ option_to_list r.of_late) (sym r.all) in
-    let early = subst (λ (x : Option (CheckerError _)). AreOperandsJudged env l.inst operands (allocs_of o l.inst) Early (Holds f o l Early) x)
+    let early = subst (λ (x : Option (CheckerError _)). AreOperandsJudged env l.inst operands (allocs_of o l.inst) Early (HoldsOnPaths f o l Early) x)
     (is_none r.of_early (left_none _ _ none)) r.early in
-    let late = subst (λ (x : Option (CheckerError _)). AreOperandsJudged env l.inst operands (allocs_of o l.inst) Late (Holds f o l Late) x)
+    let late = subst (λ (x : Option (CheckerError _)). AreOperandsJudged env l.inst operands (allocs_of o l.inst) Late (HoldsOnPaths f o l Late) x)
     (is_none r.of_late (right_none (option_to_list r.of_early) _ none)) r.late in
     pick f env o l k less early late (operand_at operands k).position refl
   where
     pick : (f : FunctionValue) (env : MachineValue) (o : OutputValue) (l : Location) (k : ℕ) → k < length (inst_at f l.inst).operands →
-        AreFineBelow env (inst_at f l.inst).operands (allocs_of o l.inst) Early (Holds f o l Early) (length (inst_at f l.inst).operands) →
-        AreFineBelow env (inst_at f l.inst).operands (allocs_of o l.inst) Late (Holds f o l Late) (length (inst_at f l.inst).operands) →
+        AreFineBelow env (inst_at f l.inst).operands (allocs_of o l.inst) Early (HoldsOnPaths f o l Early) (length (inst_at f l.inst).operands) →
+        AreFineBelow env (inst_at f l.inst).operands (allocs_of o l.inst) Late (HoldsOnPaths f o l Late) (length (inst_at f l.inst).operands) →
         (p : OperandPos) → (operand_at (inst_at f l.inst).operands k).position ≡ p →
-        IsFineAt env (inst_at f l.inst).operands (allocs_of o l.inst) (Holds f o l p) k
+        IsFineAt env (inst_at f l.inst).operands (allocs_of o l.inst) (HoldsOnPaths f o l p) k
     pick f env o l k less early late Early e = early k less e
     pick f env o l k less early late Late e = late k less e
 
@@ -182,7 +182,7 @@ report_faithful f env o es ok r e =
 -- an instruction that a path reaches, of a faithful output
 fine_reached : (f : FunctionValue) (env : MachineValue) (o : OutputValue) → IsFaithful f env o → (l : Location) → IsReached f l → (k : ℕ) →
     k < length (inst_at f l.inst).operands →
-    IsFineAt env (inst_at f l.inst).operands (allocs_of o l.inst) (Holds f o l (operand_at (inst_at f l.inst).operands k).position) k
+    IsFineAt env (inst_at f l.inst).operands (allocs_of o l.inst) (HoldsOnPaths f o l (operand_at (inst_at f l.inst).operands k).position) k
 fine_reached f env o h l r k less = record {
   value = λ reads ws p e. held ws p e reads;
   constraint = subst (λ (m : Location). k < length (inst_at f m.inst).operands →
@@ -207,8 +207,8 @@ no_inst_errors f env o h l w es r =
     let operands : List OperandValue = (inst_at f l.inst).operands in
     let moves : All (λ m. IsStackToStack env m → ⊥) (moves_at f o l) = subst (λ (m : Location). All (λ m. IsStackToStack env m → ⊥) (moves_at f o m)) w.2
     (h.moves w.0 w.1) in
-    let early = none_judged env l.inst operands (allocs_of o l.inst) Early (Holds f o l) r.of_early (fine_reached f env o h l w) r.early in
-    let late = none_judged env l.inst operands (allocs_of o l.inst) Late (Holds f o l) r.of_late (fine_reached f env o h l w) r.late in
+    let early = none_judged env l.inst operands (allocs_of o l.inst) Early (HoldsOnPaths f o l) r.of_early (fine_reached f env o h l w) r.early in
+    let late = none_judged env l.inst operands (allocs_of o l.inst) Late (HoldsOnPaths f o l) r.of_late (fine_reached f env o h l w) r.late in
     r.all ∙ rw (fine_moves env (moves_at f o l) r.of_moves r.moves moves, early, late) refl
 
 no_errors_within : {A : Type 0} (f : FunctionValue) (env : MachineValue) (o : OutputValue) → IsFaithful f env o → (b : ℕ) → IsReachedBlock f b → (n : ℕ) →

@@ -21,8 +21,8 @@ cell_at f o ws position p =
     read_of position (early p) (cells_late f o (end_of f ws) (length ws) early p)
 
 -- on every path that reaches the position, the place holds the write that the vreg has
-abbrev pub Holds : FunctionValue → OutputValue → Location → OperandPos → Place → VirtualRegister → Type 0
-Holds f o l position p v = (ws : List Way) → IsPath f ws → end_of f ws ≡ l →
+abbrev pub HoldsOnPaths : FunctionValue → OutputValue → Location → OperandPos → Place → VirtualRegister → Type 0
+HoldsOnPaths f o l position p v = (ws : List Way) → IsPath f ws → end_of f ws ≡ l →
     IsSome (cell_at f o ws position p) × (cell_at f o ws position p ≡ read_of position (source_before f ws v) (source_after f ws v))
 
 -- at the last step of a path each reading use finds in its place the write that its vreg has, and there is one
