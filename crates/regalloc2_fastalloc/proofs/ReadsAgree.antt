@@ -5,7 +5,7 @@ use Rattle.std.specs.Prelude.{All, filter, Option, Some}
 use Rattle.std.proofs.lemmas.Bool.{ne_eqb}
 use Rattle.regalloc2_names.specs.Register.{VirtualRegister}
 use Rattle.regalloc2_names.specs.Place.{Place, NoPlace, InRegister, InSlot, after}
-use Rattle.regalloc2_semantics.specs.Debug.{HoldsValue as ShowsValue}
+use Rattle.regalloc2_semantics.specs.Debug.{ShowsValue}
 use Rattle.regalloc2_function.specs.FunctionValue.{Label, block_at, inst_at}
 use Rattle.regalloc2_function.specs.Fitting.{MachineFits}
 use Rattle.regalloc2_function.specs.OutputValue.{MoveValue, allocs_of}
