@@ -11,7 +11,7 @@ use Rattle.regalloc2_function.specs.FunctionValue.{FunctionValue, InstValue, Eac
 use Rattle.regalloc2_function.specs.Machine.{MachineValue, is_allocatable, scratch_of, IsFixedStackSlot, count_below, allocatable_count}
 use Rattle.regalloc2_function.specs.Fitting.{NamesClass}
 
--- an operand holds the early, or the late, part of its instruction; a use that is reused holds both
+-- an operand takes the early position of its instruction, or the late one; a use that is reused takes both
 abbrev pub IsReused : InstValue → ℕ → Type 0
 IsReused i k = (j : ℕ) × (d : OperandValue) × (j < length i.operands) × ((slice_index_or i.operands j d).constraint ≡ Reuse k)
 
@@ -23,11 +23,11 @@ is_reuse (FixedReg r) = false
 is_reuse (Reuse n) = true
 is_reuse (Limit n) = false
 
-abbrev pub HoldsEarly : OperandValue → Type 0
-HoldsEarly o = (is_def o.kind && is_late o.position && not (is_reuse o.constraint)) ≡ false
+abbrev pub TakesEarly : OperandValue → Type 0
+TakesEarly o = (is_def o.kind && is_late o.position && not (is_reuse o.constraint)) ≡ false
 
-abbrev pub HoldsLate : InstValue → ℕ → OperandValue → Type 0
-HoldsLate i k o = (not (is_def o.kind) && not (is_late o.position)) ≡ true → IsReused i k
+abbrev pub TakesLate : InstValue → ℕ → OperandValue → Type 0
+TakesLate i k o = (not (is_def o.kind) && not (is_late o.position)) ≡ true → IsReused i k
 
 abbrev pub is_under_reg : OperandConstraint → Bool
 is_under_reg Any = false
@@ -69,5 +69,5 @@ pub record Fits (f : FunctionValue) (env : MachineValue) (i : InstValue) : Type 
       let a : OperandValue = slice_index_or i.operands j d in
       let b : OperandValue = slice_index_or i.operands k e in
       is_fixed_nonallocatable a ≡ false → is_fixed_nonallocatable b ≡ false → a.constraint ≡ FixedReg r → b.constraint ≡ FixedReg r →
-      (HoldsEarly a × HoldsEarly b → ⊥) × (HoldsLate i j a × HoldsLate i k b → ⊥)
+      (TakesEarly a × TakesEarly b → ⊥) × (TakesLate i j a × TakesLate i k b → ⊥)
   pub enough : (c : RegClass) → NamesClass f c → need_of env c i + spare_of env c ≤ allocatable_count env c

@@ -7,7 +7,7 @@ use Rattle.regalloc2_names.specs.Register.{Register, VirtualRegister, has_regist
 use Rattle.regalloc2_names.specs.Operand.{OperandValue, is_def, is_late, is_fixed_nonallocatable}
 use Rattle.regalloc2_function.specs.FunctionValue.{FunctionValue, InstValue, no_operand, op_at}
 use Rattle.regalloc2_function.specs.Machine.{MachineValue, is_allocatable, IsFixedStackSlot}
-use Rattle.regalloc2_semantics.specs.Fits.{Fits, HoldsEarly, HoldsLate, is_reuse}
+use Rattle.regalloc2_semantics.specs.Fits.{Fits, TakesEarly, TakesLate, is_reuse}
 use Rattle.regalloc2_carry.proofs.Operands.{reads_use}
 use Rattle.regalloc2_fastalloc_state.specs.declared.positions.Positions.{Positions}
 use Rattle.regalloc2_fastalloc_state.specs.Positions.{positions_of}
@@ -17,7 +17,7 @@ use Rattle.regalloc2_fastalloc_proofs.proofs.BlockEnd.NoMoveInPasses.{overlap_ca
 use Rattle.regalloc2_fastalloc_proofs.proofs.Pressure.TablesHaveAllRegs.{HasAll}
 
 -- an operand that claims its register early holds the early position, and one that claims it late the late position
-holds_early : (o : OperandValue) → (positions_of o).early ≡ true → HoldsEarly o
+holds_early : (o : OperandValue) → (positions_of o).early ≡ true → TakesEarly o
 holds_early o h = by_test (is_def o.kind) (is_late o.position) (not (is_reuse o.constraint)) h
   where
     by_test : (a b c : Bool) → (not a || not b) ≡ true → (a && b && c) ≡ false
@@ -25,7 +25,7 @@ holds_early o h = by_test (is_def o.kind) (is_late o.position) (not (is_reuse o.
     by_test true false c h = refl
     by_test false b c h = refl
 
-holds_late : (i : InstValue) (k : ℕ) (o : OperandValue) → (positions_of o).late ≡ true → HoldsLate i k o
+holds_late : (i : InstValue) (k : ℕ) (o : OperandValue) → (positions_of o).late ≡ true → TakesLate i k o
 holds_late i k o h e = absurd (by_test (is_def o.kind) (is_late o.position) h e)
   where
     by_test : (a b : Bool) → (a || b) ≡ true → (not a && not b) ≡ true → ⊥
@@ -47,8 +47,8 @@ module _ (f : FunctionValue) (env : MachineValue) (inst : InstValue) (fits : Fit
     within : m < length ops
     allocated : is_fixed_nonallocatable (op_at ops m) ≡ false
     is_fixed : (op_at ops m).constraint ≡ FixedReg r
-    early : p.early ≡ true → HoldsEarly (op_at ops m)
-    late : p.late ≡ true → HoldsLate inst m (op_at ops m)
+    early : p.early ≡ true → TakesEarly (op_at ops m)
+    late : p.late ≡ true → TakesLate inst m (op_at ops m)
 
   own_at : (k : ℕ) (r : Register) (p : Positions) → k < length ops → is_fixed_nonallocatable (op_at ops k) ≡ false → (op_at ops k).constraint ≡ FixedReg r →
       p ≡ positions_of (op_at ops k) → ClaimAt k r p
