@@ -41,7 +41,7 @@ each_more (z ∷ xs) x y (suc k) e = elim (each_more xs x y k e) [ inl h ↦ inl
 -- the frame of a procedure's code is as large as the procedure needs
 has_frame : (p : NamedProcedure) (f : FunctionCode) → IsCodeOf p.procedure f.code → HasFrameOf p f
 has_frame p f c = record {
-  slots = fewer f.code.slots c.out.num_spillslots (units_at_most (function_of_procedure p.procedure)) (ap (λ (k : CodeValue). k.slots) c.is) c.allocation.slots.needed;
+  slots = fewer f.code.slots c.out.num_spillslots (units_at_most (function_of_procedure p.procedure)) (ap (λ (k : CodeValue). k.slots) c.is) c.allocation.slots.1;
   outgoing = ap (λ (k : CodeValue). k.outgoing) c.is;
 }
   where

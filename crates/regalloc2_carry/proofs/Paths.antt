@@ -15,7 +15,8 @@ use Rattle.regalloc2_semantics.specs.Runs.{arguments_at, source_before, source_a
 use Rattle.regalloc2_semantics.specs.Faithful.{ReadsAgree}
 use Rattle.regalloc2_carry.specs.Listing.{items_by, items_from, block_items, IsReadIn}
 use Rattle.regalloc2_carry.specs.Carry.{CarriesFrom, Carries}
-use Rattle.regalloc2_semantics.specs.Live.{Undefined, HasEntered, HoldsValueAt, names, HasEdge, target_at}
+use Rattle.regalloc2_carry.specs.Live.{HasEntered}
+use Rattle.regalloc2_semantics.specs.Live.{Undefined, HoldsValueAt, names, HasEdge, target_at}
 use Rattle.regalloc2_carry.specs.BlockByPoints.{block_walked, Rising, EndsQuiet}
 use Rattle.regalloc2_semantics.specs.Sound.{HasSoundBlocks}
 use Rattle.regalloc2_carry.specs.Blocks.{IsUnwritten, IsUsed, IsUsedIn, IsWantedBehind, IsExcused, ExcusedAreSilent, ComesIn, GoesOut, BlockCarriesOn}
@@ -171,7 +172,7 @@ module _ (f : FunctionValue) (ok : HasSoundBlocks f) (written : IsWrittenFirst f
       let after : source_after f vs v ≡ None = still vs v b (last_inst_of f b) t.inst_is (omega arith) (omega arith) u ∙ t.same v u ∙ none in
       let args : arguments_at f (end_of f vs).block k ≡ arguments_at f b k = ap (λ c. arguments_at f c k) t.block_is in
       let found : IsSome (source_after f vs (slice_index_or (arguments_at f (end_of f vs).block k) j v)) =
-      (written vs t.path).1 k j v (way_on b k vs n edge t.block_is t.inst_is) (subst (λ xs. j < length xs) (sym args) lt) in
+      (written vs t.path).1 k (way_on b k vs n edge t.block_is t.inst_is) j v (subst (λ xs. j < length xs) (sym args) lt) in
       none_is_not_some (source_after f vs v) after (subst (λ w. IsSome (source_after f vs w)) (ap (λ xs. slice_index_or xs j v) args ∙ is) found)
   live_written v b ws block e (onward u k edge aside l) none =
       let t = at_last b ws block e in

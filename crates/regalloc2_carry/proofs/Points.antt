@@ -7,7 +7,8 @@ use Rattle.std.proofs.lemmas.Bool.{cases_eq, ne_eqb}
 use Rattle.std.proofs.lemmas.List.Elements.{filter_agree}
 use Rattle.regalloc2_names.specs.Place.{Place, before, after}
 use Rattle.regalloc2_function.specs.FunctionValue.{FunctionValue, InstValue, block_at, inst_at}
-use Rattle.regalloc2_function.specs.OutputValue.{OutputValue, MoveValue, allocs_of, moves_before, is_listed_at}
+use Rattle.regalloc2_function.specs.Listing.{moves_before}
+use Rattle.regalloc2_function.specs.OutputValue.{OutputValue, MoveValue, allocs_of, is_listed_at}
 use Rattle.regalloc2_carry.specs.Listing.{Item, exec_item, with_moves, items_by, items_from, block_items}
 use Rattle.regalloc2_carry.specs.Listing.Item.{Move}
 use Rattle.regalloc2_carry.specs.BlockByPoints.{at_point, walked, block_walked, AllFrom, Rising, EndsQuiet}

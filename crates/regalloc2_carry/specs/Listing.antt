@@ -5,7 +5,8 @@ use Rattle.regalloc2_names.specs.Register.{VirtualRegister, is_vreg}
 use Rattle.regalloc2_names.specs.Operand.{OperandValue, is_def, is_reading}
 use Rattle.regalloc2_names.specs.Place.{Place}
 use Rattle.regalloc2_function.specs.FunctionValue.{FunctionValue, InstValue, block_at, inst_at, op_at}
-use Rattle.regalloc2_function.specs.OutputValue.{OutputValue, MoveValue, allocs_of, moves_before}
+use Rattle.regalloc2_function.specs.Listing.{moves_before}
+use Rattle.regalloc2_function.specs.OutputValue.{OutputValue, MoveValue, allocs_of}
 
 -- a move, or an instruction with its operands' places and its clobbers
 pub data Item : Type 0 where

@@ -9,7 +9,8 @@ use Rattle.std.proofs.lemmas.Bool.Decides.{nat_tests}
 use Rattle.std.proofs.lemmas.List.{length-map, length_push, get_or_push, get_or_append_left}
 use Rattle.regalloc2_names.specs.Place.{before}
 use Rattle.regalloc2_function.specs.FunctionValue.{FunctionValue, block_at}
-use Rattle.regalloc2_function.specs.OutputValue.{OutputValue, MoveValue, IsInOrder, moves_before, is_listed_at}
+use Rattle.regalloc2_function.specs.Listing.{moves_before}
+use Rattle.regalloc2_function.specs.OutputValue.{OutputValue, MoveValue, IsInOrder, is_listed_at}
 use Rattle.regalloc2_semantics.specs.Runs.{moves_at}
 use Rattle.regalloc2_function.specs.Views.{edit_of, output_of}
 use Rattle.regalloc2_function.specs.WellFormed.{IsFramed}

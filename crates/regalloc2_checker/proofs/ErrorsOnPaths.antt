@@ -11,7 +11,7 @@ use Rattle.regalloc2_function.specs.FunctionValue.{FunctionValue, inst_at}
 use Rattle.regalloc2_function.specs.Machine.{MachineValue}
 use Rattle.regalloc2_function.specs.OutputValue.{OutputValue, MoveValue, allocs_of, place_at}
 use Rattle.regalloc2_semantics.specs.Runs.{Location, moves_at}
-use Rattle.regalloc2_semantics.specs.Faithful.{Holds}
+use Rattle.regalloc2_semantics.specs.Faithful.{HoldsOnPaths}
 use Rattle.regalloc2_checker.specs.declared.errors.CheckerError.{CheckerError}
 use Rattle.regalloc2_checker.specs.Facts.{Facts, facts_early, facts_after, facts_after_moves, facts_after_early_defs, facts_for}
 use Rattle.regalloc2_checker.specs.CheckInputs.{AreFactsKnown}
@@ -61,13 +61,13 @@ early_run f o b i F E ms ps os em ep eo e = rw (e, em, ep, eo) refl
 
 -- what is known holds
 known_early : (f : FunctionValue) (o : OutputValue) (l : Location) (E F : Facts) → E ≡ facts_early f o l F →
-    AreFactsKnown f o l F → (p : Place) (v : VirtualRegister) → (E p v ≡ true) ↔ Holds f o l Early p v
+    AreFactsKnown f o l F → (p : Place) (v : VirtualRegister) → (E p v ≡ true) ↔ HoldsOnPaths f o l Early p v
 unfolding facts_for
 known_early f o l E F same known p v =
     let at : E p v ≡ facts_early f o l F p v = ap (λ (X : Facts). X p v) same in (λ t. (known Early p v).0 (sym at ∙ t), λ h. at ∙ (known Early p v).1 h)
 
 known_late : (f : FunctionValue) (o : OutputValue) (l : Location) (E F : Facts) → E ≡ facts_after f o l F →
-    AreFactsKnown f o l F → (p : Place) (v : VirtualRegister) → (E p v ≡ true) ↔ Holds f o l Late p v
+    AreFactsKnown f o l F → (p : Place) (v : VirtualRegister) → (E p v ≡ true) ↔ HoldsOnPaths f o l Late p v
 unfolding facts_for
 known_late f o l E F same known p v =
     let at : E p v ≡ facts_after f o l F p v = ap (λ (X : Facts). X p v) same in (λ t. (known Late p v).0 (sym at ∙ t), λ h. at ∙ (known Late p v).1 h)
@@ -91,9 +91,9 @@ inst_report f env o l E L F ms ps os r j se sl known = record {
   of_late = j.late;
   moves = subst (λ (xs : List MoveValue). AreMoveFaults env xs j.of_moves) r.moves j.moves;
   early = rw (← r.operands, ← r.places)
-      (judged_as env l.inst os ps Early (λ p v. E p v ≡ true) (Holds f o l Early) (known_early f o l E F se known) j.early j.at_early);
+      (judged_as env l.inst os ps Early (λ p v. E p v ≡ true) (HoldsOnPaths f o l Early) (known_early f o l E F se known) j.early j.at_early);
   late = rw (← r.operands, ← r.places)
-      (judged_as env l.inst os ps Late (λ p v. L p v ≡ true) (Holds f o l Late) (known_late f o l L F sl known) j.late j.at_late);
+      (judged_as env l.inst os ps Late (λ p v. L p v ≡ true) (HoldsOnPaths f o l Late) (known_late f o l L F sl known) j.late j.at_late);
   all = refl;
 }
 

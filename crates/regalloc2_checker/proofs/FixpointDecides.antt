@@ -107,32 +107,36 @@ accepted_reads law f env o F s b n ws h e a k d less =
     same_write-true _ _ (covered_for law f o F s b n ws h e op.position (place_at (allocs_of o (end_of f ws).inst) k) op.vreg (u k d less reads))
 
 -- each step of each path is faithful where each instruction of each reached block is accepted
-accepted_faithful : AreEarlier → (f : FunctionValue) (env : MachineValue) (o : OutputValue) (F : ℕ → Facts) → IsFramed f → IsFixpoint f o F →
-    AllAccepted f env o F → IsFaithful f env o
-accepted_faithful law f env o F ok s a ws h =
+accepted_steps : AreEarlier → (f : FunctionValue) (env : MachineValue) (o : OutputValue) (F : ℕ → Facts) → IsFramed f → IsFixpoint f o F →
+    AllAccepted f env o F → (ws : List Way) → IsPath f ws →
+    ReadsAgree f o ws × ConstraintsMet f env o (end_of f ws).inst × All (λ m. IsStackToStack env m → ⊥) (moves_at f o (end_of f ws))
+accepted_steps law f env o F ok s a ws h =
     let l : Location = end_of f ws in
     let first : ℕ = (block_at f l.block).range.first in
     let low : first ≤ l.inst = from_first f ws h in
     let high : l.inst < (block_at f l.block).range.end = before_end f ok ws h in
     let n : ℕ = l.inst - first in
     let e : l ≡ nth_of f l.block n = located l.block l.inst (first + n) (omega arith) in
-    let g : IsAcceptedInst f env o (nth_of f l.block n) (facts_within f o l.block (F l.block) n) = a l.block n (reached_block f ws h) (omega arith) in
-    record {
-      reads = accepted_reads law f env o F s l.block n ws h e g;
-      constraints = subst (λ (m : Location). ConstraintsMet f env o m.inst) (sym e) g.constraints;
-      moves = subst (λ (m : Location). All (λ x. IsStackToStack env x → ⊥) (moves_at f o m)) (sym e) g.moves;
-    }
+    let g : IsAcceptedInst f env o (nth_of f l.block n) (facts_within f o l.block (F l.block) n) = a l.block n (reached_block f ws h) (omega arith) in (
+      accepted_reads law f env o F s l.block n ws h e g,
+      subst (λ (m : Location). ConstraintsMet f env o m.inst) (sym e) g.constraints,
+      subst (λ (m : Location). All (λ x. IsStackToStack env x → ⊥) (moves_at f o m)) (sym e) g.moves,
+    )
+
+accepted_faithful : AreEarlier → (f : FunctionValue) (env : MachineValue) (o : OutputValue) (F : ℕ → Facts) → IsFramed f → IsFixpoint f o F →
+    AllAccepted f env o F → IsFaithful f env o
+accepted_faithful law f env o F ok s a =
+    let t = accepted_steps law f env o F ok s a in record { reads = λ ws h. (t ws h).0; constraints = λ ws h. (t ws h).1; moves = λ ws h. (t ws h).2 }
 
 -- each instruction of each reached block is accepted where each step of each path is faithful
 faithful_accepted : AreEarlier → (f : FunctionValue) (env : MachineValue) (o : OutputValue) (F : ℕ → Facts) → IsRefutedElsewhere f o F → IsFaithful f env o →
     AllAccepted f env o F
 faithful_accepted law f env o F g h b n r less =
     let w = reached_within f b r n less in
-    let s = h w.0 w.1 in
     record {
       uses = λ k d in_range reads. uses k d in_range reads;
-      constraints = subst (λ (m : Location). ConstraintsMet f env o m.inst) w.2 s.constraints;
-      moves = subst (λ (m : Location). All (λ x. IsStackToStack env x → ⊥) (moves_at f o m)) w.2 s.moves;
+      constraints = subst (λ (m : Location). ConstraintsMet f env o m.inst) w.2 (h.constraints w.0 w.1);
+      moves = subst (λ (m : Location). All (λ x. IsStackToStack env x → ⊥) (moves_at f o m)) w.2 (h.moves w.0 w.1);
     }
   where
     uses : (k : ℕ) (d : OperandValue) → k < length (inst_at f ((block_at f b).range.first + n)).operands →
@@ -147,7 +151,7 @@ faithful_accepted law f env o F g h b n r less =
         same_write (cell_at f o w.0 (slice_index_or (inst_at f l.inst).operands k d).position (place_at (allocs_of o l.inst) k))
         (read_of (slice_index_or (inst_at f l.inst).operands k d).position (source_before f w.0 (slice_index_or (inst_at f l.inst).operands k d).vreg)
         (source_after f w.0 (slice_index_or (inst_at f l.inst).operands k d).vreg)) ≡ true)
-        w.2 (λ j c i y. let q = (h w.0 w.1).reads j c i y in same_write-same _ _ q.0 q.1) in
+        w.2 (λ j c i y. let q = h.reads w.0 w.1 j c i y in same_write-same _ _ q.0 q.1) in
         not_both _ (t k d in_range reads) w.3)
 
 -- an output of a structurally valid function is faithful exactly where a fixpoint whose other facts are refuted accepts each instruction of

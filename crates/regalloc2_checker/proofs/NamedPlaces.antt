@@ -1,6 +1,6 @@
 -- The places that an output and the clobbers name, and their bits.
 use Rattle.std.proofs.Common.{ℕ, zero, suc, ◌≡◌, ◌≢◌, ◌+◌, ◌-◌, ◌<◌, ◌≤◌, inl, inr, arith, Bool, true, false, ◌||◌, List, [], ◌∷◌, ◌++◌, length, get_or, take}
-use Rattle.std.proofs.Common.{drop, map, refl, sym, ap, ◌∙◌, subst}
+use Rattle.std.proofs.Common.{drop, slice_index, map, refl, sym, ap, ◌∙◌, subst}
 use Rattle.std.specs.Prelude.{◌⊎◌, ◌↔◌, All, Contains}
 use Rattle.std.specs.List.{flat_map}
 use Rattle.std.specs.List.Sorted.{IsStrictlyIncreasing}
@@ -16,7 +16,7 @@ use Rattle.regalloc2_names.specs.PlaceBits.{bits_of_place}
 use Rattle.regalloc2_names.specs.Register.{Register, has_register, registers_of}
 use Rattle.regalloc2_names.specs.Listed.{is_listed, listed_is}
 use Rattle.regalloc2_function.specs.FunctionValue.{FunctionValue, InstValue, inst_at, no_inst}
-use Rattle.regalloc2_function.specs.OutputValue.{OutputValue, MoveValue, allocs_of, alloc_start, alloc_end}
+use Rattle.regalloc2_function.specs.OutputValue.{OutputValue, MoveValue, allocs_of, alloc_end}
 use Rattle.regalloc2_semantics.specs.Runs.{Location, moves_at}
 use Rattle.regalloc2_function.specs.declared.listing.Edit.{Edit}
 use Rattle.regalloc2_function.specs.Views.{edit_of, move_of}
@@ -282,4 +282,4 @@ operands-listed f o places i h =
     let whole : All (IsListed places) o.allocs = All-weaker (Contains o.allocs) (IsListed places)
     (λ p c. named-listed f o places p h (Contains-append_right (flat_map (λ e. places_of e.1) o.edits) (o.allocs ++ flat_map clobbered_places f.insts) p
     (Contains-append_left o.allocs (flat_map clobbered_places f.insts) p c))) o.allocs (All-contains_itself o.allocs) in
-    All-take (IsListed places) (alloc_end o i - alloc_start o i) (drop (alloc_start o i) o.allocs) (All-drop (IsListed places) (alloc_start o i) o.allocs whole)
+    All-take (IsListed places) (alloc_end o i - slice_index o.offsets i) (drop (slice_index o.offsets i) o.allocs) (All-drop (IsListed places) (slice_index o.offsets i) o.allocs whole)

@@ -16,7 +16,7 @@ use Rattle.regalloc2_function.specs.FunctionValue.{FunctionValue, block_at, inst
 use Rattle.regalloc2_function.specs.Machine.{MachineValue}
 use Rattle.regalloc2_function.specs.OutputValue.{OutputValue, MoveValue, allocs_of, place_at}
 use Rattle.regalloc2_semantics.specs.Runs.{Way, Location, end_of, IsPath, source_read, moves_at, allocated_read, IsReached}
-use Rattle.regalloc2_semantics.specs.Faithful.{Meets, IsStackToStack, StepIsFaithful, IsFaithful, Holds, cell_at}
+use Rattle.regalloc2_semantics.specs.Faithful.{ReadsAgree, Meets, ConstraintsMet, IsStackToStack, IsFaithful, HoldsOnPaths, cell_at}
 use Rattle.regalloc2_function.specs.WellFormed.{IsFramed}
 use Rattle.regalloc2_checker.specs.declared.errors.CheckerError.{CheckerError}
 use Rattle.regalloc2_checker.specs.Fixpoint.{IsReachedBlock, nth_of}
@@ -100,37 +100,37 @@ none_judged env inst ops places position Has (Some e) h (k, less, at, below, fau
 -- an instruction without errors
 fine_at : {A : Type 0} (f : FunctionValue) (env : MachineValue) (o : OutputValue) (l : Location) (r : InstReport {A = A} f env o l []) → (k : ℕ) →
     k < length (inst_at f l.inst).operands →
-    IsFineAt env (inst_at f l.inst).operands (allocs_of o l.inst) (Holds f o l (operand_at (inst_at f l.inst).operands k).position) k
+    IsFineAt env (inst_at f l.inst).operands (allocs_of o l.inst) (HoldsOnPaths f o l (operand_at (inst_at f l.inst).operands k).position) k
 fine_at f env o l r k less =
     let operands : List OperandValue = (inst_at f l.inst).operands in
     let none = right_none r.of_moves (option_to_list r.of_early ++ option_to_list r.of_late) (sym r.all) in
-    let early = subst (λ (x : Option (CheckerError _)). AreOperandsJudged env l.inst operands (allocs_of o l.inst) Early (Holds f o l Early) x)
+    let early = subst (λ (x : Option (CheckerError _)). AreOperandsJudged env l.inst operands (allocs_of o l.inst) Early (HoldsOnPaths f o l Early) x)
     (is_none r.of_early (left_none _ _ none)) r.early in
-    let late = subst (λ (x : Option (CheckerError _)). AreOperandsJudged env l.inst operands (allocs_of o l.inst) Late (Holds f o l Late) x)
+    let late = subst (λ (x : Option (CheckerError _)). AreOperandsJudged env l.inst operands (allocs_of o l.inst) Late (HoldsOnPaths f o l Late) x)
     (is_none r.of_late (right_none (option_to_list r.of_early) _ none)) r.late in
     pick f env o l k less early late (operand_at operands k).position refl
   where
     pick : (f : FunctionValue) (env : MachineValue) (o : OutputValue) (l : Location) (k : ℕ) → k < length (inst_at f l.inst).operands →
-        AreFineBelow env (inst_at f l.inst).operands (allocs_of o l.inst) Early (Holds f o l Early) (length (inst_at f l.inst).operands) →
-        AreFineBelow env (inst_at f l.inst).operands (allocs_of o l.inst) Late (Holds f o l Late) (length (inst_at f l.inst).operands) →
+        AreFineBelow env (inst_at f l.inst).operands (allocs_of o l.inst) Early (HoldsOnPaths f o l Early) (length (inst_at f l.inst).operands) →
+        AreFineBelow env (inst_at f l.inst).operands (allocs_of o l.inst) Late (HoldsOnPaths f o l Late) (length (inst_at f l.inst).operands) →
         (p : OperandPos) → (operand_at (inst_at f l.inst).operands k).position ≡ p →
-        IsFineAt env (inst_at f l.inst).operands (allocs_of o l.inst) (Holds f o l p) k
+        IsFineAt env (inst_at f l.inst).operands (allocs_of o l.inst) (HoldsOnPaths f o l p) k
     pick f env o l k less early late Early e = early k less e
     pick f env o l k less early late Late e = late k less e
 
 step_faithful : {A : Type 0} (f : FunctionValue) (env : MachineValue) (o : OutputValue) (ws : List Way) → IsPath f ws →
-    InstReport {A = A} f env o (end_of f ws) [] → StepIsFaithful f env o ws
+    InstReport {A = A} f env o (end_of f ws) [] →
+    ReadsAgree f o ws × ConstraintsMet f env o (end_of f ws).inst × All (λ m. IsStackToStack env m → ⊥) (moves_at f o (end_of f ws))
 step_faithful f env o ws h r =
     let l : Location = end_of f ws in
-    let operands : List OperandValue = (inst_at f l.inst).operands in
-    record {
-      reads = λ k d less. subst (λ (op : OperandValue). is_reading op ≡ true → IsSome (source_read f ws op)
+    let operands : List OperandValue = (inst_at f l.inst).operands in (
+      λ k d less. subst (λ (op : OperandValue). is_reading op ≡ true → IsSome (source_read f ws op)
           × (allocated_read f o ws k op ≡ source_read f ws op)) (get_or_default operands k _ d less)
-          (λ reads. let x = (fine_at f env o l r k less).value reads ws h refl in (rw x.1 at x.0, x.1));
-      constraints = λ k d less. subst (λ (op : OperandValue). Meets env (length operands) (allocs_of o l.inst) op.constraint (place_at (allocs_of o l.inst) k))
-          (get_or_default operands k _ d less) (fine_at f env o l r k less).constraint;
-      moves = no_move_faults env (moves_at f o l) r.of_moves r.moves (left_none r.of_moves _ (sym r.all));
-    }
+          (λ reads. let x = (fine_at f env o l r k less).value reads ws h refl in (rw x.1 at x.0, x.1)),
+      λ k d less. subst (λ (op : OperandValue). Meets env (length operands) (allocs_of o l.inst) op.constraint (place_at (allocs_of o l.inst) k))
+          (get_or_default operands k _ d less) (fine_at f env o l r k less).constraint,
+      no_move_faults env (moves_at f o l) r.of_moves r.moves (left_none r.of_moves _ (sym r.all)),
+    )
 
 inst_moved : {A : Type 0} (f : FunctionValue) (env : MachineValue) (o : OutputValue) (l m : Location) → l ≡ m → InstReport {A = A} f env o l [] →
     InstReport {A = A} f env o m []
@@ -160,9 +160,10 @@ block_report f env o (suc n) es (BlockReports.next _ xs ys rs r) e b less = elim
       block_moved f env o n b q (subst (λ (zs : List (CheckerError _)). BlockReport f env o n zs) (right_none xs ys e) r))
 ]
 
-report_faithful : {A : Type 0} (f : FunctionValue) (env : MachineValue) (o : OutputValue) (es : List (CheckerError A)) → IsFramed f → IsReport f env o es →
-    es ≡ [] → IsFaithful f env o
-report_faithful f env o es ok r e ws h =
+report_steps : {A : Type 0} (f : FunctionValue) (env : MachineValue) (o : OutputValue) (es : List (CheckerError A)) → IsFramed f → IsReport f env o es →
+    es ≡ [] → (ws : List Way) → IsPath f ws →
+    ReadsAgree f o ws × ConstraintsMet f env o (end_of f ws).inst × All (λ m. IsStackToStack env m → ⊥) (moves_at f o (end_of f ws))
+report_steps f env o es ok r e ws h =
     let l : Location = end_of f ws in
     let first : ℕ = (block_at f l.block).range.first in
     let low : first ≤ l.inst = from_first f ws h in
@@ -173,16 +174,21 @@ report_faithful f env o es ok r e ws h =
     let inst = nth_report f env o l.block ((block_at f l.block).range.end - first) [] (block.reached (reached_block f ws h)) refl n (omega arith) in
     step_faithful f env o ws h (inst_moved f env o (nth_of f l.block n) l at inst)
 
+report_faithful : {A : Type 0} (f : FunctionValue) (env : MachineValue) (o : OutputValue) (es : List (CheckerError A)) → IsFramed f → IsReport f env o es →
+    es ≡ [] → IsFaithful f env o
+report_faithful f env o es ok r e =
+    let s = report_steps f env o es ok r e in record { reads = λ ws h. (s ws h).0; constraints = λ ws h. (s ws h).1; moves = λ ws h. (s ws h).2 }
+
 -- an instruction that a path reaches, of a faithful output
 fine_reached : (f : FunctionValue) (env : MachineValue) (o : OutputValue) → IsFaithful f env o → (l : Location) → IsReached f l → (k : ℕ) →
     k < length (inst_at f l.inst).operands →
-    IsFineAt env (inst_at f l.inst).operands (allocs_of o l.inst) (Holds f o l (operand_at (inst_at f l.inst).operands k).position) k
+    IsFineAt env (inst_at f l.inst).operands (allocs_of o l.inst) (HoldsOnPaths f o l (operand_at (inst_at f l.inst).operands k).position) k
 fine_reached f env o h l r k less = record {
   value = λ reads ws p e. held ws p e reads;
   constraint = subst (λ (m : Location). k < length (inst_at f m.inst).operands →
       Meets env (length (inst_at f m.inst).operands) (allocs_of o m.inst) (operand_at (inst_at f m.inst).operands k).constraint
       (place_at (allocs_of o m.inst) k)) r.2
-      (λ less. (h r.0 r.1).constraints k _ less) less;
+      (λ less. h.constraints r.0 r.1 k _ less) less;
 }
   where
     held : (ws : List Way) → IsPath f ws → (e : end_of f ws ≡ l) → is_reading (operand_at (inst_at f l.inst).operands k) ≡ true →
@@ -193,16 +199,16 @@ fine_reached f env o h l r k less = record {
         IsSome (cell_at f o ws (operand_at (inst_at f m.inst).operands k).position (place_at (allocs_of o m.inst) k))
         × (cell_at f o ws (operand_at (inst_at f m.inst).operands k).position (place_at (allocs_of o m.inst) k) ≡ source_read f ws
         (operand_at (inst_at f m.inst).operands k))) e
-        (λ less reads. let x = (h ws p).reads k _ less reads in (rw (sym x.1) at x.0, x.1)) less reads
+        (λ less reads. let x = h.reads ws p k _ less reads in (rw (sym x.1) at x.0, x.1)) less reads
 
 no_inst_errors : {A : Type 0} (f : FunctionValue) (env : MachineValue) (o : OutputValue) → IsFaithful f env o → (l : Location) → IsReached f l →
     (es : List (CheckerError A)) → InstReport f env o l es → es ≡ []
 no_inst_errors f env o h l w es r =
     let operands : List OperandValue = (inst_at f l.inst).operands in
     let moves : All (λ m. IsStackToStack env m → ⊥) (moves_at f o l) = subst (λ (m : Location). All (λ m. IsStackToStack env m → ⊥) (moves_at f o m)) w.2
-    (h w.0 w.1).moves in
-    let early = none_judged env l.inst operands (allocs_of o l.inst) Early (Holds f o l) r.of_early (fine_reached f env o h l w) r.early in
-    let late = none_judged env l.inst operands (allocs_of o l.inst) Late (Holds f o l) r.of_late (fine_reached f env o h l w) r.late in
+    (h.moves w.0 w.1) in
+    let early = none_judged env l.inst operands (allocs_of o l.inst) Early (HoldsOnPaths f o l) r.of_early (fine_reached f env o h l w) r.early in
+    let late = none_judged env l.inst operands (allocs_of o l.inst) Late (HoldsOnPaths f o l) r.of_late (fine_reached f env o h l w) r.late in
     r.all ∙ rw (fine_moves env (moves_at f o l) r.of_moves r.moves moves, early, late) refl
 
 no_errors_within : {A : Type 0} (f : FunctionValue) (env : MachineValue) (o : OutputValue) → IsFaithful f env o → (b : ℕ) → IsReachedBlock f b → (n : ℕ) →

@@ -18,7 +18,7 @@ use Rattle.regalloc2_function.specs.FunctionValue.{FunctionValue, block_at, inst
 use Rattle.regalloc2_function.specs.Machine.{MachineValue, IsStackPlace, IsPlainRegister}
 use Rattle.regalloc2_function.specs.OutputValue.{OutputValue, MoveValue, allocs_of, place_at}
 use Rattle.regalloc2_semantics.specs.Runs.{Location, moves_at}
-use Rattle.regalloc2_semantics.specs.Faithful.{Meets, IsNumberedBelow, IsStackToStack, IsFaithful, Holds}
+use Rattle.regalloc2_semantics.specs.Faithful.{Meets, IsNumberedBelow, IsStackToStack, IsFaithful, HoldsOnPaths}
 use Rattle.regalloc2_function.specs.WellFormed.{IsFramed}
 use Rattle.regalloc2_checker.specs.Fixpoint.{IsReachedBlock, nth_of}
 use Rattle.regalloc2_checker.specs.declared.errors.CheckerError.{CheckerError}
@@ -107,8 +107,8 @@ pub record InstReport {A : Type 0} (f : FunctionValue) (env : MachineValue) (o :
   pub of_early : Option (CheckerError A)
   pub of_late : Option (CheckerError A)
   pub moves : AreMoveFaults env (moves_at f o l) of_moves
-  pub early : AreOperandsJudged env l.inst (inst_at f l.inst).operands (allocs_of o l.inst) Early (Holds f o l Early) of_early
-  pub late : AreOperandsJudged env l.inst (inst_at f l.inst).operands (allocs_of o l.inst) Late (Holds f o l Late) of_late
+  pub early : AreOperandsJudged env l.inst (inst_at f l.inst).operands (allocs_of o l.inst) Early (HoldsOnPaths f o l Early) of_early
+  pub late : AreOperandsJudged env l.inst (inst_at f l.inst).operands (allocs_of o l.inst) Late (HoldsOnPaths f o l Late) of_late
   pub all : es ≡ of_moves ++ (option_to_list of_early ++ option_to_list of_late)
 
 -- the errors of a block's first instructions, in turn

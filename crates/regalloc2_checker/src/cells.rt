@@ -549,8 +549,8 @@ fn named_slots<F: Function, A: Allocator + Copy, B: Allocator, C: Allocator>(
 ///   each register that a move copies it from or to; no two slots share a unit.
 ///
 /// Slots are compared by the greatest number of units that each takes anywhere. What an allocation
-/// guarantees of its own output is more: `PlacesAreProper` and `AreSlotsOwned`. `n log n` in the
-/// slots that are named; at most 24 bytes for each of them.
+/// guarantees of its own output is more: each operand's constraint is met, `PlacesAreProper` and
+/// `AreSlotsOwned`. `n log n` in the slots that are named; at most 24 bytes for each of them.
 pub fn test_cells<F: Function, A: Allocator + Copy, B: Allocator, C: Allocator>(
     alloc: A,
     f: &F,

@@ -1,16 +1,18 @@
 -- Each slot that a branch owns serves that branch alone.
-use Rattle.std.proofs.Common.{◌∙◌, sym}
+use Rattle.std.proofs.Common.{ℕ, ◌≡◌, ◌∙◌, sym}
+use Rattle.regalloc2_names.specs.declared.RegClass.{RegClass}
 use Rattle.regalloc2_names.specs.Register.{VirtualRegister}
 use Rattle.regalloc2_function.specs.FunctionValue.{FunctionValue}
 use Rattle.regalloc2_function.specs.OutputValue.{OutputValue}
+use Rattle.regalloc2_semantics.specs.Places.{IsSlotOf, OfBranch}
 use Rattle.regalloc2_fastalloc_state.specs.StateParts.{SpillSlotsValue}
 use Rattle.regalloc2_fastalloc_proofs.proofs.Slots.ApartSlotsAreOwned.{OwnsSlots}
 use Rattle.regalloc2_fastalloc_proofs.proofs.Slots.StepsKeepSlotsApart.{not_branch}
-use Rattle.regalloc2_fastalloc.specs.Promise.{BranchSlotsServe}
+use Rattle.regalloc2_fastalloc.specs.Promise.{ServesBranch}
 
 -- two at most for a class, and named by no operand, by no debug location, and by moves before the branch alone
 pub branch_slots_serve : (Known : VirtualRegister → Type 0) (f : FunctionValue) (s : SpillSlotsValue) (out : OutputValue) → (owns : OwnsSlots Known f s out) →
-    BranchSlotsServe f out owns.owned.owner
+    (n i : ℕ) (class : RegClass) (time : ℕ) → IsSlotOf out n → owns.owned.owner n ≡ OfBranch i class time → ServesBranch out n i time
 branch_slots_serve Known f s out owns = λ n i class time named of. record {
   of_two = owns.two n i class time named of;
   moves = λ k d lt ends. owns.moves k d lt n i class time of ends;

@@ -13,7 +13,7 @@ use Rattle.regalloc2_function.specs.FunctionValue.{FunctionValue, IsLimited, Lab
 use Rattle.regalloc2_function.specs.Machine.{MachineValue}
 use Rattle.regalloc2_function.specs.OutputValue.{DebugLocation, OutputValue}
 use Rattle.regalloc2_semantics.specs.Runs.{IsWrittenFirst}
-use Rattle.regalloc2_semantics.specs.Debug.{HoldsValue as ShowsValue, PassesAt}
+use Rattle.regalloc2_semantics.specs.Debug.{ShowsValue, PassesAt}
 use Rattle.regalloc2_semantics.specs.Places.{IsProperPlace}
 use Rattle.regalloc2_function.specs.WellFormed.{IsWellFormed}
 use Rattle.regalloc2_carry.proofs.SingleDef.{Made, made_small}

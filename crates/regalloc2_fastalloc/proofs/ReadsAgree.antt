@@ -5,15 +5,16 @@ use Rattle.std.specs.Prelude.{All, filter, Option, Some}
 use Rattle.std.proofs.lemmas.Bool.{ne_eqb}
 use Rattle.regalloc2_names.specs.Register.{VirtualRegister}
 use Rattle.regalloc2_names.specs.Place.{Place, NoPlace, InRegister, InSlot, after}
-use Rattle.regalloc2_semantics.specs.Debug.{HoldsValue as ShowsValue}
+use Rattle.regalloc2_semantics.specs.Debug.{ShowsValue}
 use Rattle.regalloc2_function.specs.FunctionValue.{Label, block_at, inst_at}
 use Rattle.regalloc2_function.specs.Fitting.{MachineFits}
 use Rattle.regalloc2_function.specs.OutputValue.{MoveValue, allocs_of}
-use Rattle.regalloc2_semantics.specs.Runs.{Way, end_of, IsPath, IsWrittenFirst}
+use Rattle.regalloc2_semantics.specs.Runs.{Way, Location, end_of, IsPath, IsWrittenFirst}
+use Rattle.regalloc2_semantics.specs.Places.{OfVReg}
 use Rattle.regalloc2_carry.specs.BlockByPoints.{block_walked, Rising, EndsQuiet}
 use Rattle.regalloc2_carry.specs.Blocks.{BlockCarriesOn}
-use Rattle.regalloc2_semantics.specs.Live.{IsLive, HasEntered, HoldsValueAt}
-use Rattle.regalloc2_carry.specs.Live.{LiveStandInPlaces}
+use Rattle.regalloc2_semantics.specs.Live.{IsLive, HoldsValueAt}
+use Rattle.regalloc2_carry.specs.Live.{LiveStandInPlaces, HasEntered}
 use Rattle.regalloc2_semantics.specs.Laws.{ReadsAgreeOnPaths}
 use Rattle.regalloc2_carry.proofs.Points.{rising_by}
 use Rattle.regalloc2_carry.proofs.SingleDef.{Made}
@@ -125,13 +126,17 @@ module _ (walk : WholeWalk) (taken : AreTaken walk.f) (in_place : (i : ℕ) → 
   made_in_slots owns owned sound_ops written = record {
     slot = λ v. number_of (slot_in last v.number);
     operands = λ v n h. ap number_of (owner_known f env (Made f) (MayInBlocks f) last out m owned sound_ops v n h).1;
-    owned = λ ws path entered v live.
-        let used = live_is_used env f ok written ws path entered v live in
-        owns.vregs v (number_of (slot_in last v.number)) (used_made f ok.defined_once ok.follow ok.uses_defined v used.block used.within used.used)
-        (is_numbered last.slots.count (slot_in last v.number) (whole.below v.number) (made_live_slots written ws path entered v live));
-    live = λ ws path entered v live p arrives_at. by_arrival ws path entered v live p arrives_at;
+    live = λ ws path e v live. let entered = ap (λ (l : Location). l.inst) e in
+        (owned_by ws path entered v live, λ p arrives_at. by_arrival ws path entered v live p arrives_at);
   }
     where
+      owned_by : (ws : List Way) → IsPath f ws → HasEntered f ws → (v : VirtualRegister) → IsLive f v (end_of f ws) →
+          owns.owned.owner (number_of (slot_in last v.number)) ≡ OfVReg v
+      owned_by ws path entered v live =
+          let used = live_is_used env f ok written ws path entered v live in
+          owns.vregs v (number_of (slot_in last v.number)) (used_made f ok.defined_once ok.follow ok.uses_defined v used.block used.within used.used)
+          (is_numbered last.slots.count (slot_in last v.number) (whole.below v.number) (made_live_slots written ws path entered v live))
+
       whole : IsWhole last
       whole = (at_walks_end walk (processes_branch_between f)).whole
 

@@ -5,7 +5,8 @@ use Rattle.std.proofs.lemmas.List.Elements.{Contains-append_cases, Contains-appe
 use Rattle.regalloc2_names.specs.declared.sets.PRegSet.{PRegSet}
 use Rattle.regalloc2_names.specs.Operand.{OperandValue}
 use Rattle.regalloc2_names.specs.Register.{Register, VirtualRegister, has_register}
-use Rattle.regalloc2_function.specs.Machine.{allocatable_count, count_below, register_number, MachineValue, is_allocatable}
+use Rattle.regalloc2_semantics.specs.Fits.{register_number}
+use Rattle.regalloc2_function.specs.Machine.{allocatable_count, count_below, MachineValue, is_allocatable}
 use Rattle.regalloc2_function.specs.FunctionValue.{FunctionValue, InstValue, no_inst, op_at}
 use Rattle.regalloc2_fastalloc_state.proofs.CountingLaws.{count_le}
 use Rattle.regalloc2_fastalloc_proofs.specs.Unspilled.SpillFree.{FitInRegs, HasRegOperandsOnly}

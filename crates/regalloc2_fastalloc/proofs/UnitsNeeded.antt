@@ -11,12 +11,15 @@ use Rattle.regalloc2_function.specs.OutputValue.{OutputValue}
 use Rattle.regalloc2_fastalloc_state.specs.StateParts.{SpillSlotsValue, SlotsHaveOneOwner, AreUpTo, owners, units_of, most_units}
 use Rattle.regalloc2_fastalloc_state.specs.OutOfResources.{SlotsExhaustedWith}
 use Rattle.regalloc2_carry.proofs.Plain.{each_of_three}
-use Rattle.regalloc2_fastalloc.specs.Promise.{SlotsAreBounded}
-use Rattle.regalloc2_semantics.specs.Places.{greatest_slot, units_at_most}
+use Rattle.regalloc2_semantics.specs.Places.{units_at_most}
 
 -- the sizes of a function's slots
 abbrev pub sizes_of : FunctionValue → List ℕ
 sizes_of f = slot_size f.slot_sizes Int ∷ slot_size f.slot_sizes Float ∷ slot_size f.slot_sizes Vector ∷ []
+
+-- the greatest of them
+abbrev greatest_slot : FunctionValue → ℕ
+greatest_slot f = max (slot_size f.slot_sizes Int) (max (slot_size f.slot_sizes Float) (slot_size f.slot_sizes Vector))
 
 -- slots of such sizes take as many units as the function asks for
 pub sizes_agree : (f : FunctionValue) (s : SpillSlotsValue) → s.sizes ≡ sizes_of f → (c : RegClass) → slot_size f.slot_sizes c ≡ units_of s c
@@ -52,7 +55,8 @@ full_needs f s more sizes vregs few full =
 
 -- slots take no more units than the function needs
 pub few_slots : (f : FunctionValue) (s : SpillSlotsValue) (out : OutputValue) → out.num_spillslots ≡ s.count → s.sizes ≡ sizes_of f →
-    length s.vreg_spillslots ≤ f.num_vregs → s.num_temp_slots ≤ 6 * length f.blocks → SlotsHaveOneOwner s → SlotsAreBounded f out
+    length s.vreg_spillslots ≤ f.num_vregs → s.num_temp_slots ≤ 6 * length f.blocks → SlotsHaveOneOwner s →
+    (out.num_spillslots ≤ 2 ^ 24) × (out.num_spillslots ≤ units_at_most f)
 few_slots f s out count sizes vregs few owned =
     let room : s.count ≤ (owners s + s.num_temp_slots) * (2 * greatest_slot f) = owned.room (greatest_slot f)
     (subst (AreUpTo (greatest_slot f)) (sym sizes) (up_to_greatest f)) in
@@ -60,4 +64,4 @@ few_slots f s out count sizes vregs few owned =
     let all : (owners s + s.num_temp_slots) * (2 * greatest_slot f) ≤ (f.num_vregs + s.num_temp_slots) * (2 * greatest_slot f) = mul-le-mul_right
     (2 * greatest_slot f) (omega (arith, some, vregs)) in
     let w = within_needed (greatest_slot f) f.num_vregs s.num_temp_slots (length f.blocks) few in
-    record { limit = (let most = owned.few in omega (arith, count, most)); needed = omega (arith, count, room, all, w) }
+    ((let most = owned.few in omega (arith, count, most)), omega (arith, count, room, all, w))

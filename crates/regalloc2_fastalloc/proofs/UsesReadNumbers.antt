@@ -9,8 +9,7 @@ use Rattle.regalloc2_function.specs.Machine.{MachineValue}
 use Rattle.regalloc2_function.specs.OutputValue.{OutputValue}
 use Rattle.regalloc2_semantics.specs.Runs.{Way, IsPath, last_inst, Stamp, source_read}
 use Rattle.regalloc2_semantics.specs.Faithful.{IsFaithful}
-use Rattle.regalloc2_semantics.specs.Values.{numbers, reads_from, source_reads}
-use Rattle.regalloc2_fastalloc.specs.Promise.{ReadsNumbers}
+use Rattle.regalloc2_semantics.specs.Values.{Meaning, numbers, reads_from, source_reads}
 
 if_read : (b : Bool) (x : Option Stamp) (xs : List (Option Stamp)) → (b ≡ true → IsSome x) → All IsSome xs → All IsSome (cond b (x ∷ xs) xs)
 if_read true x xs h rest = All-cons IsSome x xs (h refl) rest
@@ -37,10 +36,11 @@ all_there g xs h = All-map IsSome (option_map g) xs (λ k d less. there_mapped g
 
 step_reads : (f : FunctionValue) (env : MachineValue) (out : OutputValue) → IsFaithful f env out → (ws : List Way) → IsPath f ws →
     All IsSome (source_reads f ws)
-step_reads f env out h ws p = each_reads (λ k o. source_read f ws o) 0 (last_inst f ws).operands (λ k d less yes. ((h ws p).reads k d less yes).0)
+step_reads f env out h ws p = each_reads (λ k o. source_read f ws o) 0 (last_inst f ws).operands (λ k d less yes. (h.reads ws p k d less yes).0)
 
 -- where an output is faithful, on every path each use of the function reads a number, whatever the instructions compute
-pub reads_numbers : (f : FunctionValue) (env : MachineValue) (out : OutputValue) → IsFaithful f env out → ReadsNumbers f
+pub reads_numbers : (f : FunctionValue) (env : MachineValue) (out : OutputValue) → IsFaithful f env out → (meaning : Meaning) (ws : List Way) → IsPath f ws →
+    All (All IsSome) (numbers f meaning (source_reads f) ws).history
 unfolding numbers
 reads_numbers f env out h meaning [] p = All-cons (All IsSome) (map (option_map (λ s. 0)) (source_reads f [])) []
     (all_there (λ s. 0) (source_reads f []) (step_reads f env out h [] p)) (All-nil (All IsSome))

@@ -1,6 +1,6 @@
 -- What `run` guarantees of its outputs: the main theorem's conclusion. Its terms are in regalloc2_semantics/specs,
 -- in reading order: `Runs`, `Faithful`, `Values`, `Places`, `Live`, `Debug`; values of functions, machines and outputs in regalloc2_function/specs.
-use Rattle.std.specs.Prelude.{ℕ, ◌≡◌, ◌<◌, ◌≤◌, ◌^◌, ◌⊎◌, List, All, IsSome, length, slice_index_or, Bool, false, [], nat_eq, ◌≢◌}
+use Rattle.std.specs.Prelude.{ℕ, ◌≡◌, ◌<◌, ◌≤◌, ◌^◌, ◌⊎◌, List, All, IsSome, length, slice_index_or, false, [], nat_eq, ◌≢◌}
 use Rattle.regalloc2_names.specs.Register.{VirtualRegister, Register, no_vreg, has_register}
 use Rattle.regalloc2_names.specs.Operand.{OperandValue}
 use Rattle.regalloc2_names.specs.Place.{Place, InSlot, before}
@@ -10,23 +10,19 @@ use Rattle.regalloc2_names.specs.declared.RegClass.{RegClass}
 use Rattle.regalloc2_function.specs.FunctionValue.{FunctionValue, block_at, inst_at, op_at, last_of}
 use Rattle.regalloc2_function.specs.Machine.{MachineValue, allocatable_count}
 use Rattle.regalloc2_function.specs.OutputValue.{OutputValue, IsInOrder, allocs_of, place_at}
-use Rattle.regalloc2_semantics.specs.Runs.{Way, end_of, IsPath, IsWrittenFirst, arguments_at}
-use Rattle.regalloc2_semantics.specs.Faithful.{ConstraintsMet, EditsAreListed, HasNoStackToStack, IsFaithful}
-use Rattle.regalloc2_semantics.specs.Debug.{HoldsValue as ShowsValue, AreDebugLocations}
+use Rattle.regalloc2_semantics.specs.Runs.{Way, first_of, end_of, IsPath, IsWrittenFirst, arguments_at}
+use Rattle.regalloc2_semantics.specs.Faithful.{ConstraintsMet, EditsAreListed, IsStackToStack, IsFaithful}
+use Rattle.regalloc2_semantics.specs.Debug.{ShowsValue, AreDebugLocations}
 use Rattle.regalloc2_semantics.specs.Places.{IsProperPlace, PlacesAreProper, Owner, OfVReg, OfBranch, IsSlotOf, AreSlotsOwned, StandsInSlot, units_at_most}
 use Rattle.regalloc2_semantics.specs.Values.{Meaning, SameNumbers, numbers, source_reads}
-use Rattle.regalloc2_semantics.specs.Live.{DefinesNumber, IsEdgeInto, IsLive, HasEntered, HoldsValueAt}
-
--- on every path each use of the function reads a number, whatever the instructions compute
-abbrev pub ReadsNumbers : FunctionValue → Type 0
-ReadsNumbers f = (meaning : Meaning) (ws : List Way) → IsPath f ws → All (All IsSome) (numbers f meaning (source_reads f) ws).history
+use Rattle.regalloc2_semantics.specs.Live.{DefinesNumber, IsEdgeInto, IsLive, HoldsValueAt}
 
 -- The allocated program runs as the function does, along every path from the entry: at each step each use finds in its place the function's own
 -- write, each place meets its constraint, and no move is stack-to-stack; and so each use reads the function's own number, whatever the instructions
--- compute.
+-- compute, and there is one.
 pub record RunsAsTheFunction (f : FunctionValue) (env : MachineValue) (out : OutputValue) : Type 0 where
   pub faithful : IsFaithful f env out
-  pub reads_numbers : ReadsNumbers f
+  pub reads_numbers : (meaning : Meaning) (ws : List Way) → IsPath f ws → All (All IsSome) (numbers f meaning (source_reads f) ws).history
   pub same_numbers : SameNumbers f out
 
 -- the operands of the branch at a block's end
@@ -53,14 +49,8 @@ pub data ArrivesAt (f : FunctionValue) (out : OutputValue) (slot : VirtualRegist
 pub record LiveInSlots (f : FunctionValue) (out : OutputValue) (owner : ℕ → Owner) : Type 0 where
   pub slot : VirtualRegister → ℕ
   pub operands : (v : VirtualRegister) (n : ℕ) → StandsInSlot f out v n → slot v ≡ n
-  pub owned : (ws : List Way) → IsPath f ws → HasEntered f ws → (v : VirtualRegister) → IsLive f v (end_of f ws) → owner (slot v) ≡ OfVReg v
-  pub live : (ws : List Way) → IsPath f ws → HasEntered f ws → (v : VirtualRegister) → IsLive f v (end_of f ws) → (p : Place) →
-      ArrivesAt f out slot (end_of f ws).block v p → HoldsValueAt f out ws p v
-
--- Slots take no more units than these bounds.
-pub record SlotsAreBounded (f : FunctionValue) (out : OutputValue) : Type 0 where
-  pub limit : out.num_spillslots ≤ 2 ^ 24
-  pub needed : out.num_spillslots ≤ units_at_most f
+  pub live : (ws : List Way) → IsPath f ws → end_of f ws ≡ first_of f (end_of f ws).block → (v : VirtualRegister) → IsLive f v (end_of f ws) →
+      (owner (slot v) ≡ OfVReg v) × ((p : Place) → ArrivesAt f out slot (end_of f ws).block v p → HoldsValueAt f out ws p v)
 
 -- The slot n of a branch i: it is the branch's first or second one for its class, and only moves name it, each at the point before the branch.
 pub record ServesBranch (out : OutputValue) (n i time : ℕ) : Type 0 where
@@ -68,10 +58,6 @@ pub record ServesBranch (out : OutputValue) (n i time : ℕ) : Type 0 where
   pub moves : All (λ e. (e.1.from ≡ InSlot n) ⊎ (e.1.to ≡ InSlot n) → e.0 ≡ before i) out.edits
   pub no_operand : All (λ p. p ≢ InSlot n) out.allocs
   pub no_location : All (λ d. d.place ≢ InSlot n) out.debug_locations
-
--- each slot that a branch owns serves that branch alone
-abbrev pub BranchSlotsServe : FunctionValue → OutputValue → (ℕ → Owner) → Type 0
-BranchSlotsServe f out owner = (n i : ℕ) (class : RegClass) (time : ℕ) → IsSlotOf out n → owner n ≡ OfBranch i class time → ServesBranch out n i time
 
 -- an operand that names the vreg has the place
 abbrev pub IsPlaceOfOperand : FunctionValue → OutputValue → VirtualRegister → Place → Type 0
@@ -93,24 +79,21 @@ ShowsLabels f env out owner = AreDebugLocations f (λ l d. IsProperPlace env out
 abbrev pub IsNamed : FunctionValue → VirtualRegister → Type 0
 IsNamed f v = (i k : ℕ) × (i < length f.insts) × (k < length (inst_at f i).operands) × ((op_at (inst_at f i).operands k).vreg ≡ v)
 
-abbrev pub have_same_number : VirtualRegister → VirtualRegister → Bool
-have_same_number v w = nat_eq v.number w.number
-
 -- A function of one block, all of whose operands are under `Reg`, without clobbers, which names no more vregs of a class than
 -- registers of it may be allocated.
 pub record HasRegistersForAll (f : FunctionValue) (env : MachineValue) : Type 0 where
   pub one_block : length f.blocks ≡ 1
   pub under_reg : (i k : ℕ) → i < length f.insts → k < length (inst_at f i).operands → (op_at (inst_at f i).operands k).constraint ≡ Reg
   pub no_clobbers : (i : ℕ) (r : Register) → i < length f.insts → has_register (inst_at f i).clobbers r ≡ false
-  pub enough : (class : RegClass) (vs : List VirtualRegister) → IsDistinct have_same_number vs → All (λ v. (v.class ≡ class) × IsNamed f v) vs →
+  pub enough : (class : RegClass) (vs : List VirtualRegister) → IsDistinct (λ v w. nat_eq v.number w.number) vs → All (λ v. (v.class ≡ class) × IsNamed f v) vs →
       length vs ≤ allocatable_count env class
 
 -- The whole guarantee about an output. Only `faithful`, `live` and the last part of `labels` have a premise: that no path from the entry reads or
 -- passes a vreg before writing it.
 --     in_order            offsets and moves are well-ordered, and no move names a missing place
---     constraints         each operand's place meets its constraint, whether a path reaches it or not
---     proper              each operand's place, and each end of a move, is one of the machine's or a slot below the count; an operand that names a register
---                         and no vreg is in that register, which may be none of the machine's
+--     constraints         each operand's place meets its constraint, whether a path reaches it or not; so an operand that names a register and no vreg is
+--                         in that register, which may be none of the machine's
+--     proper              each other operand's place, and each end of a move, is one of the machine's or a slot below the count
 --     no_stack_to_stack   no move is stack-to-stack
 --     listed              each move is listed, none after the last instruction of a block
 --     faithful            the output runs as the function does
@@ -124,12 +107,12 @@ pub record IsAllocation (f : FunctionValue) (env : MachineValue) (out : OutputVa
   pub in_order : IsInOrder f out
   pub constraints : (i : ℕ) → i < length f.insts → ConstraintsMet f env out i
   pub proper : PlacesAreProper f env out
-  pub no_stack_to_stack : HasNoStackToStack env out
+  pub no_stack_to_stack : All (λ e. IsStackToStack env e.1 → ⊥) out.edits
   pub listed : EditsAreListed f out
   pub faithful : IsWrittenFirst f → RunsAsTheFunction f env out
   pub owners : AreSlotsOwned f out
   pub live : IsWrittenFirst f → LiveInSlots f out owners.owner
-  pub slots : SlotsAreBounded f out
+  pub slots : (out.num_spillslots ≤ 2 ^ 24) × (out.num_spillslots ≤ units_at_most f)
   pub unspilled : HasRegistersForAll f env → (out.edits ≡ []) × (out.num_spillslots ≡ 0)
-  pub branch_slots : BranchSlotsServe f out owners.owner
+  pub branch_slots : (n i : ℕ) (class : RegClass) (time : ℕ) → IsSlotOf out n → owners.owner n ≡ OfBranch i class time → ServesBranch out n i time
   pub labels : ShowsLabels f env out owners.owner

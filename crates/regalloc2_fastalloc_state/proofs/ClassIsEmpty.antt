@@ -5,7 +5,8 @@ use Rattle.std.proofs.lemmas.Bool.{cases_Bool, lt-ltb, le-ltb}
 use Rattle.regalloc2_names.specs.declared.RegClass.{RegClass}
 use Rattle.regalloc2_names.specs.declared.sets.PRegSet.{PRegSet}
 use Rattle.regalloc2_names.specs.Register.{Register, has_register}
-use Rattle.regalloc2_function.specs.Machine.{count_below, register_number}
+use Rattle.regalloc2_semantics.specs.Fits.{register_number}
+use Rattle.regalloc2_function.specs.Machine.{count_below}
 use Rattle.regalloc2_fastalloc_state.specs.StateParts.{HasSmall}
 use Rattle.regalloc2_fastalloc_state.proofs.CountingLaws.{count_none, some_count}
 

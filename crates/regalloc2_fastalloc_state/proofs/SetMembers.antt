@@ -7,7 +7,8 @@ use Rattle.regalloc2_names.specs.declared.RegClass.{RegClass}
 use Rattle.regalloc2_names.specs.declared.RegClass.TheVariants.{Int, Float, Vector}
 use Rattle.regalloc2_names.specs.declared.sets.PRegSet.{PRegSet}
 use Rattle.regalloc2_names.specs.Register.{Register, class_code, has_register, word_members, registers_of, registers_of_words}
-use Rattle.regalloc2_function.specs.Machine.{count_below, register_number}
+use Rattle.regalloc2_semantics.specs.Fits.{register_number}
+use Rattle.regalloc2_function.specs.Machine.{count_below}
 use Rattle.regalloc2_fastalloc_state.proofs.CountingLaws.{count_none}
 
 count_suc : (q : ℕ → Bool) (j : ℕ) → count_below q (suc j) ≡ (if q j then 1 else 0) + count_below q j

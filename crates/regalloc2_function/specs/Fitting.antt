@@ -2,10 +2,10 @@
 -- What upstream's `MachineEnv` and allocators take for granted of machines.
 use Rattle.std.specs.Prelude.{ℕ, ◌≡◌, ◌≢◌, ◌<◌, ◌≤◌, ◌⊎◌, true, false, [], All, Any as SomeIn, length, slice_index_or, Some}
 use Rattle.regalloc2_names.specs.declared.RegClass.{RegClass}
-use Rattle.regalloc2_names.specs.Register.{Register, invalid_register}
+use Rattle.regalloc2_names.specs.Register.{Register, has_register, invalid_register}
 use Rattle.regalloc2_names.specs.Operand.{is_fixed_nonallocatable}
 use Rattle.regalloc2_function.specs.FunctionValue.{FunctionValue, block_at, inst_at}
-use Rattle.regalloc2_function.specs.Machine.{MachineValue, is_allocatable, is_preferred, is_non_preferred, scratch_of}
+use Rattle.regalloc2_function.specs.Machine.{MachineValue, is_allocatable, set_of, scratch_of}
 
 -- an operand names a vreg of the class, or a parameter does, or an argument of a block that is nonempty and within the
 -- instructions
@@ -20,7 +20,7 @@ NamesClass f class =
 -- or invalid; and there is a register to allocate if the function names a vreg of the class.
 pub record ClassFits (f : FunctionValue) (env : MachineValue) (class : RegClass) : Type 0 where
   pub of_class : (r : Register) → is_allocatable env class r ≡ true → r.class ≡ class
-  pub preferred_apart : (r : Register) → is_preferred env class r ≡ true → is_non_preferred env class r ≡ false
+  pub preferred_apart : (r : Register) → has_register (set_of env.preferred class) r ≡ true → has_register (set_of env.non_preferred class) r ≡ false
   pub valid : is_allocatable env class invalid_register ≡ false
   pub scratch_apart : (r : Register) → scratch_of env class ≡ Some r → (r.class ≡ class) × (is_allocatable env class r ≡ false) × (r ≢ invalid_register)
   pub slots_apart : All (λ r. (is_allocatable env class r ≡ false) × (scratch_of env class ≢ Some r) × (r ≢ invalid_register)) env.fixed_stack_slots

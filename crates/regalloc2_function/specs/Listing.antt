@@ -1,14 +1,18 @@
 -- A block's listing: its instructions, each after the moves that run before it.
 -- The order is as in upstream's `OutputIter`.
-use Rattle.std.specs.Prelude.{ℕ, zero, suc, ◌+◌, ◌-◌, ◌<◌, ◌≤◌, nat_le, if◌then◌else◌, List, [], ◌∷◌, ◌++◌, map}
+use Rattle.std.specs.Prelude.{ℕ, zero, suc, ◌+◌, ◌-◌, ◌<◌, ◌≤◌, nat_le, if◌then◌else◌, List, [], ◌∷◌, ◌++◌, map, filter}
 use Rattle.regalloc2_names.specs.Place.{before}
 use Rattle.regalloc2_function.specs.FunctionValue.{FunctionValue, block_at}
-use Rattle.regalloc2_function.specs.OutputValue.{OutputValue, MoveValue, moves_before}
+use Rattle.regalloc2_function.specs.OutputValue.{OutputValue, MoveValue, is_listed_at}
 
 -- an item of a listing
 pub data Listed : Type 0 where
   ListedInst : ℕ → Listed
   ListedMove : MoveValue → Listed
+
+-- the moves that are listed before an instruction of the block that begins at `first`
+abbrev pub moves_before : OutputValue → ℕ → ℕ → List MoveValue
+moves_before o first i = map (λ e. e.1) (filter (λ e. is_listed_at first i e.0) o.edits)
 
 -- the listing of `n` instructions of a block from the instruction `i` on; the block begins at `first`
 unfoldable pub listing_from : OutputValue → ℕ → ℕ → ℕ → List Listed

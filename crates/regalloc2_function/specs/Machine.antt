@@ -16,16 +16,13 @@ pub record MachineValue : Type 0 where
   pub scratch : List (Option Register)
   pub fixed_stack_slots : List Register
 
--- whether a register is preferred for vregs of a class, or non-preferred
-abbrev pub is_preferred : MachineValue → RegClass → Register → Bool
-is_preferred env class r = has_register (slice_index_or env.preferred (class_code class) empty_set) r
-
-abbrev pub is_non_preferred : MachineValue → RegClass → Register → Bool
-is_non_preferred env class r = has_register (slice_index_or env.non_preferred (class_code class) empty_set) r
+-- the set of a class
+abbrev pub set_of : List PRegSet → RegClass → PRegSet
+set_of sets class = slice_index_or sets (class_code class) empty_set
 
 -- whether a register may be allocated to vregs of a class
 abbrev pub is_allocatable : MachineValue → RegClass → Register → Bool
-is_allocatable env class r = is_preferred env class r || is_non_preferred env class r
+is_allocatable env class r = has_register (set_of env.preferred class) r || has_register (set_of env.non_preferred class) r
 
 -- the dedicated scratch register of a class
 abbrev pub scratch_of : MachineValue → RegClass → Option Register
@@ -52,8 +49,6 @@ unfoldable pub count_below : (ℕ → Bool) → ℕ → ℕ
 count_below p zero = 0
 count_below p (suc n) = (if p n then 1 else 0) + count_below p n
 
-abbrev pub register_number : RegClass → ℕ → Register
-register_number class n = record { number = n; class = class }
-
+-- how many registers may be allocated to vregs of a class
 unfoldable pub allocatable_count : MachineValue → RegClass → ℕ
-allocatable_count env class = count_below (λ n. is_allocatable env class (register_number class n)) 64
+allocatable_count env class = count_below (λ n. is_allocatable env class (record { number = n; class = class })) 64

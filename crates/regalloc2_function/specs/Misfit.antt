@@ -2,11 +2,11 @@
 -- First come the fixed stack slots, none of which is invalid; then the classes, Int, Float and Vector in this order, and of each class the
 -- conditions in the order of `MachineMisfit`'s variants.
 use Rattle.std.specs.Prelude.{ℕ, ◌≡◌, ◌≢◌, ◌<◌, true, false, All, Contains, length, slice_index_or, take, Some}
-use Rattle.regalloc2_names.specs.Register.{Register, invalid_register}
+use Rattle.regalloc2_names.specs.Register.{Register, has_register, invalid_register}
 use Rattle.regalloc2_names.specs.declared.RegClass.{RegClass}
 use Rattle.regalloc2_names.specs.declared.RegClass.TheVariants.{Int, Float, Vector}
 use Rattle.regalloc2_function.specs.FunctionValue.{FunctionValue}
-use Rattle.regalloc2_function.specs.Machine.{MachineValue, is_allocatable, is_preferred, is_non_preferred, scratch_of}
+use Rattle.regalloc2_function.specs.Machine.{MachineValue, is_allocatable, set_of, scratch_of}
 use Rattle.regalloc2_function.specs.Fitting.{ClassFits, NamesClass}
 use Rattle.regalloc2_function.specs.declared.misfit.MachineMisfit.{MachineMisfit}
 use Rattle.regalloc2_function.specs.declared.misfit.MachineMisfit.TheVariants.{InvalidSlot, OtherClass, ListedTwice, InvalidRegister}
@@ -28,7 +28,7 @@ abbrev pub AreOfClass : MachineValue → RegClass → Type 0
 AreOfClass env class = (r : Register) → is_allocatable env class r ≡ true → r.class ≡ class
 
 abbrev pub AreListedOnce : MachineValue → RegClass → Type 0
-AreListedOnce env class = (r : Register) → is_preferred env class r ≡ true → is_non_preferred env class r ≡ false
+AreListedOnce env class = (r : Register) → has_register (set_of env.preferred class) r ≡ true → has_register (set_of env.non_preferred class) r ≡ false
 
 -- all conditions on the registers that are listed for a class
 pub record AreRegistersSound (env : MachineValue) (class : RegClass) : Type 0 where
@@ -63,7 +63,8 @@ IsFirstTaken env class r =
 abbrev pub IsMisfit : FunctionValue → MachineValue → MachineMisfit → Type 0
 IsMisfit f env InvalidSlot = Contains env.fixed_stack_slots invalid_register
 IsMisfit f env (OtherClass class r) = FitsBefore f env class × (is_allocatable env class r ≡ true) × (r.class ≢ class)
-IsMisfit f env (ListedTwice class r) = FitsBefore f env class × AreOfClass env class × (is_preferred env class r ≡ true) × (is_non_preferred env class r ≡ true)
+IsMisfit f env (ListedTwice class r) = FitsBefore f env class × AreOfClass env class × (has_register (set_of env.preferred class) r ≡ true)
+    × (has_register (set_of env.non_preferred class) r ≡ true)
 IsMisfit f env (InvalidRegister class) = FitsBefore f env class × AreOfClass env class × AreListedOnce env class
     × (is_allocatable env class invalid_register ≡ true)
 IsMisfit f env (ScratchOfOtherClass class r) = PassesRegisters f env class × (scratch_of env class ≡ Some r) × (r.class ≢ class)

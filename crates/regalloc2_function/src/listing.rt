@@ -1,11 +1,11 @@
 //! The output of an allocation.
 
-ghost use Rattle.std.specs.Prelude.{◌≡◌, ◌≢◌, ℕ, All, ◌+◌, ◌*◌, ◌<◌, ◌≤◌, ◌↔◌, IsTrue, nat_lt, length, []};
+ghost use Rattle.std.specs.Prelude.{◌≡◌, ◌≢◌, ℕ, All, ◌+◌, ◌*◌, ◌<◌, ◌≤◌, ◌↔◌, IsTrue, nat_lt, length, slice_index, []};
 ghost use Rattle.std.specs.List.Sorted.{IsNonDecreasingBy};
 ghost use Rattle.std.specs.Iterator.{YieldsFirstBy, item_count};
 ghost use Rattle.regalloc2_names.specs.Place.{before, NoPlace};
 ghost use Rattle.regalloc2_function.specs.FunctionValue.{block_at, inst_at};
-ghost use Rattle.regalloc2_function.specs.OutputValue.{OffsetsInOrder, IsInOrder, alloc_start, alloc_end, allocs_of};
+ghost use Rattle.regalloc2_function.specs.OutputValue.{OffsetsInOrder, IsInOrder, alloc_end, allocs_of};
 ghost use Rattle.regalloc2_function.specs.Listing.{block_listing, IsListedWithin};
 ghost use Rattle.regalloc2_function.specs.Views.{output_of, move_of, item_of, rest_of};
 
@@ -132,7 +132,7 @@ impl<A: Allocator> Output<A> {
     /// Returns where the places of the instruction of number `inst` begin and end.
     fn alloc_range(&self, inst: usize) -> (usize, usize)
         requires { inst < length (output_of self.now).offsets }
-        ensures start { result.0 ≡ alloc_start (output_of self.now) inst }
+        ensures start { result.0 ≡ slice_index (output_of self.now).offsets inst }
         ensures end { result.1 ≡ alloc_end (output_of self.now) inst }
     {
         let start = self.inst_alloc_offsets[inst] as usize;
@@ -183,9 +183,9 @@ impl<A: Allocator> Output<A> {
     /// it begins, begins within the places, and has at most `operands` places.
     fn has_range_in_order(&self, inst: usize, operands: usize) -> bool
         requires { inst < length (output_of self.now).offsets }
-        ensures { IsTrue result ↔ ((alloc_start (output_of self.now) inst ≤ alloc_end (output_of self.now) inst)
-            × (alloc_start (output_of self.now) inst ≤ length (output_of self.now).allocs)
-            × (alloc_end (output_of self.now) inst ≤ alloc_start (output_of self.now) inst + operands)) }
+        ensures { IsTrue result ↔ ((slice_index (output_of self.now).offsets inst ≤ alloc_end (output_of self.now) inst)
+            × (slice_index (output_of self.now).offsets inst ≤ length (output_of self.now).allocs)
+            × (alloc_end (output_of self.now) inst ≤ slice_index (output_of self.now).offsets inst + operands)) }
     {
         let (start, end) = self.alloc_range(inst);
         start <= end && start <= self.allocs.len() && end - start <= operands
@@ -196,7 +196,7 @@ impl<A: Allocator> Output<A> {
     fn has_places_in_order<F: Function>(&self, func: &F) -> bool
         ensures { IsTrue result ↔ ((length (output_of self.now).offsets ≡ length (F.function func.now).insts) × OffsetsInOrder (output_of self.now)
             × ((i : ℕ) → i < length (F.function func.now).insts →
-            alloc_end (output_of self.now) i ≤ alloc_start (output_of self.now) i + length (inst_at (F.function func.now) i).operands)) }
+            alloc_end (output_of self.now) i ≤ slice_index (output_of self.now).offsets i + length (inst_at (F.function func.now) i).operands)) }
     {
         let count = func.num_insts();
         if self.inst_alloc_offsets.len() != count {

@@ -5,7 +5,7 @@ ghost use Rattle.std.specs.Bool.{OnTrue, OnFalse};
 ghost use Rattle.regalloc2_names.specs.Register.{Register, invalid_register, has_register};
 ghost use Rattle.regalloc2_names.specs.declared.RegClass.{RegClass};
 ghost use Rattle.regalloc2_function.specs.FunctionValue.{FunctionValue, block_at, inst_at};
-ghost use Rattle.regalloc2_function.specs.Machine.{is_allocatable, is_preferred, is_non_preferred, scratch_of};
+ghost use Rattle.regalloc2_function.specs.Machine.{is_allocatable, set_of, scratch_of};
 ghost use Rattle.regalloc2_names.specs.Operand.{is_fixed_nonallocatable};
 ghost use Rattle.regalloc2_function.specs.Fitting.{MachineFits, ClassFits, NamesClass};
 ghost use Rattle.regalloc2_function.specs.Misfit.{AreSlotsValid, FitsBefore, AreRegistersSound, IsScratchSound, IsSlotApart, PassesRegisters, PassesScratch};
@@ -68,7 +68,8 @@ impl<A: Allocator> MachineEnv<A> {
 
     /// Returns the registers that are listed for `class` as preferred and as non-preferred.
     fn listed_twice(&self, class: RegClass) -> PRegSet
-        ensures { (r : Register) → has_register result r ≡ is_preferred (machine_of self.now) class r && is_non_preferred (machine_of self.now) class r }
+        ensures { (r : Register) → has_register result r ≡ has_register (set_of (machine_of self.now).preferred class) r
+            && has_register (set_of (machine_of self.now).non_preferred class) r }
     {
         let index = class.code();
         self.preferred_regs_by_class[index] & self.non_preferred_regs_by_class[index]

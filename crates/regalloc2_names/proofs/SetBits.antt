@@ -13,7 +13,8 @@ use Rattle.std.proofs.lemmas.Nat.Bits.{and_pow, bit_at-lt, bit_at_set_same, bit_
 use Rattle.std.proofs.lemmas.Nat.Bits.{bit_at_above, bit_at_not, bit_at_ones, bit_at_ones_above}
 use Rattle.std.proofs.lemmas.Bool.{cases_lt}
 use Rattle.std.proofs.Math.Bool.{and_comm}
-use Rattle.regalloc2_names.specs.Register.{class_code, Register, words_have}
+use Rattle.regalloc2_names.specs.RegisterBits.{words_have}
+use Rattle.regalloc2_names.specs.Register.{class_code, Register}
 
 scaled : (b p : ℕ) → b < 2 → 0 < p → not (nat_eq (b * p) 0) ≡ nat_eq b 1
 scaled zero p hb hp = rw zero-mul refl

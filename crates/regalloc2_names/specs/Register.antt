@@ -67,13 +67,9 @@ invalid_vreg = record { number = 1073741823; class = Int }
 abbrev pub no_vreg : VirtualRegister
 no_vreg = record { number = 0; class = Int }
 
--- whether the words of a set have a register
-abbrev pub words_have : List ℕ → Register → Bool
-words_have words r = nat_eq (bit_at (slice_index words (class_code r.class)) r.number) 1
-
--- whether a set has a register
+-- whether a set has a register: its bit in its class's word is 1
 unfoldable pub has_register : PRegSet → Register → Bool
-has_register s r = words_have s.bits r
+has_register s r = nat_eq (bit_at (slice_index s.bits (class_code r.class)) r.number) 1
 
 -- the registers of a class whose bits are set in a word, from a number on
 unfoldable pub word_members : RegClass → ℕ → ℕ → ℕ → List Register

@@ -1,5 +1,6 @@
 -- How registers and virtual registers (vregs) are packed into bits.
-use Rattle.std.specs.Prelude.{ℕ, ◌≡◌, ◌<◌, ◌+◌, ◌*◌, ◌/◌, ◌%◌, zero, suc, refl}
+use Rattle.std.specs.Prelude.{ℕ, ◌≡◌, ◌<◌, ◌+◌, ◌*◌, ◌/◌, ◌%◌, zero, suc, refl, Bool, nat_eq, List, slice_index}
+use Rattle.std.specs.Int.{bit_at}
 use Rattle.std.proofs.Common.{arith}
 use Rattle.regalloc2_names.specs.Register.{class_code, class_of_code, register_count, Register, VirtualRegister}
 
@@ -13,6 +14,10 @@ bits_of_register r = class_code r.class * 64 + r.number
 -- the bytes of registers
 abbrev pub IsRegisterIndex : ℕ → Type 0
 IsRegisterIndex b = b < register_count
+
+-- whether a set of three words, one for each class, has a register
+abbrev pub words_have : List ℕ → Register → Bool
+words_have words r = nat_eq (bit_at (slice_index words (class_code r.class)) r.number) 1
 
 abbrev pub vreg_of_bits : ℕ → VirtualRegister
 vreg_of_bits b = record { number = b / 4; class = class_of_code (b % 4) }

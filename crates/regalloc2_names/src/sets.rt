@@ -2,8 +2,8 @@
 
 ghost use Rattle.std.specs.Prelude.{◌≢◌, ◌∷◌, ◌^◌, slice_index, List, Contains, ◌≡◌, ◌≤◌, ℕ, ◌<◌, ◌↔◌, ◌||◌, ◌&&◌, not, false, true, IsTrue, IfSome, IsNone, length, nat_lt};
 ghost use Rattle.regalloc2_names.specs.Register.{IsRegister, Register, class_code, hw_limit, is_register, register_count, has_register, word_members};
-ghost use Rattle.regalloc2_names.specs.Register.{words_have, registers_of};
-ghost use Rattle.regalloc2_names.specs.RegisterBits.{bits_of_register};
+ghost use Rattle.regalloc2_names.specs.Register.{registers_of};
+ghost use Rattle.regalloc2_names.specs.RegisterBits.{bits_of_register, words_have};
 ghost use Rattle.std.specs.Int.{bit_at};
 ghost use Rattle.regalloc2_names.specs.declared.RegClass.{RegClass};
 ghost use Rattle.std.specs.Iterator.{YieldsFirst, item_count};

@@ -6,7 +6,8 @@ use Rattle.std.proofs.lemmas.List.Elements.{All-filter, All-map}
 use Rattle.std.proofs.lemmas.Bool.{cases_lt}
 use Rattle.regalloc2_function.specs.FunctionValue.{FunctionValue, InstValue, block_at, inst_at, no_inst}
 use Rattle.regalloc2_function.specs.Machine.{MachineValue}
-use Rattle.regalloc2_function.specs.OutputValue.{OutputValue, MoveValue, is_listed_at, moves_before}
+use Rattle.regalloc2_function.specs.Listing.{moves_before}
+use Rattle.regalloc2_function.specs.OutputValue.{OutputValue, MoveValue, is_listed_at}
 use Rattle.regalloc2_semantics.specs.Runs.{end_of}
 use Rattle.regalloc2_semantics.specs.Faithful.{ConstraintsMet, IsStackToStack}
 use Rattle.regalloc2_semantics.specs.Laws.{FaithfulWhereReadsAgree}
@@ -29,8 +30,8 @@ moves_before-All P out first i h =
 
 -- an output is faithful if constraints are met everywhere, no move is from stack to stack, and reads agree on every path
 pub faithful : FaithfulWhereReadsAgree
-faithful f env out constraints moves reads ws p = record {
-  reads = reads ws p;
-  constraints = constraints_met f env out constraints (end_of f ws).inst;
-  moves = moves_before-All (λ m. IsStackToStack env m → ⊥) out (block_at f (end_of f ws).block).range.first (end_of f ws).inst moves;
+faithful f env out constraints moves reads = record {
+  reads = reads;
+  constraints = λ ws p. constraints_met f env out constraints (end_of f ws).inst;
+  moves = λ ws p. moves_before-All (λ m. IsStackToStack env m → ⊥) out (block_at f (end_of f ws).block).range.first (end_of f ws).inst moves;
 }

@@ -45,4 +45,4 @@ reads_give_numbers f out h meaning ws p =
 
 -- a faithful output reads the function's numbers
 pub same_numbers : (f : FunctionValue) (env : MachineValue) (out : OutputValue) → IsFaithful f env out → SameNumbers f out
-same_numbers f env out h = reads_give_numbers f out (λ ws p. (h ws p).reads)
+same_numbers f env out h = reads_give_numbers f out h.reads

@@ -84,8 +84,8 @@ pub data GoesOn (f : FunctionValue) (v : VirtualRegister) (start : List Way) : L
 
 -- If a path writes v, and then not again up to a later step that reads or passes v, the place holds that write at each step in between and at the later step,
 -- once the moves before the step's instruction have run. Steps at a branch are left out.
-abbrev pub HoldsValue : FunctionValue → OutputValue → VirtualRegister → Place → Type 0
-HoldsValue f out v p = (given : List Way) (w : Way) (here used : List Way) (s : Stamp) →
+abbrev pub ShowsValue : FunctionValue → OutputValue → VirtualRegister → Place → Type 0
+ShowsValue f out v p = (given : List Way) (w : Way) (here used : List Way) (s : Stamp) →
     IsPath f used → IsGiven f v given w → source_before f (w ∷ given) v ≡ Some s → GoesOn f v (w ∷ given) here → GoesOn f v here used →
     UsesAt f v (end_of f used).inst →
     (inst_at f (end_of f here).inst).is_branch ≡ false → after_moves (moves_at f out (end_of f here)) (cells_before f out here) p ≡ Some s

@@ -21,8 +21,8 @@ cell_at f o ws position p =
     read_of position (early p) (cells_late f o (end_of f ws) (length ws) early p)
 
 -- on every path that reaches the position, the place holds the write that the vreg has
-abbrev pub Holds : FunctionValue → OutputValue → Location → OperandPos → Place → VirtualRegister → Type 0
-Holds f o l position p v = (ws : List Way) → IsPath f ws → end_of f ws ≡ l →
+abbrev pub HoldsOnPaths : FunctionValue → OutputValue → Location → OperandPos → Place → VirtualRegister → Type 0
+HoldsOnPaths f o l position p v = (ws : List Way) → IsPath f ws → end_of f ws ≡ l →
     IsSome (cell_at f o ws position p) × (cell_at f o ws position p ≡ read_of position (source_before f ws v) (source_after f ws v))
 
 -- at the last step of a path each reading use finds in its place the write that its vreg has, and there is one
@@ -60,19 +60,11 @@ ConstraintsMet f env out i = (k : ℕ) (d : OperandValue) → k < length (inst_a
 abbrev pub IsStackToStack : MachineValue → MoveValue → Type 0
 IsStackToStack env m = IsStackPlace env m.from × IsStackPlace env m.to
 
--- the last step of a path is faithful
-pub record StepIsFaithful (f : FunctionValue) (env : MachineValue) (out : OutputValue) (ws : List Way) : Type 0 where
-  pub reads : ReadsAgree f out ws
-  pub constraints : ConstraintsMet f env out (end_of f ws).inst
-  pub moves : All (λ m. IsStackToStack env m → ⊥) (moves_at f out (end_of f ws))
-
--- every step of every path is faithful
-abbrev pub IsFaithful : FunctionValue → MachineValue → OutputValue → Type 0
-IsFaithful f env out = (ws : List Way) → IsPath f ws → StepIsFaithful f env out ws
-
--- no move at all goes from a stack place to another, on a path or not
-abbrev pub HasNoStackToStack : MachineValue → OutputValue → Type 0
-HasNoStackToStack env out = All (λ e. IsStackToStack env e.1 → ⊥) out.edits
+-- at each step of each path reads agree, constraints are met, and no move is stack-to-stack
+pub record IsFaithful (f : FunctionValue) (env : MachineValue) (out : OutputValue) : Type 0 where
+  pub reads : (ws : List Way) → IsPath f ws → ReadsAgree f out ws
+  pub constraints : (ws : List Way) → IsPath f ws → ConstraintsMet f env out (end_of f ws).inst
+  pub moves : (ws : List Way) → IsPath f ws → All (λ m. IsStackToStack env m → ⊥) (moves_at f out (end_of f ws))
 
 -- each edit is listed before or after an instruction of a block, and none after a block's last one
 abbrev pub EditsAreListed : FunctionValue → OutputValue → Type 0

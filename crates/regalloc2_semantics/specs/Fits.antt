@@ -8,7 +8,7 @@ use Rattle.regalloc2_names.specs.declared.RegClass.{RegClass}
 use Rattle.regalloc2_names.specs.Register.{Register, class_code, has_register}
 use Rattle.regalloc2_names.specs.Operand.{OperandValue, is_def, is_late, is_fixed_nonallocatable}
 use Rattle.regalloc2_function.specs.FunctionValue.{FunctionValue, InstValue, EachOperand}
-use Rattle.regalloc2_function.specs.Machine.{MachineValue, is_allocatable, scratch_of, IsFixedStackSlot, count_below, register_number, allocatable_count}
+use Rattle.regalloc2_function.specs.Machine.{MachineValue, is_allocatable, scratch_of, IsFixedStackSlot, count_below, allocatable_count}
 use Rattle.regalloc2_function.specs.WellFormed.{IsReused}
 use Rattle.regalloc2_function.specs.Fitting.{NamesClass}
 
@@ -37,6 +37,10 @@ is_fixed_to q Stack = false
 is_fixed_to q (FixedReg r) = nat_eq (class_code q.class) (class_code r.class) && nat_eq q.number r.number
 is_fixed_to q (Reuse n) = false
 is_fixed_to q (Limit n) = false
+
+-- the register of a class and a number
+abbrev pub register_number : RegClass → ℕ → Register
+register_number class n = record { number = n; class = class }
 
 -- the registers of a class that an instruction needs: one for each operand that may be in any, and each that is fixed or clobbered
 unfoldable pub need_of : MachineValue → RegClass → InstValue → ℕ

@@ -6,7 +6,7 @@ use Rattle.regalloc2_names.specs.Operand.{OperandValue, is_def, is_reading}
 use Rattle.regalloc2_names.specs.Place.{Place}
 use Rattle.regalloc2_function.specs.FunctionValue.{FunctionValue, block_at, op_at, inst_at, last_of}
 use Rattle.regalloc2_function.specs.OutputValue.{OutputValue}
-use Rattle.regalloc2_semantics.specs.Runs.{Way, Onward, ToSuccessor, Location, end_of, next_of, HasWay, arguments_at, source_before, cells_before}
+use Rattle.regalloc2_semantics.specs.Runs.{Way, Onward, ToSuccessor, Location, next_of, HasWay, arguments_at, source_before, cells_before}
 
 -- whether a list names a vreg
 unfoldable pub names : VirtualRegister → List VirtualRegister → Bool
@@ -37,10 +37,6 @@ pub data IsLive (f : FunctionValue) (v : VirtualRegister) : Location → Type 0 
   passed_there : (l : Location) (k : ℕ) → HasWay f l (ToSuccessor k) → Contains (arguments_at f l.block k) v → Undefined (inst_at f l.inst).operands v →
       IsLive f v l
   later : (l : Location) (w : Way) → HasWay f l w → Undefined (inst_at f l.inst).operands v → IsAside f v l w → IsLive f v (next_of f l w) → IsLive f v l
-
--- the path ends at the first instruction of a block
-abbrev pub HasEntered : FunctionValue → List Way → Type 0
-HasEntered f ws = (end_of f ws).inst ≡ (block_at f (end_of f ws).block).range.first
 
 -- before a path's last step v has a value (a parameter the one that the edge gave it), and the place holds it
 abbrev pub HoldsValueAt : FunctionValue → OutputValue → List Way → Place → VirtualRegister → Type 0

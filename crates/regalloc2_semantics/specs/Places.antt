@@ -5,7 +5,7 @@ use Rattle.std.specs.Prelude.{max}
 use Rattle.regalloc2_names.specs.declared.RegClass.{RegClass}
 use Rattle.regalloc2_names.specs.declared.RegClass.TheVariants.{Int, Float, Vector}
 use Rattle.regalloc2_names.specs.Register.{Register, VirtualRegister}
-use Rattle.regalloc2_names.specs.Operand.{nonallocatable_register, is_fixed_nonallocatable, OperandValue}
+use Rattle.regalloc2_names.specs.Operand.{is_fixed_nonallocatable, OperandValue}
 use Rattle.regalloc2_names.specs.Place.{Place, NoPlace, InRegister, InSlot}
 use Rattle.regalloc2_function.specs.FunctionValue.{FunctionValue, inst_at, EachOperand, slot_size}
 use Rattle.regalloc2_function.specs.Machine.{MachineValue, is_allocatable, scratch_of, IsFixedStackSlot}
@@ -21,12 +21,10 @@ IsProperPlace env out class (InSlot n) = n < out.num_spillslots
 abbrev pub IsMoveEnd : MachineValue → OutputValue → Place → Type 0
 IsMoveEnd env out p = (c : RegClass) × (IsProperPlace env out c p ⊎ ((r : Register) × (scratch_of env c ≡ Some r) × (p ≡ InRegister r)))
 
--- The places of all operands and of both ends of all moves are valid; an operand that names a register and no vreg is in that register, valid or not.
+-- The places of all operands that name a vreg, and both ends of all moves, are valid.
 pub record PlacesAreProper (f : FunctionValue) (env : MachineValue) (out : OutputValue) : Type 0 where
   pub operands : (i : ℕ) → i < length f.insts → EachOperand (inst_at f i) (λ k o.
       is_fixed_nonallocatable o ≡ false → IsProperPlace env out o.vreg.class (place_at (allocs_of out i) k))
-  pub nonallocatable : (i : ℕ) → i < length f.insts → EachOperand (inst_at f i) (λ k o.
-      (r : Register) → nonallocatable_register o ≡ Some r → place_at (allocs_of out i) k ≡ InRegister r)
   pub moves : All (λ e. IsMoveEnd env out e.1.from × IsMoveEnd env out e.1.to) out.edits
 
 -- whose values a slot holds: a vreg's, or the values that a branch's moves of arguments save, the first or a later time for a class
@@ -78,10 +76,8 @@ StandsInSlot f out v n =
     (i k : ℕ) × (d : OperandValue) × (i < length f.insts) × (k < length (inst_at f i).operands) × ((slice_index_or (inst_at f i).operands k d).vreg ≡ v)
     × (place_at (allocs_of out i) k ≡ InSlot n)
 
--- how many units the greatest slot takes
-abbrev pub greatest_slot : FunctionValue → ℕ
-greatest_slot f = max (slot_size f.slot_sizes Int) (max (slot_size f.slot_sizes Float) (slot_size f.slot_sizes Vector))
-
--- How many units slots may take: each less than twice its size, since it is aligned; there is one at most for each vreg, and six for the moves of each block.
+-- How many units slots may take: each less than twice the greatest size, since it is aligned; there is one at most for each vreg, and six for the moves of
+-- each block.
 abbrev pub units_at_most : FunctionValue → ℕ
-units_at_most f = 2 * greatest_slot f * (f.num_vregs + 6 * length f.blocks)
+units_at_most f =
+    2 * max (slot_size f.slot_sizes Int) (max (slot_size f.slot_sizes Float) (slot_size f.slot_sizes Vector)) * (f.num_vregs + 6 * length f.blocks)

@@ -4,7 +4,7 @@
 -- where its `OutputIter` lists them. That a move copies absence, and that early definitions empty their places before early uses are read, is
 -- this project's own choice.
 use Rattle.std.specs.Prelude.{ℕ, ◌≡◌, ◌+◌, ◌<◌, List, [], ◌∷◌, length, slice_index, true, if◌then◌else◌, slice_index_or, Option, None, Some, IsSome, ◌&&◌}
-use Rattle.std.specs.Prelude.{not}
+use Rattle.std.specs.Prelude.{not, All, map, filter}
 use Rattle.regalloc2_names.specs.declared.OperandPos.{OperandPos}
 use Rattle.regalloc2_names.specs.declared.OperandPos.TheVariants.{Early, Late}
 use Rattle.regalloc2_names.specs.declared.sets.PRegSet.{PRegSet}
@@ -12,7 +12,7 @@ use Rattle.regalloc2_names.specs.Register.{VirtualRegister, is_vreg, has_registe
 use Rattle.regalloc2_names.specs.Operand.{OperandValue, is_def, is_reading, is_late}
 use Rattle.regalloc2_names.specs.Place.{Place, NoPlace, InRegister, InSlot, is_place}
 use Rattle.regalloc2_function.specs.FunctionValue.{FunctionValue, block_at, inst_at, InstValue}
-use Rattle.regalloc2_function.specs.OutputValue.{OutputValue, MoveValue, allocs_of, place_at, moves_before}
+use Rattle.regalloc2_function.specs.OutputValue.{OutputValue, MoveValue, allocs_of, place_at, is_listed_at}
 
 -- how a path goes on: to the next instruction of the block, or by the edge to the successor at a position
 pub data Way : Type 0 where
@@ -112,14 +112,10 @@ UsesWritten f ws = (k : ℕ) (d : OperandValue) → k < length (last_inst f ws).
     let o : OperandValue = slice_index_or (last_inst f ws).operands k d in
     is_reading o ≡ true → IsSome (source_read f ws o)
 
--- every argument that is passed on an edge was written
-abbrev pub ArgumentsWritten : FunctionValue → List Way → Type 0
-ArgumentsWritten f ws = (k j : ℕ) (d : VirtualRegister) → HasWay f (end_of f ws) (ToSuccessor k) → j < length (arguments_at f (end_of f ws).block k) →
-    IsSome (source_after f ws (slice_index_or (arguments_at f (end_of f ws).block k) j d))
-
 -- each vreg is definitely assigned: no path reads or passes it before writing it
 abbrev pub IsWrittenFirst : FunctionValue → Type 0
-IsWrittenFirst f = (ws : List Way) → IsPath f ws → UsesWritten f ws × ArgumentsWritten f ws
+IsWrittenFirst f = (ws : List Way) → IsPath f ws → UsesWritten f ws
+    × ((k : ℕ) → HasWay f (end_of f ws) (ToSuccessor k) → All (λ v. IsSome (source_after f ws v)) (arguments_at f (end_of f ws).block k))
 
 -- who wrote each place last, if anyone
 abbrev pub Cells : Type 0
@@ -156,7 +152,7 @@ after_clobbers clobbers c (InSlot n) = c (InSlot n)
 
 -- the moves that run before the last step of a path
 abbrev pub moves_at : FunctionValue → OutputValue → Location → List MoveValue
-moves_at f o l = moves_before o (block_at f l.block).range.first l.inst
+moves_at f o l = map (λ e. e.1) (filter (λ e. is_listed_at (block_at f l.block).range.first l.inst e.0) o.edits)
 
 -- the cells that the early uses of an instruction read, from the cells before its moves
 abbrev pub cells_early : FunctionValue → OutputValue → Location → Cells → Cells

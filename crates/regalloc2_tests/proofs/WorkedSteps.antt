@@ -12,7 +12,8 @@ use Rattle.regalloc2_names.specs.Register.{has_register}
 use Rattle.regalloc2_names.specs.Operand.{OperandValue}
 use Rattle.regalloc2_names.specs.Place.{Place, before, after}
 use Rattle.regalloc2_function.specs.FunctionValue.{FunctionValue, InstValue}
-use Rattle.regalloc2_function.specs.OutputValue.{OutputValue, MoveValue, moves_before}
+use Rattle.regalloc2_function.specs.Listing.{moves_before}
+use Rattle.regalloc2_function.specs.OutputValue.{OutputValue, MoveValue}
 use Rattle.regalloc2_semantics.specs.Runs.{Onward, ToSuccessor, source_before, after_defs, passed, over_edge, cells_before, stored, after_moves}
 use Rattle.regalloc2_semantics.specs.Runs.{after_early_defs, after_writes, after_clobbers, allocated_read}
 use Rattle.regalloc2_tests.proofs.WorkedPaths.{v, op, block, with_blocks, p, move, at_step}

@@ -2,8 +2,8 @@
 use Rattle.std.proofs.Common.{ℕ, zero, suc, ◌≡◌, ◌+◌, ◌-◌, ◌<◌, ◌≤◌, List, ◌∷◌, map, subst, arith}
 use Rattle.std.specs.Prelude.{All}
 use Rattle.std.proofs.lemmas.List.Elements.{All-nil, All-append, All-cons, All-map, All-head}
-use Rattle.regalloc2_function.specs.OutputValue.{OutputValue, moves_before}
-use Rattle.regalloc2_function.specs.Listing.{Listed, ListedInst, ListedMove, listing_from}
+use Rattle.regalloc2_function.specs.OutputValue.{OutputValue}
+use Rattle.regalloc2_function.specs.Listing.{Listed, ListedInst, ListedMove, listing_from, moves_before}
 use Rattle.regalloc2_function.specs.Views.{item_of}
 use Rattle.regalloc2_function.specs.declared.listing.InstOrEdit.{InstOrEdit}
 use Rattle.regalloc2_function.specs.declared.listing.InstOrEdit.TheVariants.{Inst}

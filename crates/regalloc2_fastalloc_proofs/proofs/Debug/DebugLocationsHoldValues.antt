@@ -10,7 +10,7 @@ use Rattle.regalloc2_function.specs.Machine.{MachineValue}
 use Rattle.regalloc2_function.specs.OutputValue.{allocs_of, place_at}
 use Rattle.regalloc2_semantics.specs.Runs.{IsWrittenFirst}
 use Rattle.regalloc2_names.specs.Operand.{is_fixed_nonallocatable}
-use Rattle.regalloc2_semantics.specs.Debug.{HoldsValue}
+use Rattle.regalloc2_semantics.specs.Debug.{ShowsValue}
 use Rattle.regalloc2_function.specs.WellFormed.{IsWellFormed}
 use Rattle.regalloc2_semantics.specs.Laws.{ReadsAgreeOnPaths}
 use Rattle.regalloc2_carry.proofs.SingleDef.{Made, by_operand}
@@ -88,10 +88,10 @@ module _ (walk : WholeWalk) (m : IsOutputOfWalk walk.f walk.env (Made walk.f) (M
   pub label_shown : MachineFits f env → IsWrittenFirst f → SlotsHaveOneOwner last.slots → ((i : ℕ) → i < length f.insts → AreSoundOperands (Made f)
       (inst_at f i).operands) → ReadsAgreeOnPaths f out → (stand : ℕ → VirtualRegister → Option Place) → AreAtBegin env f blank begin last out stand →
       (l : Label) (r : LiveRange) → IsKeptRange f l r →
-      (let p : Place = shown_place out (slot_name last.slots r.vreg.number) r.by in IsProperPlace env out l.vreg.class p × HoldsValue f out l.vreg p)
+      (let p : Place = shown_place out (slot_name last.slots r.vreg.number) r.by in IsProperPlace env out l.vreg.class p × ShowsValue f out l.vreg p)
   label_shown fits written owned sound_ops agree stand begins l r k =
       subst (λ (n : ℕ). IsProperPlace env out l.vreg.class (shown_place out (slot_name last.slots n) r.by)
-      × HoldsValue f out l.vreg (shown_place out (slot_name last.slots n) r.by)) (ap (λ (w : VirtualRegister). w.number) (sym k.vreg)) (
+      × ShowsValue f out l.vreg (shown_place out (slot_name last.slots n) r.by)) (ap (λ (w : VirtualRegister). w.number) (sym k.vreg)) (
         place_proper written l.vreg k.by,
         shown walk m written l.vreg ((shown_made env f limited ok) l.vreg k.by) fits owned sound_ops
             agree stand begins k.by,

@@ -3,7 +3,8 @@ use Rattle.std.proofs.Common.{ℕ, suc, ◌≡◌, ◌+◌, ◌≤◌, List, [],
 use Rattle.regalloc2_names.specs.Register.{VirtualRegister}
 use Rattle.regalloc2_names.specs.Place.{Place, before, after}
 use Rattle.regalloc2_function.specs.FunctionValue.{FunctionValue, block_at, inst_at}
-use Rattle.regalloc2_function.specs.OutputValue.{OutputValue, MoveValue, allocs_of, moves_before}
+use Rattle.regalloc2_function.specs.Listing.{moves_before}
+use Rattle.regalloc2_function.specs.OutputValue.{OutputValue, MoveValue, allocs_of}
 use Rattle.regalloc2_semantics.specs.Runs.{Way, Onward, end_of, source_before, over_edge, Cells, after_moves, moves_at, cells_before}
 use Rattle.regalloc2_carry.specs.Listing.{Item, exec_item, with_moves}
 use Rattle.regalloc2_carry.specs.Carry.{Carries, CarriesFrom}

@@ -8,9 +8,10 @@ use Rattle.regalloc2_names.specs.Place.{Place, NoPlace, before}
 use Rattle.regalloc2_function.specs.FunctionValue.{block_at, inst_at, op_at}
 use Rattle.regalloc2_function.specs.OutputValue.{allocs_of, place_at}
 use Rattle.regalloc2_semantics.specs.Runs.{Way, Onward, ToSuccessor, end_of, IsPath, IsWrittenFirst, source_before, Cells, after_moves}
-use Rattle.regalloc2_semantics.specs.Debug.{GoesOn, there, further, HoldsValue, UsesAt}
+use Rattle.regalloc2_semantics.specs.Debug.{GoesOn, there, further, ShowsValue, UsesAt}
 use Rattle.regalloc2_carry.specs.Carry.{Carries}
-use Rattle.regalloc2_semantics.specs.Live.{IsLive, later, HasEntered}
+use Rattle.regalloc2_carry.specs.Live.{HasEntered}
+use Rattle.regalloc2_semantics.specs.Live.{IsLive, later}
 use Rattle.regalloc2_carry.specs.Blocks.{IsUnwritten}
 use Rattle.regalloc2_carry.specs.BlockByPoints.{at_point, walked, listed, Rising}
 use Rattle.regalloc2_carry.proofs.CarryRules.{carries_weaken}
@@ -251,7 +252,7 @@ module _ (walk : WholeWalk) (m : IsOutputOfWalk walk.f walk.env (Made walk.f) (M
   by_front ws c (front is) e = ap (λ (x : Cells). x p) is ∙ e
 
   -- the place of the last use's operand holds v's value, if v has no slot
-  pub register_shows : HoldsValue f out v p
+  pub register_shows : ShowsValue f out v p
   register_shows given (ToSuccessor k) here used s path is_given source on later_on uses no_branch =
       let here_path = start_path f out v plain here used later_on path in
       let live = goes_live f out v plain (ToSuccessor k ∷ given) here on here_path

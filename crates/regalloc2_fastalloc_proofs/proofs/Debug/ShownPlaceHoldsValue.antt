@@ -11,7 +11,7 @@ use Rattle.regalloc2_function.specs.FunctionValue.{FunctionValue, block_at, inst
 use Rattle.regalloc2_function.specs.Fitting.{MachineFits}
 use Rattle.regalloc2_function.specs.OutputValue.{allocs_of, place_at}
 use Rattle.regalloc2_semantics.specs.Runs.{end_of, IsWrittenFirst, arguments_at}
-use Rattle.regalloc2_semantics.specs.Debug.{HoldsValue, DefinesAt, ReadsAt, UsesAt}
+use Rattle.regalloc2_semantics.specs.Debug.{ShowsValue, DefinesAt, ReadsAt, UsesAt}
 use Rattle.regalloc2_semantics.specs.Sound.{HasSoundBlocks}
 use Rattle.regalloc2_carry.specs.Blocks.{IsUnwritten}
 use Rattle.regalloc2_semantics.specs.Live.{target_at}
@@ -136,7 +136,7 @@ module _ (walk : WholeWalk) (m : IsOutputOfWalk walk.f walk.env (Made walk.f) (M
         unslotted = none;
       }
 
-      shows_at : ComesFirst (inst_at f il).operands v.number ko → HoldsValue f out v (place_at (allocs_of out il) ko)
+      shows_at : ComesFirst (inst_at f il).operands v.number ko → ShowsValue f out v (place_at (allocs_of out il) ko)
       shows_at first = register_shows walk m written v known id d il ko (unslotted first) at is lt greatest
 
     -- a parameter that is used has a slot
@@ -151,13 +151,13 @@ module _ (walk : WholeWalk) (m : IsOutputOfWalk walk.f walk.env (Made walk.f) (M
         (record { block = w.block; within = w.within; unwritten = unwritten; used = inl (il, ko, w.ge, w.less, within, reads, is) }) none
 
     by_maker : Made f v → ((id d : ℕ) → defined.IsDefOperand f v.number id d → ComesFirst (inst_at f il).operands v.number ko) →
-        HoldsValue f out v (place_at (allocs_of out il) ko)
+        ShowsValue f out v (place_at (allocs_of out il) ko)
     by_maker (by_operand id d at e) first = shows_at id d at (first id d at)
     by_maker (Made.by_param b k at e) first = absurd (param_slot b k at)
 
     -- the first of its instruction
     late_shows : (op_at (inst_at f il).operands ko).position ≡ Late → ((k : ℕ) → k < ko → IsReader f v Late (record { inst = il; index = k }) → ⊥) →
-        HoldsValue f out v (place_at (allocs_of out il) ko)
+        ShowsValue f out v (place_at (allocs_of out il) ko)
     late_shows position first = by_maker known (λ id d at. late_first (ap is_late position) (λ j less c late e. elim c.1 [
       | inl def ↦ never_defined id d at il j (sooner id d at) lt c.0 def e
       | inr rd ↦ first j less (record {
@@ -170,7 +170,7 @@ module _ (walk : WholeWalk) (m : IsOutputOfWalk walk.f walk.env (Made walk.f) (M
     ]))
 
     early_shows : (op_at (inst_at f il).operands ko).position ≡ Early → (ReadsAt f v Late il → ⊥) →
-        ((k : ℕ) → k < ko → IsReader f v Early (record { inst = il; index = k }) → ⊥) → HoldsValue f out v (place_at (allocs_of out il) ko)
+        ((k : ℕ) → k < ko → IsReader f v Early (record { inst = il; index = k }) → ⊥) → ShowsValue f out v (place_at (allocs_of out il) ko)
     early_shows position never first = by_maker known (λ id d at. early_first (ap is_late position)
         (λ j less c late e. elim c.1 [
           | inl def ↦ never_defined id d at il j (sooner id d at) lt c.0 def e
@@ -188,7 +188,7 @@ module _ (walk : WholeWalk) (m : IsOutputOfWalk walk.f walk.env (Made walk.f) (M
         ]))
 
   -- if it has no slot
-  operand_shows : {by : Option InstOperand} → IsShownBy f v by → slot_in last v.number ≡ NoPlace → HoldsValue f out v (place_of_operand out by)
+  operand_shows : {by : Option InstOperand} → IsShownBy f v by → slot_in last v.number ≡ NoPlace → ShowsValue f out v (place_of_operand out by)
   operand_shows (by_late_use o most r) none = late_shows o.inst o.index r.reader.inst r.reader.index r.reader.reading r.reader.vreg most.1 none
       r.reader.position r.first
   operand_shows (by_early_use o most never r) none = early_shows o.inst o.index r.reader.inst r.reader.index r.reader.reading r.reader.vreg most.1 none
@@ -208,11 +208,11 @@ module _ (walk : WholeWalk) (m : IsOutputOfWalk walk.f walk.env (Made walk.f) (M
   pub shown : MachineFits f env → SlotsHaveOneOwner last.slots → ((i : ℕ) → i < length f.insts → AreSoundOperands (Made f) (inst_at f i).operands) →
       ReadsAgreeOnPaths f out → (stand : ℕ → VirtualRegister → Option Place) → AreAtBegin env f blank begin last out stand → {by : Option InstOperand} →
       IsShownBy f v by →
-      HoldsValue f out v (shown_place out (slot_name last.slots v.number) by)
+      ShowsValue f out v (shown_place out (slot_name last.slots v.number) by)
   shown fits owned sound_ops agree stand begins {by} is = by_slot (slot_name last.slots v.number) refl
       ((at_walks_end walk (processes_branch_between f)).whole.below v.number)
     where
-      by_slot : (q : Place) → slot_name last.slots v.number ≡ q → IsSlotOrNone last.slots.count q → HoldsValue f out v (shown_place out q by)
+      by_slot : (q : Place) → slot_name last.slots v.number ≡ q → IsSlotOrNone last.slots.count q → ShowsValue f out v (shown_place out q by)
       by_slot NoPlace e below = operand_shows is e
       by_slot (InRegister r) e below = absurd below
       by_slot (InSlot n) e below = left_slot_shows env f ok written last out m owned sound_ops agree v known n e

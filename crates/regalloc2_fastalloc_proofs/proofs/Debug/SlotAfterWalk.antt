@@ -9,10 +9,11 @@ use Rattle.regalloc2_function.specs.Machine.{MachineValue}
 use Rattle.regalloc2_function.specs.OutputValue.{OutputValue}
 use Rattle.regalloc2_semantics.specs.Places.{StandsInSlot}
 use Rattle.regalloc2_semantics.specs.Runs.{Way, Onward, end_of, IsPath, IsWrittenFirst}
-use Rattle.regalloc2_semantics.specs.Debug.{HoldsValue, DefinesAt}
+use Rattle.regalloc2_semantics.specs.Debug.{ShowsValue, DefinesAt}
 use Rattle.regalloc2_function.specs.WellFormed.{DefinedOnce, IsWellFormed}
 use Rattle.regalloc2_semantics.specs.Laws.{ReadsAgreeOnPaths}
-use Rattle.regalloc2_semantics.specs.Live.{IsLive, HasEntered, Undefined}
+use Rattle.regalloc2_carry.specs.Live.{HasEntered}
+use Rattle.regalloc2_semantics.specs.Live.{IsLive, Undefined}
 use Rattle.regalloc2_carry.proofs.SingleDef.{Made, one_made}
 use Rattle.regalloc2_fastalloc_state.specs.StateParts.{SlotsHaveOneOwner, slot_name}
 use Rattle.regalloc2_fastalloc_proofs.specs.InstSteps.{StateValue}
@@ -75,7 +76,7 @@ EnteredShows f out v n = (ws : List Way) → IsPath f ws → HasEntered f ws →
 pub left_slot_shows : (env : MachineValue) (f : FunctionValue) → IsWellFormed env f → IsWrittenFirst f → (t : StateValue) (out : OutputValue) →
     IsOutputOfWalk f env (Made f) (MayInBlocks f) t out → SlotsHaveOneOwner t.slots → ((i : ℕ) → i < length f.insts → AreSoundOperands (Made f) (inst_at f i).operands) →
     ReadsAgreeOnPaths f out → (v : VirtualRegister) → Made f v → (n : ℕ) → slot_name t.slots v.number ≡ InSlot n →
-    DefinedShows f out v n → EnteredShows f out v n → HoldsValue f out v (InSlot n)
+    DefinedShows f out v n → EnteredShows f out v n → ShowsValue f out v (InSlot n)
 left_slot_shows env f ok written t out m owned sound_ops agree v known n mine defined entered = slot_shows_value env f out v n ok written agree (record {
   entered = entered;
   defined = defined;

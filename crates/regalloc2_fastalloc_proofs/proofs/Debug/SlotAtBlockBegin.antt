@@ -7,12 +7,13 @@ use Rattle.regalloc2_names.specs.Place.{Place, NoPlace, InRegister, InSlot, is_m
 use Rattle.regalloc2_function.specs.FunctionValue.{FunctionValue, block_at, inst_at, no_operand, op_at, last_of}
 use Rattle.regalloc2_function.specs.Fitting.{MachineFits}
 use Rattle.regalloc2_function.specs.Machine.{MachineValue}
-use Rattle.regalloc2_function.specs.OutputValue.{OutputValue, MoveValue, allocs_of, moves_before}
+use Rattle.regalloc2_function.specs.Listing.{moves_before}
+use Rattle.regalloc2_function.specs.OutputValue.{OutputValue, MoveValue, allocs_of}
 use Rattle.regalloc2_semantics.specs.Runs.{Way, end_of, IsPath, Stamp, IsWrittenFirst, source_before, Cells, after_moves, cells_before}
 use Rattle.regalloc2_carry.specs.BlockByPoints.{at_point, listed}
-use Rattle.regalloc2_semantics.specs.Live.{Undefined, IsLive, HasEntered}
+use Rattle.regalloc2_semantics.specs.Live.{Undefined, IsLive}
 use Rattle.regalloc2_semantics.specs.Laws.{ReadsAgreeOnPaths}
-use Rattle.regalloc2_carry.specs.Live.{LiveStandInPlaces}
+use Rattle.regalloc2_carry.specs.Live.{LiveStandInPlaces, HasEntered}
 use Rattle.regalloc2_carry.specs.Stores.{store_moves}
 use Rattle.regalloc2_carry.proofs.LiveIn.{live_is_used}
 use Rattle.regalloc2_carry.proofs.Order.{ends_before}

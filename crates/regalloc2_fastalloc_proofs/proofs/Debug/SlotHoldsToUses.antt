@@ -5,7 +5,7 @@ use Rattle.regalloc2_names.specs.Place.{Place}
 use Rattle.regalloc2_function.specs.FunctionValue.{FunctionValue, inst_at}
 use Rattle.regalloc2_function.specs.OutputValue.{OutputValue}
 use Rattle.regalloc2_semantics.specs.Runs.{Way, Onward, ToSuccessor, end_of, IsPath, source_before}
-use Rattle.regalloc2_semantics.specs.Debug.{IsGiven, GoesOn, there, further, HoldsValue, UsesAt}
+use Rattle.regalloc2_semantics.specs.Debug.{IsGiven, GoesOn, there, further, ShowsValue, UsesAt}
 use Rattle.regalloc2_semantics.specs.Live.{Undefined, IsLive, later, IsAside}
 use Rattle.regalloc2_semantics.specs.Laws.{ReadsAgreeOnPaths}
 use Rattle.regalloc2_fastalloc_proofs.specs.Debug.SlotHoldsValue.{IsKeptInSlot, ShowsAt}
@@ -64,7 +64,7 @@ module _ (f : FunctionValue) (out : OutputValue) (v : VirtualRegister) (plain : 
         (kept.written ws path before_it undefined no_branch)
 
     -- the slot holds v's value, as required of debug locations
-    pub slot_holds : HoldsValue f out v p
+    pub slot_holds : ShowsValue f out v p
     slot_holds given w here used s path is_given source on later_on uses no_branch =
         let at_use = plain.uses used path uses in
         let here_path : IsPath f here = start_path here used later_on path in

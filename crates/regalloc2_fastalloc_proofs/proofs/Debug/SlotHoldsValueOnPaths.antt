@@ -7,7 +7,7 @@ use Rattle.regalloc2_function.specs.Machine.{MachineValue}
 use Rattle.regalloc2_function.specs.OutputValue.{OutputValue}
 use Rattle.regalloc2_semantics.specs.Runs.{IsWrittenFirst}
 use Rattle.regalloc2_function.specs.WellFormed.{IsWellFormed}
-use Rattle.regalloc2_semantics.specs.Debug.{HoldsValue}
+use Rattle.regalloc2_semantics.specs.Debug.{ShowsValue}
 use Rattle.regalloc2_semantics.specs.Laws.{ReadsAgreeOnPaths}
 use Rattle.regalloc2_fastalloc_proofs.specs.Debug.SlotWrites.{IsSlotOfValue}
 use Rattle.regalloc2_fastalloc_proofs.proofs.Debug.SlotHoldsToUses.{slot_holds}
@@ -16,7 +16,7 @@ use Rattle.regalloc2_fastalloc_proofs.proofs.Debug.MovesLeaveSlot.{kept_in_slot}
 
 -- in a well-formed function whose reads agree, a vreg's slot holds its value from each write to later uses, but at branches
 pub slot_shows_value : (env : MachineValue) (f : FunctionValue) (out : OutputValue) (v : VirtualRegister) (n : ℕ) → IsWellFormed env f → IsWrittenFirst f →
-    ReadsAgreeOnPaths f out → IsSlotOfValue f out v n → HoldsValue f out v (InSlot n)
+    ReadsAgreeOnPaths f out → IsSlotOfValue f out v n → ShowsValue f out v (InSlot n)
 slot_shows_value env f out v n ok written agree slot =
     slot_holds f out v (plain_function env f ok written v) (InSlot n) agree
     (kept_in_slot f out v n (inst_lt env f ok written v) (next_inside env f ok written v) slot)

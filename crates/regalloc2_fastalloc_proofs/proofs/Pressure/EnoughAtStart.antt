@@ -10,8 +10,8 @@ use Rattle.regalloc2_names.specs.Register.{Register, class_code, has_register}
 use Rattle.regalloc2_names.specs.Operand.{OperandValue}
 use Rattle.regalloc2_names.specs.Place.{Place, NoPlace}
 use Rattle.regalloc2_function.specs.FunctionValue.{FunctionValue, InstValue, no_operand, op_at}
-use Rattle.regalloc2_function.specs.Machine.{MachineValue, is_allocatable, scratch_of, IsFixedStackSlot, count_below, register_number}
-use Rattle.regalloc2_semantics.specs.Fits.{Fits, is_fixed_to}
+use Rattle.regalloc2_function.specs.Machine.{MachineValue, is_allocatable, scratch_of, IsFixedStackSlot, count_below}
+use Rattle.regalloc2_semantics.specs.Fits.{Fits, is_fixed_to, register_number}
 use Rattle.regalloc2_function.specs.Fitting.{MachineFits, NamesClass}
 use Rattle.regalloc2_semantics.proofs.Soundness.{count_at}
 use Rattle.regalloc2_fastalloc_state.specs.declared.inst_regs.InstRegs.{InstRegs}

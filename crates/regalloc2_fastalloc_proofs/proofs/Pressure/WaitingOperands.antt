@@ -10,8 +10,8 @@ use Rattle.regalloc2_names.specs.Register.{Register, class_code, has_register}
 use Rattle.regalloc2_names.specs.Operand.{OperandValue}
 use Rattle.regalloc2_names.specs.Place.{Place, NoPlace, InRegister, is_in_register}
 use Rattle.regalloc2_function.specs.FunctionValue.{InstValue, no_operand, op_at}
-use Rattle.regalloc2_function.specs.Machine.{MachineValue, is_allocatable, count_below, register_number, allocatable_count}
-use Rattle.regalloc2_semantics.specs.Fits.{is_under_reg, is_fixed_to, need_of}
+use Rattle.regalloc2_function.specs.Machine.{MachineValue, is_allocatable, count_below, allocatable_count}
+use Rattle.regalloc2_semantics.specs.Fits.{is_under_reg, is_fixed_to, need_of, register_number}
 use Rattle.regalloc2_fastalloc_proofs.specs.InstSteps.{asks_reg_of_class, asking}
 use Rattle.regalloc2_fastalloc_state.proofs.CountingLaws.{count_union, count_more, count_same, some_count}
 use Rattle.regalloc2_fastalloc_proofs.specs.Pressure.EnoughRegs.{waits, waiting}

@@ -1,8 +1,8 @@
 -- What holds at the walk's end, for operands under every constraint but `Limit`.
 use Rattle.regalloc2_parts.proofs.Resolving.{All-reversed}
-use Rattle.std.proofs.Common.{ℕ, ◌≡◌, ◌≢◌, ◌+◌, ◌-◌, ◌<◌, ◌≤◌, ⊎_elim, inl, inr, Bool, true, false, cond, List, length, drop, reverse, refl, sym, ap, ◌∙◌}
+use Rattle.std.proofs.Common.{ℕ, ◌≡◌, ◌≢◌, ◌+◌, ◌-◌, ◌<◌, ◌≤◌, ⊎_elim, inl, inr, true, false, cond, List, length, drop, reverse, refl, sym, ap, ◌∙◌}
 use Rattle.std.proofs.Common.{subst, arith, nat_eq, eq-eqb, slice_index_or, slice_index}
-use Rattle.std.specs.Prelude.{All, Any as SomeIn, None, Some, sum_by}
+use Rattle.std.specs.Prelude.{All, Any as SomeIn, Some, sum_by}
 use Rattle.std.specs.List.Sorted.{IsNonDecreasingBy}
 use Rattle.std.proofs.lemmas.Bool.{ne_eqb, cases_eq}
 use Rattle.std.proofs.lemmas.List.{get_or-take, get_or-drop, take_all, get_or_default}
@@ -13,12 +13,12 @@ use Rattle.regalloc2_names.specs.declared.OperandConstraint.TheVariants.{Any, Re
 use Rattle.regalloc2_names.specs.declared.RegClass.{RegClass}
 use Rattle.regalloc2_names.specs.Register.{Register, VirtualRegister, invalid_register}
 use Rattle.regalloc2_names.specs.Place.{Place, NoPlace, InRegister, InSlot}
-use Rattle.regalloc2_names.specs.Operand.{OperandValue, fixed_register, nonallocatable_register, is_fixed_nonallocatable}
+use Rattle.regalloc2_names.specs.Operand.{OperandValue, is_fixed_nonallocatable}
 use Rattle.regalloc2_function.specs.FunctionValue.{FunctionValue, inst_at, operand_count, op_at}
 use Rattle.regalloc2_function.specs.Machine.{MachineValue, is_allocatable, scratch_of, IsFixedStackSlot}
-use Rattle.regalloc2_function.specs.OutputValue.{OutputValue, DebugLocation, MoveValue, IsInOrder, alloc_start, alloc_end, allocs_of, place_at}
+use Rattle.regalloc2_function.specs.OutputValue.{OutputValue, DebugLocation, MoveValue, IsInOrder, alloc_end, allocs_of, place_at}
 use Rattle.regalloc2_semantics.specs.Debug.{IsKept}
-use Rattle.regalloc2_semantics.specs.Faithful.{ConstraintsMet, HasNoStackToStack, IsStackToStack, Meets}
+use Rattle.regalloc2_semantics.specs.Faithful.{ConstraintsMet, IsStackToStack, Meets}
 use Rattle.regalloc2_function.specs.Fitting.{MachineFits}
 use Rattle.regalloc2_semantics.specs.Places.{PlacesAreProper, IsProperPlace, IsMoveEnd}
 use Rattle.regalloc2_fastalloc_proofs.specs.InstSteps.{StateValue}
@@ -121,11 +121,11 @@ pub place_is : (f : FunctionValue) (env : MachineValue) (Known : VirtualRegister
     IsOutputOfWalk f env Known May t o → (i : ℕ) → i < length f.insts → (k : ℕ) → k < length (inst_at f i).operands
     → place_at (allocs_of o i) k ≡ slice_index_or o.allocs (offset_of f i + k) NoPlace
 place_is f env Known May t o m i lt k less =
-    let a : alloc_start o i ≡ offset_of f i = m.offsets i lt in
+    let a : slice_index o.offsets i ≡ offset_of f i = m.offsets i lt in
     let b = end_is f env Known May t o m i lt in
     let n = offset_next f i lt in
-    get_or-take (alloc_end o i - alloc_start o i) (drop (alloc_start o i) o.allocs) k NoPlace (omega (arith, a, b, n, less))
-    ∙ get_or-drop (alloc_start o i) o.allocs k NoPlace ∙ ap (λ (j : ℕ). slice_index_or o.allocs (j + k) NoPlace) a
+    get_or-take (alloc_end o i - slice_index o.offsets i) (drop (slice_index o.offsets i) o.allocs) k NoPlace (omega (arith, a, b, n, less))
+    ∙ get_or-drop (slice_index o.offsets i) o.allocs k NoPlace ∙ ap (λ (j : ℕ). slice_index_or o.allocs (j + k) NoPlace) a
 
 -- the place of an operand is good
 pub operand_good : (f : FunctionValue) (env : MachineValue) (Known : VirtualRegister → Type 0) (May : ℕ → Type 0) (t : StateValue) (o : OutputValue) →
@@ -193,11 +193,6 @@ pub slots_below : (f : FunctionValue) (env : MachineValue) (Known : VirtualRegis
     IsOutputOfWalk f env Known May t o → AreBelow t.slots o.num_spillslots
 slots_below f env Known May t o m = subst (AreBelow t.slots) (sym m.count) m.kept.safe.slots
 
--- the register of an operand that names no vreg
-names_register : (b : Bool) (c : OperandConstraint) (r : Register) → cond b (fixed_register c) None ≡ Some r → c ≡ FixedReg r
-names_register true (FixedReg q) r e = (let same : q ≡ r = cc in ap FixedReg same)
-names_register b c r e = absurd cc
-
 -- in an output made of the final state operands and moves have valid places
 pub made_proper : (f : FunctionValue) (env : MachineValue) (Known : VirtualRegister → Type 0) (May : ℕ → Type 0) (t : StateValue) (o : OutputValue) →
     IsOutputOfWalk f env Known May t o → PlacesAreProper f env o
@@ -208,12 +203,6 @@ made_proper f env Known May t o m = record {
       subst (λ (x : OperandValue). IsProperPlace env o x.vreg.class (place_at (allocs_of o i) k)) (sym same)
       (proper_place env o t.slots (op_at ops k).vreg (place_at (allocs_of o i) k) (slots_below f env Known May t o m)
       ((operand_good f env Known May t o m i lt k less).place (ap is_fixed_nonallocatable (sym same) ∙ named)));
-  nonallocatable = λ i lt k d less r names.
-      let ops : List OperandValue = (inst_at f i).operands in
-      let same : slice_index_or ops k d ≡ op_at ops k = get_or_default ops k d _ less in
-      let x : OperandValue = op_at ops k in
-      let fixed : x.constraint ≡ FixedReg r = names_register (nat_eq x.vreg.number 1073741823) x.constraint r (ap nonallocatable_register (sym same) ∙ names) in
-      subst (λ (c : OperandConstraint). MeetsByItself env c (place_at (allocs_of o i) k)) fixed (operand_good f env Known May t o m i lt k less).meets;
   moves = each_edit f env Known May t o (λ e. IsMoveEnd env o e.1.from × IsMoveEnd env o e.1.to) m (λ e s. elim s.moves [
     | inl v ↦ (
       move_end env o t.slots v.vreg e.1.from (slots_below f env Known May t o m) v.from,
@@ -225,5 +214,5 @@ made_proper f env Known May t o m = record {
 
 -- no move of an output made of the final state is stack-to-stack
 pub made_in_registers : (f : FunctionValue) (env : MachineValue) (Known : VirtualRegister → Type 0) (May : ℕ → Type 0) (t : StateValue) (o : OutputValue) →
-    IsOutputOfWalk f env Known May t o → HasNoStackToStack env o
+    IsOutputOfWalk f env Known May t o → All (λ e. IsStackToStack env e.1 → ⊥) o.edits
 made_in_registers f env Known May t o m = each_edit f env Known May t o (λ e. IsStackToStack env e.1 → ⊥) m (λ e s. s.not_both)

@@ -8,7 +8,8 @@ use Rattle.std.proofs.lemmas.List.Elements.{All-contains, All-contains_itself, A
 use Rattle.regalloc2_names.specs.declared.RegClass.{RegClass}
 use Rattle.regalloc2_names.specs.Register.{Register, is_register}
 use Rattle.regalloc2_names.specs.Same.{is_register-same, is_register-true}
-use Rattle.regalloc2_function.specs.Machine.{count_below, register_number}
+use Rattle.regalloc2_semantics.specs.Fits.{register_number}
+use Rattle.regalloc2_function.specs.Machine.{count_below}
 use Rattle.regalloc2_fastalloc_state.specs.Choice.{chosen}
 
 -- a list without a given register

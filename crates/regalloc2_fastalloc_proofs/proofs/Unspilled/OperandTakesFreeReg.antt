@@ -13,7 +13,8 @@ use Rattle.regalloc2_names.specs.declared.sets.PRegSet.{PRegSet}
 use Rattle.regalloc2_names.specs.Register.{Register, VirtualRegister, is_register, has_register}
 use Rattle.regalloc2_names.specs.Place.{Place, NoPlace, InRegister}
 use Rattle.regalloc2_names.specs.Same.{is_register-true}
-use Rattle.regalloc2_function.specs.Machine.{count_below, register_number}
+use Rattle.regalloc2_semantics.specs.Fits.{register_number}
+use Rattle.regalloc2_function.specs.Machine.{count_below}
 use Rattle.regalloc2_fastalloc_state.specs.declared.request.OperandRequest.{OperandRequest}
 use Rattle.regalloc2_fastalloc_state.specs.declared.request.Requirement.{Requirement}
 use Rattle.regalloc2_fastalloc_state.specs.declared.request.Requirement.TheVariants.{AnyPlace, AnyReg, InMemory, InPReg}

@@ -8,7 +8,8 @@ use Rattle.regalloc2_semantics.specs.Runs.{Way, Onward, end_of, IsPath, source_b
 use Rattle.regalloc2_names.specs.Operand.{is_reading}
 use Rattle.regalloc2_semantics.specs.Debug.{DefinesAt}
 use Rattle.regalloc2_carry.specs.Carry.{Spares}
-use Rattle.regalloc2_semantics.specs.Live.{Undefined, IsLive, HasEntered}
+use Rattle.regalloc2_carry.specs.Live.{HasEntered}
+use Rattle.regalloc2_semantics.specs.Live.{Undefined, IsLive}
 use Rattle.regalloc2_carry.proofs.UnwrittenPlaces.{NoMoveTo}
 
 -- an operand of an instruction reads v in a place

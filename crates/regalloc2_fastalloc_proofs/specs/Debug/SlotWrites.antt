@@ -7,7 +7,8 @@ use Rattle.regalloc2_function.specs.OutputValue.{OutputValue}
 use Rattle.regalloc2_semantics.specs.Runs.{Way, Onward, end_of, IsPath}
 use Rattle.regalloc2_semantics.specs.Debug.{DefinesAt}
 use Rattle.regalloc2_semantics.specs.Places.{StandsInSlot}
-use Rattle.regalloc2_semantics.specs.Live.{Undefined, IsLive, HasEntered}
+use Rattle.regalloc2_carry.specs.Live.{HasEntered}
+use Rattle.regalloc2_semantics.specs.Live.{Undefined, IsLive}
 use Rattle.regalloc2_names.specs.Operand.{is_def}
 use Rattle.regalloc2_fastalloc_proofs.specs.StoreSteps.{IsStoredAt}
 use Rattle.regalloc2_fastalloc_proofs.specs.Debug.SlotHoldsValue.{ReadsInPlace, ShowsAt}

@@ -254,8 +254,8 @@ module _ (f : FunctionValue) (out : OutputValue) (meaning : InstMeaning) (noise 
 
 pub faithful_run_alike : FaithfulRunAlike
 faithful_run_alike f env out early ok meaning noise virtual held n =
-    let all : (ws : List Way) → IsPath f ws → AllFound f out meaning noise ws = λ ws p. all_found f out meaning noise ws early p (ok ws p).reads in
+    let all : (ws : List Way) → IsPath f ws → AllFound f out meaning noise ws = λ ws p. all_found f out meaning noise ws early p (ok.reads ws p) in
     alike f out meaning noise _ _ (along f out meaning noise all virtual held n)
 
 pub well_formed_run_alike : AgreeingReadsFindEarlier → WellFormedRunAlike
-well_formed_run_alike law f env out well ok = faithful_run_alike f env out (law env f out well (λ ws p. (ok ws p).reads)) ok
+well_formed_run_alike law f env out well ok = faithful_run_alike f env out (law env f out well ok.reads) ok

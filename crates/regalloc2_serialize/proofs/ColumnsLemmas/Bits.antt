@@ -8,8 +8,8 @@ use Rattle.std.proofs.Math.Nat.{pow-zero, pow-succ', mul_left_comm}
 use Rattle.std.proofs.lemmas.Nat.Bits.{bit_at-suc, bit_at_lowest, bit_at_above}
 use Rattle.regalloc2_names.specs.declared.RegClass.{RegClass}
 use Rattle.regalloc2_names.specs.declared.RegClass.TheVariants.{Int, Float, Vector}
-use Rattle.regalloc2_names.specs.Register.{Register, words_have}
-use Rattle.regalloc2_names.specs.RegisterBits.{bits_of_register}
+use Rattle.regalloc2_names.specs.Register.{Register}
+use Rattle.regalloc2_names.specs.RegisterBits.{bits_of_register, words_have}
 use Rattle.regalloc2_serialize.specs.Flat.Columns.Value.{is_bit_set, long_at}
 
 halved : (a m n : ℕ) → n ≡ 2 * m → (a + n) / 2 ≡ a / 2 + m

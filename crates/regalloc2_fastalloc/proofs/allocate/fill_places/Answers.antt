@@ -18,7 +18,7 @@ use Rattle.regalloc2_carry.proofs.SingleDef.{Made}
 use Rattle.regalloc2_semantics.proofs.Faithful.{faithful}
 use Rattle.regalloc2_analysis.proofs.LiveRangesLemmas.UsesInSSA.{well_formed_ssa}
 use Rattle.regalloc2_fastalloc_state.specs.OutOfResources.{Lacks, SlotsExhaustedWith}
-use Rattle.regalloc2_fastalloc.specs.Promise.{LiveInSlots, ShowsLabels, SlotsAreBounded, HasRegistersForAll}
+use Rattle.regalloc2_fastalloc.specs.Promise.{LiveInSlots, ShowsLabels, HasRegistersForAll}
 use Rattle.regalloc2_fastalloc.specs.Survey.{SomeDoesNotFit}
 use Rattle.regalloc2_semantics.specs.Places.{units_at_most}
 use Rattle.regalloc2_fastalloc_proofs.specs.InstSteps.{StateValue}
@@ -310,7 +310,8 @@ few_lent f begun left n by_last most slots machine =
     let num_temp_slots = machine.num_temp_slots in
     omega (arith, none, num_temp_slots)
 
-slots_are : (g : Over) (c : goal.After-reads_the_same_numbers g) → SlotsAreBounded (g.F.Function.function c.args.f.now) (out_of g c)
+slots_are : (g : Over) (c : goal.After-reads_the_same_numbers g) → ((out_of g c).num_spillslots ≤ 2 ^ 24)
+    × ((out_of g c).num_spillslots ≤ units_at_most (g.F.Function.function c.args.f.now))
 slots_are g c =
     let f : FunctionValue = g.F.Function.function c.args.f.now in
     let begin : StateValue = tables_of c.in_ok-state.state in

@@ -1,7 +1,7 @@
 use Rattle.std.proofs.Common.{◌≡◌, ◌&&◌, Bool, true, false, ◌∙◌, sym, ap}
 use Rattle.std.proofs.lemmas.Bool.{and_parts}
 use Rattle.regalloc2_names.specs.Register.{invalid_register, has_register}
-use Rattle.regalloc2_function.specs.Machine.{is_preferred, is_non_preferred}
+use Rattle.regalloc2_function.specs.Machine.{set_of}
 use Rattle.regalloc2_function.specs.Views.{machine_of}
 use Rattle.regalloc2_function.proofs.machine.MachineEnv.test_registers.Goals as goal
 
@@ -13,7 +13,8 @@ pub returns-in-Some-register_in-clause-misfit : goal.returns-in-Some-register_in
 returns-in-Some-register_in-clause-misfit g c = λ f before.
     let env = machine_of c.args.self.now in
     let of_class = c.in_default.ensures in
-    let twice = and_parts (is_preferred env c.args.class c.in-Some-register_in.reg) (is_non_preferred env c.args.class c.in-Some-register_in.reg)
+    let twice = and_parts (has_register (set_of env.preferred c.args.class) c.in-Some-register_in.reg)
+    (has_register (set_of env.non_preferred c.args.class) c.in-Some-register_in.reg)
     (sym (c.listed_twice.ensures c.in-Some-register_in.reg) ∙ c.in-Some-register_in.ensures) in
     (before, λ r h. of_class r (c.allocatable-allocatable.ensures r ∙ h), twice.0, twice.1)
 
@@ -22,7 +23,7 @@ returns-then-contains-clause-misfit g c = λ f before.
     let env = machine_of c.args.self.now in (
       before,
       λ r h. c.in_default.ensures r (c.allocatable-allocatable.ensures r ∙ h),
-      λ r. not_both (is_preferred env c.args.class r) (is_non_preferred env c.args.class r)
+      λ r. not_both (has_register (set_of env.preferred c.args.class) r) (has_register (set_of env.non_preferred c.args.class) r)
           (sym (c.listed_twice.ensures r) ∙ c.in_default-register_in.ensures r),
       sym (c.allocatable-allocatable.ensures invalid_register) ∙ ap (has_register c.allocatable-allocatable.result) (sym c.invalid.ensures)
           ∙ sym c.contains.ensures.member ∙ c.if-contains.true,
@@ -33,7 +34,7 @@ returns-clause-ok g c =
     let env = machine_of c.args.self.now in
     record {
       of_class = λ r h. c.in_default.ensures r (c.allocatable-allocatable.ensures r ∙ h);
-      listed_once = λ r. not_both (is_preferred env c.args.class r) (is_non_preferred env c.args.class r)
+      listed_once = λ r. not_both (has_register (set_of env.preferred c.args.class) r) (has_register (set_of env.non_preferred c.args.class) r)
           (sym (c.listed_twice.ensures r) ∙ c.in_default-register_in.ensures r);
       valid = sym (c.allocatable-allocatable.ensures invalid_register) ∙ ap (has_register c.allocatable-allocatable.result) (sym c.invalid.ensures)
           ∙ sym c.contains.ensures.member ∙ c.if-contains.false;
