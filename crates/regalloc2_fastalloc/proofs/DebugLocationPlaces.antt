@@ -9,7 +9,7 @@ use Rattle.std.proofs.lemmas.List.Sorted.{All-permutation}
 use Rattle.regalloc2_names.specs.Operand.{OperandValue, is_fixed, is_fixed_nonallocatable}
 use Rattle.regalloc2_names.specs.Place.{Place, NoPlace, InRegister, InSlot, is_no_place}
 use Rattle.regalloc2_names.specs.Register.{VirtualRegister}
-use Rattle.regalloc2_function.specs.FunctionValue.{FunctionValue, IsLimited, Label, inst_at, no_operand, op_at, op_at as operand_at}
+use Rattle.regalloc2_function.specs.FunctionValue.{FunctionValue, IsLimited, Label, inst_at, op_at, op_at as operand_at}
 use Rattle.regalloc2_function.specs.Machine.{MachineValue}
 use Rattle.regalloc2_function.specs.OutputValue.{DebugLocation, OutputValue}
 use Rattle.regalloc2_semantics.specs.Runs.{IsWrittenFirst}
@@ -93,10 +93,7 @@ module _ (env : MachineValue) (f : FunctionValue) (limited : IsLimited f) (ok : 
       inl (
         o.inst,
         o.index,
-        no_operand,
-        h.0,
-        h.1,
-        h.2,
+        h,
         place_is f env (Made f) May t out m o.inst h.0 o.index h.1
             ∙ ap (λ (n : ℕ). slice_index_or out.allocs (n + o.index) NoPlace) (sym (m.offsets o.inst h.0)),
       ))

@@ -124,7 +124,7 @@ module _ (walk : WholeWalk) (taken : AreTaken walk.f) (in_place : (i : ℕ) → 
       ((i : ℕ) → i < length f.insts → AreSoundOperands (Made f) (inst_at f i).operands) → IsWrittenFirst f → LiveInSlots f out owns.owned.owner
   made_in_slots owns owned sound_ops written = record {
     slot = λ v. number_of (slot_in last v.number);
-    operands = λ v n h. ap number_of (owner_known f env (Made f) (MayInBlocks f) last out m owned sound_ops v n h).1;
+    operands = λ v i k n names is. ap number_of (owner_known f env (Made f) (MayInBlocks f) last out m owned sound_ops v n i k names is).1;
     owned = λ ws path entered v live.
         let used = live_is_used env f ok written ws path entered v live in
         owns.vregs v (number_of (slot_in last v.number)) (used_made f ok.defined_once ok.follow ok.uses_defined v used.block used.within used.used)

@@ -13,9 +13,9 @@ use Rattle.regalloc2_function.specs.OutputValue.{OutputValue, IsInOrder, allocs_
 use Rattle.regalloc2_semantics.specs.Runs.{Way, end_of, IsPath, IsWrittenFirst, arguments_at}
 use Rattle.regalloc2_semantics.specs.Faithful.{ConstraintsMet, EditsAreListed, HasNoStackToStack, IsFaithful}
 use Rattle.regalloc2_semantics.specs.Debug.{HoldsValue as ShowsValue, AreDebugLocations}
-use Rattle.regalloc2_semantics.specs.Places.{IsProperPlace, PlacesAreProper, Owner, OfVReg, OfBranch, IsSlotOf, AreSlotsOwned, StandsInSlot, units_at_most}
+use Rattle.regalloc2_semantics.specs.Places.{IsProperPlace, PlacesAreProper, Owner, OfVReg, OfBranch, IsSlotOf, AreSlotsOwned, units_at_most}
 use Rattle.regalloc2_semantics.specs.Values.{Meaning, SameNumbers, numbers, source_reads}
-use Rattle.regalloc2_semantics.specs.Live.{DefinesNumber, IsEdgeInto, IsLive, HasEntered, HoldsValueAt}
+use Rattle.regalloc2_semantics.specs.Live.{NamesAt, DefinesNumber, IsEdgeInto, IsLive, HasEntered, HoldsValueAt}
 
 -- on every path each use of the function reads a number, whatever the instructions compute
 abbrev pub ReadsNumbers : FunctionValue → Type 0
@@ -52,7 +52,7 @@ pub data ArrivesAt (f : FunctionValue) (out : OutputValue) (slot : VirtualRegist
 -- on every path, where it comes to a block, each vreg that is live there owns its slot, and its place holds its value; so do the block's parameters.
 pub record LiveInSlots (f : FunctionValue) (out : OutputValue) (owner : ℕ → Owner) : Type 0 where
   pub slot : VirtualRegister → ℕ
-  pub operands : (v : VirtualRegister) (n : ℕ) → StandsInSlot f out v n → slot v ≡ n
+  pub operands : (v : VirtualRegister) (i k n : ℕ) → NamesAt f v i k → place_at (allocs_of out i) k ≡ InSlot n → slot v ≡ n
   pub owned : (ws : List Way) → IsPath f ws → HasEntered f ws → (v : VirtualRegister) → IsLive f v (end_of f ws) → owner (slot v) ≡ OfVReg v
   pub live : (ws : List Way) → IsPath f ws → HasEntered f ws → (v : VirtualRegister) → IsLive f v (end_of f ws) → (p : Place) →
       ArrivesAt f out slot (end_of f ws).block v p → HoldsValueAt f out ws p v
@@ -73,14 +73,9 @@ pub record ServesBranch (out : OutputValue) (n i time : ℕ) : Type 0 where
 abbrev pub BranchSlotsServe : FunctionValue → OutputValue → (ℕ → Owner) → Type 0
 BranchSlotsServe f out owner = (n i : ℕ) (class : RegClass) (time : ℕ) → IsSlotOf out n → owner n ≡ OfBranch i class time → ServesBranch out n i time
 
--- an operand that names the vreg has the place
-abbrev pub IsPlaceOfOperand : FunctionValue → OutputValue → VirtualRegister → Place → Type 0
-IsPlaceOfOperand f out v p = (i k : ℕ) × (d : OperandValue) × (i < length f.insts) × (k < length (inst_at f i).operands)
-    × ((slice_index_or (inst_at f i).operands k d).vreg ≡ v) × (place_at (allocs_of out i) k ≡ p)
-
 -- A place of a vreg: an operand that names it is there, or it is the slot that it owns.
 abbrev pub IsPlaceOf : FunctionValue → OutputValue → (ℕ → Owner) → VirtualRegister → Place → Type 0
-IsPlaceOf f out owner v p = IsPlaceOfOperand f out v p ⊎ ((n : ℕ) × (p ≡ InSlot n) × (owner n ≡ OfVReg v))
+IsPlaceOf f out owner v p = ((i k : ℕ) × NamesAt f v i k × (place_at (allocs_of out i) k ≡ p)) ⊎ ((n : ℕ) × (p ≡ InSlot n) × (owner n ≡ OfVReg v))
 
 -- There is a debug location for each label that is kept, each from its vreg's first point to its last one, by rising label, and as listed where
 -- labels are equal. Each place is valid, and one of that vreg; and if no path from the entry reads or passes a vreg before writing it, it holds that
@@ -88,10 +83,6 @@ IsPlaceOf f out owner v p = IsPlaceOfOperand f out v p ⊎ ((n : ℕ) × (p ≡ 
 abbrev pub ShowsLabels : FunctionValue → MachineValue → OutputValue → (ℕ → Owner) → Type 0
 ShowsLabels f env out owner = AreDebugLocations f (λ l d. IsProperPlace env out l.vreg.class d.place × IsPlaceOf f out owner l.vreg d.place
     × (IsWrittenFirst f → ShowsValue f out l.vreg d.place)) out
-
--- an operand of the function names the vreg
-abbrev pub IsNamed : FunctionValue → VirtualRegister → Type 0
-IsNamed f v = (i k : ℕ) × (i < length f.insts) × (k < length (inst_at f i).operands) × ((op_at (inst_at f i).operands k).vreg ≡ v)
 
 abbrev pub have_same_number : VirtualRegister → VirtualRegister → Bool
 have_same_number v w = nat_eq v.number w.number
@@ -102,7 +93,7 @@ pub record HasRegistersForAll (f : FunctionValue) (env : MachineValue) : Type 0 
   pub one_block : length f.blocks ≡ 1
   pub under_reg : (i k : ℕ) → i < length f.insts → k < length (inst_at f i).operands → (op_at (inst_at f i).operands k).constraint ≡ Reg
   pub no_clobbers : (i : ℕ) (r : Register) → i < length f.insts → has_register (inst_at f i).clobbers r ≡ false
-  pub enough : (class : RegClass) (vs : List VirtualRegister) → IsDistinct have_same_number vs → All (λ v. (v.class ≡ class) × IsNamed f v) vs →
+  pub enough : (class : RegClass) (vs : List VirtualRegister) → IsDistinct have_same_number vs → All (λ v. (v.class ≡ class) × ((i k : ℕ) × NamesAt f v i k)) vs →
       length vs ≤ allocatable_count env class
 
 -- The whole guarantee about an output. Only `faithful`, `live` and the last part of `labels` have a premise: that no path from the entry reads or

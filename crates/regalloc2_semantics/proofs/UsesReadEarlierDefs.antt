@@ -8,7 +8,7 @@ use Rattle.regalloc2_names.specs.declared.OperandPos.TheVariants.{Early, Late}
 use Rattle.regalloc2_names.specs.Operand.{OperandValue}
 use Rattle.regalloc2_names.specs.Place.{before}
 use Rattle.regalloc2_names.specs.Register.{VirtualRegister, is_vreg}
-use Rattle.regalloc2_function.specs.FunctionValue.{FunctionValue, InstValue, block_at, inst_at, no_inst}
+use Rattle.regalloc2_function.specs.FunctionValue.{FunctionValue, InstValue, block_at, inst_at, no_inst, no_operand, op_at}
 use Rattle.regalloc2_semantics.specs.Runs.{Way, Onward, ToSuccessor, Location, end_of, last_inst, IsPath, Stamp, read_of, source_before, source_after}
 use Rattle.regalloc2_semantics.specs.Runs.{source_read}
 use Rattle.regalloc2_function.specs.WellFormed.{DefinedOnce, IsDefinedBy}
@@ -62,21 +62,21 @@ the_write (Some s) h = (s, refl)
 
 -- in a well-formed function, a use that finds a write on a path finds the write of an earlier step
 pub well_formed_read_earlier : SourceIsEarlier → WellFormedReadEarlier
-well_formed_read_earlier earlier env f ok ws p written k d lt reads =
-    let o : OperandValue = slice_index_or (last_inst f ws).operands k d in
+well_formed_read_earlier earlier env f ok ws p written k lt reads =
+    let o : OperandValue = op_at (last_inst f ws).operands k in
     let i : ℕ = (end_of f ws).inst in
     let at = inside f (well_formed_are_sound env f ok) ws p in
-    let by : IsDefinedBy f o.vreg (before i) = (ok.uses_defined (end_of f ws).block at.block).0 i at.first at.end k d lt reads in
+    let by : IsDefinedBy f o.vreg (before i) = (ok.uses_defined (end_of f ws).block at.block).0 i at.first at.end k no_operand lt reads in
     let gone : Undefined (inst_at f i).operands o.vreg = not_here f ok.defined_once i o.vreg (has_operands f i k lt) by in
     let same : source_after f ws o.vreg ≡ source_before f ws o.vreg = after_defs-other (last_inst f ws).operands (length ws) 0 (source_before f ws) o.vreg
     gone in
     let read : source_read f ws o ≡ source_before f ws o.vreg = read_is o.position (source_before f ws o.vreg) (source_after f ws o.vreg) same in
-    let w = the_write (source_read f ws o) (written k d lt reads) in
+    let w = the_write (source_read f ws o) (written k lt reads) in
     (w.0, w.1, earlier f ws o.vreg w.0 (sym read ∙ w.1))
 
 -- in a well-formed function, where reads agree on every path, each use reads the write of an earlier step
 pub agreeing_reads_find_earlier : SourceIsEarlier → AgreeingReadsFindEarlier
-agreeing_reads_find_earlier earlier env f out ok agree ws p = well_formed_read_earlier earlier env f ok ws p (λ k d lt reads. (agree ws p k d lt reads).0)
+agreeing_reads_find_earlier earlier env f out ok agree ws p = well_formed_read_earlier earlier env f ok ws p (λ k lt reads. (agree ws p k lt reads).0)
 
 -- in a well-formed function whose uses all find a write, reads agree if both runs read the same numbers whatever the instructions compute
 pub agrees_by_numbers : SourceIsEarlier → NumbersGiveReads → ReadsAgreeWhereNumbersDo

@@ -3,31 +3,23 @@
 -- The points are as in upstream's `vreg_to_live_inst_range`; the definition of holding the value is this project's own.
 -- `run` guarantees `AreDebugLocations`, with valid places (`IsProperPlace`) of the labels' vregs; they hold their vregs' values if no path from
 -- the entry reads or passes a vreg before writing it (`ShowsLabels`).
-use Rattle.std.specs.Prelude.{ℕ, ◌≡◌, ◌+◌, ◌/◌, ◌<◌, ◌≤◌, ◌⊎◌, true, List, [], ◌∷◌, Contains, length, IsPermutation, slice_index_or, false, slice_index, Some}
+use Rattle.std.specs.Prelude.{ℕ, ◌≡◌, ◌+◌, ◌/◌, ◌<◌, ◌≤◌, ◌⊎◌, List, [], ◌∷◌, Contains, length, IsPermutation, slice_index_or, false, slice_index, Some}
 use Rattle.std.specs.Ordering.{nat_cmp}
 use Rattle.std.specs.List.Sorted.{IsNonDecreasingBy, IsStableByKey}
-use Rattle.regalloc2_names.specs.declared.OperandPos.{OperandPos}
 use Rattle.regalloc2_names.specs.declared.OperandPos.TheVariants.{Early, Late}
-use Rattle.regalloc2_names.specs.Operand.{OperandValue, is_def, is_reading}
 use Rattle.regalloc2_names.specs.Register.{VirtualRegister}
 use Rattle.regalloc2_names.specs.Place.{before, after, Place}
 use Rattle.regalloc2_function.specs.FunctionValue.{FunctionValue, Label, block_at, inst_at, last_of}
 use Rattle.regalloc2_function.specs.OutputValue.{OutputValue, DebugLocation}
 use Rattle.regalloc2_semantics.specs.Runs.{Way, Onward, ToSuccessor, end_of, IsPath, Stamp, source_before, after_moves, moves_at, cells_before}
+use Rattle.regalloc2_semantics.specs.Live.{DefinesAt, ReadsAt}
 
--- An instruction defines v, or reads it at a position, or passes it. A branch that passes what it defines itself doesn't count.
-abbrev pub DefinesAt : FunctionValue → VirtualRegister → ℕ → Type 0
-DefinesAt f v i = (i < length f.insts) × ((k : ℕ) × (o : OperandValue) × (k < length (inst_at f i).operands) × (slice_index_or (inst_at f i).operands k o ≡ o)
-    × (is_def o.kind ≡ true) × (o.vreg ≡ v))
-
-abbrev pub ReadsAt : FunctionValue → VirtualRegister → OperandPos → ℕ → Type 0
-ReadsAt f v position i = (i < length f.insts) × ((k : ℕ) × (o : OperandValue) × (k < length (inst_at f i).operands)
-    × (slice_index_or (inst_at f i).operands k o ≡ o) × (is_reading o ≡ true) × (o.position ≡ position) × (o.vreg ≡ v))
-
+-- the instruction i passes v on an edge; one that defines v itself doesn't count
 abbrev pub PassesAt : FunctionValue → VirtualRegister → ℕ → Type 0
 PassesAt f v i = (b k : ℕ) × (b < length f.blocks) × (i ≡ last_of (block_at f b)) × (k < length (block_at f b).succs)
     × Contains (slice_index_or (block_at f b).arguments k []) v × (DefinesAt f v i → ⊥)
 
+-- the instruction i reads or passes v
 abbrev pub UsesAt : FunctionValue → VirtualRegister → ℕ → Type 0
 UsesAt f v i = ReadsAt f v Early i ⊎ ReadsAt f v Late i ⊎ PassesAt f v i
 

@@ -1,12 +1,26 @@
--- The vregs that are live where a path comes to an instruction, the places that hold their values, and the edges out of branches with
--- definitions.
+-- The instructions that define or read a vreg, the vregs that are live where a path comes to an instruction, the places that hold their values,
+-- and the edges out of branches with definitions.
 use Rattle.std.specs.Prelude.{ℕ, ◌<◌, Bool, false, ◌||◌, List, [], ◌∷◌, length, slice_index, ◌≡◌, true, IsSome, Contains}
+use Rattle.regalloc2_names.specs.declared.OperandPos.{OperandPos}
 use Rattle.regalloc2_names.specs.Register.{VirtualRegister, is_vreg}
 use Rattle.regalloc2_names.specs.Operand.{OperandValue, is_def, is_reading}
 use Rattle.regalloc2_names.specs.Place.{Place}
 use Rattle.regalloc2_function.specs.FunctionValue.{FunctionValue, block_at, op_at, inst_at, last_of}
 use Rattle.regalloc2_function.specs.OutputValue.{OutputValue}
 use Rattle.regalloc2_semantics.specs.Runs.{Way, Onward, ToSuccessor, Location, end_of, next_of, HasWay, arguments_at, source_before, cells_before}
+
+-- the operand k of the instruction i names v
+abbrev pub NamesAt : FunctionValue → VirtualRegister → ℕ → ℕ → Type 0
+NamesAt f v i k = (i < length f.insts) × (k < length (inst_at f i).operands) × ((op_at (inst_at f i).operands k).vreg ≡ v)
+
+-- an operand of the instruction i defines v
+abbrev pub DefinesAt : FunctionValue → VirtualRegister → ℕ → Type 0
+DefinesAt f v i = (k : ℕ) × NamesAt f v i k × (is_def (op_at (inst_at f i).operands k).kind ≡ true)
+
+-- an operand of the instruction i reads v at the position
+abbrev pub ReadsAt : FunctionValue → VirtualRegister → OperandPos → ℕ → Type 0
+ReadsAt f v position i = (k : ℕ) × NamesAt f v i k × (is_reading (op_at (inst_at f i).operands k) ≡ true)
+    × ((op_at (inst_at f i).operands k).position ≡ position)
 
 -- whether a list names a vreg
 unfoldable pub names : VirtualRegister → List VirtualRegister → Bool

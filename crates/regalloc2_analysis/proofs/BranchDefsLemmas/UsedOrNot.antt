@@ -2,16 +2,16 @@
 use Rattle.std.proofs.Common.{ℕ, zero, suc, ◌≡◌, ◌<◌, ◌⊎◌, inl, inr, Bool, true, false, [], length, refl, sym, ap, ◌∙◌, subst, arith}
 use Rattle.std.specs.Prelude.{slice_index_or}
 use Rattle.std.proofs.lemmas.Bool.{cases_eq, cases_lt}
-use Rattle.std.proofs.lemmas.List.{get_or_default}
 use Rattle.regalloc2_names.specs.declared.OperandPos.{OperandPos}
 use Rattle.regalloc2_names.specs.declared.OperandPos.TheVariants.{Early, Late}
-use Rattle.regalloc2_names.specs.Operand.{OperandValue, is_def, is_reading}
+use Rattle.regalloc2_names.specs.Operand.{is_def, is_reading}
 use Rattle.regalloc2_names.specs.Register.{VirtualRegister, is_vreg}
-use Rattle.regalloc2_function.specs.FunctionValue.{FunctionValue, block_at, inst_at, no_operand, last_of, op_at}
-use Rattle.regalloc2_semantics.specs.Debug.{DefinesAt, ReadsAt, UsesAt}
+use Rattle.regalloc2_function.specs.FunctionValue.{FunctionValue, block_at, inst_at, last_of, op_at}
+use Rattle.regalloc2_semantics.specs.Live.{DefinesAt, ReadsAt}
+use Rattle.regalloc2_semantics.specs.Debug.{UsesAt}
 use Rattle.regalloc2_semantics.proofs.Cells.{is_vreg-true, is_vreg-same}
 use Rattle.regalloc2_analysis.specs.BranchDefs.BranchDefs.{IsUsedElsewhere}
-use Rattle.regalloc2_analysis.proofs.BranchDefsLemmas.UseNotes.{reads_here, reads_within}
+use Rattle.regalloc2_analysis.proofs.BranchDefsLemmas.UseNotes.{reads_here}
 
 -- a statement holds, or it doesn't
 abbrev pub Decided : Type 0 → Type 0
@@ -96,19 +96,13 @@ some_passes f v b = below (PassesOnEdge f v b) (λ k. both _ _
 
 -- a definition at an instruction, as one of its operands, and back
 defines_of : (f : FunctionValue) (v : VirtualRegister) (i : ℕ) → DefinesAt f v i → SomeDefines f v i
-defines_of f v i d =
-    let is : op_at (inst_at f i).operands d.1.0 ≡ d.1.1 = reads_within (inst_at f i).operands d.1.0 d.1.2 d.1.1 d.1.3 in
-    (d.0, (d.1.0, d.1.2, (ap (λ (o : OperandValue). is_def o.kind) is ∙ d.1.4, ap (λ (o : OperandValue). o.vreg) is ∙ d.1.5)))
+defines_of f v i d = (d.1.0, (d.0, d.1.1, (d.2, d.1.2)))
 
 defines_at : (f : FunctionValue) (v : VirtualRegister) (i : ℕ) → SomeDefines f v i → DefinesAt f v i
-defines_at f v i s =
-    let o : OperandValue = op_at (inst_at f i).operands s.1.0 in
-    (s.0, (s.1.0, o, s.1.1, get_or_default (inst_at f i).operands s.1.0 o no_operand s.1.1, s.1.2.0, s.1.2.1))
+defines_at f v i s = (s.1.0, (s.0, s.1.1, s.1.2.1), s.1.2.0)
 
 reads_of : (f : FunctionValue) (v : VirtualRegister) (p : OperandPos) (i : ℕ) → ReadsAt f v p i → SomeReads f v i
-reads_of f v p i r =
-    let is : op_at (inst_at f i).operands r.1.0 ≡ r.1.1 = reads_within (inst_at f i).operands r.1.0 r.1.2 r.1.1 r.1.3 in
-    (r.1.0, r.1.2, (ap is_reading is ∙ r.1.4, ap (λ (o : OperandValue). o.vreg) is ∙ r.1.6))
+reads_of f v p i r = (r.0, r.1.1, (r.2, r.1.2))
 
 -- an instruction that reads v uses it
 pub by_read : (f : FunctionValue) (v : VirtualRegister) → ((i : ℕ) × (i < length f.insts) × SomeReads f v i) → IsUsedElsewhere f v
@@ -131,8 +125,8 @@ by_pass f v h = (
 
 some_use : (f : FunctionValue) (v : VirtualRegister) (i : ℕ) → UsesAt f v i →
     ((j : ℕ) × (j < length f.insts) × SomeReads f v j) ⊎ ((b : ℕ) × (b < length f.blocks) × SomePasses f v b)
-some_use f v i (inl r) = inl (i, r.0, reads_of f v Early i r)
-some_use f v i (inr (inl r)) = inl (i, r.0, reads_of f v Late i r)
+some_use f v i (inl r) = inl (i, r.1.0, reads_of f v Early i r)
+some_use f v i (inr (inl r)) = inl (i, r.1.0, reads_of f v Late i r)
 some_use f v i (inr (inr p)) = inr (
   p.0,
   p.2,

@@ -7,14 +7,14 @@ use Rattle.regalloc2_names.specs.declared.OperandPos.TheVariants.{Early, Late}
 use Rattle.regalloc2_names.specs.Register.{VirtualRegister, no_vreg}
 use Rattle.regalloc2_names.specs.Operand.{OperandValue, is_def, is_late, is_reading}
 use Rattle.regalloc2_names.specs.Place.{Place, NoPlace, InRegister, InSlot}
-use Rattle.regalloc2_function.specs.FunctionValue.{FunctionValue, block_at, inst_at, no_operand, op_at, last_of}
+use Rattle.regalloc2_function.specs.FunctionValue.{FunctionValue, block_at, inst_at, op_at, last_of}
 use Rattle.regalloc2_function.specs.Fitting.{MachineFits}
 use Rattle.regalloc2_function.specs.OutputValue.{allocs_of, place_at}
 use Rattle.regalloc2_semantics.specs.Runs.{end_of, IsWrittenFirst, arguments_at}
-use Rattle.regalloc2_semantics.specs.Debug.{HoldsValue, DefinesAt, ReadsAt, UsesAt}
+use Rattle.regalloc2_semantics.specs.Debug.{HoldsValue, UsesAt}
 use Rattle.regalloc2_semantics.specs.Sound.{HasSoundBlocks}
 use Rattle.regalloc2_carry.specs.Blocks.{IsUnwritten}
-use Rattle.regalloc2_semantics.specs.Live.{target_at}
+use Rattle.regalloc2_semantics.specs.Live.{DefinesAt, ReadsAt, target_at}
 use Rattle.regalloc2_semantics.specs.Laws.{ReadsAgreeOnPaths}
 use Rattle.regalloc2_carry.proofs.SingleDef.{Made, by_operand, one_made, one_operand, not_both, reads_defined}
 use Rattle.regalloc2_carry.proofs.SingleDef as defined
@@ -56,9 +56,7 @@ early_is Late h = absurd cc
 reads_by : (f : FunctionValue) (v : VirtualRegister) (at : OperandPos) (i k : ℕ) → i < length f.insts → k < length (inst_at f i).operands →
     is_reading (op_at (inst_at f i).operands k) ≡ true → (op_at (inst_at f i).operands k).position ≡ at →
     (op_at (inst_at f i).operands k).vreg ≡ v → ReadsAt f v at i
-reads_by f v at i k lt less reads position is =
-    let o : OperandValue = op_at (inst_at f i).operands k in
-    (lt, (k, o, less, get_or_default (inst_at f i).operands k o no_operand less, reads, position, is))
+reads_by f v at i k lt less reads position is = (k, (lt, less, is), reads, position)
 
 use_by : (f : FunctionValue) (v : VirtualRegister) (i k : ℕ) → i < length f.insts → k < length (inst_at f i).operands →
     is_reading (op_at (inst_at f i).operands k) ≡ true → (op_at (inst_at f i).operands k).vreg ≡ v → UsesAt f v i
@@ -104,7 +102,7 @@ module _ (walk : WholeWalk) (m : IsOutputOfWalk walk.f walk.env (Made walk.f) (M
       -- a later branch doesn't define it
       other : (b : ℕ) → il < last_of (block_at f b) → DefinesAt f v (last_of (block_at f b)) → ⊥
       other b behind x =
-          let one = one_operand f ok.defined_once v.number id (last_of (block_at f b)) d x.1.0 at (IsDefOperand-from_DefinesAt f v (last_of (block_at f b)) x) in
+          let one = one_operand f ok.defined_once v.number id (last_of (block_at f b)) d x.0 at (IsDefOperand-from_DefinesAt f v (last_of (block_at f b)) x) in
           let early = sooner in
           omega (arith, behind, early, one.0)
 

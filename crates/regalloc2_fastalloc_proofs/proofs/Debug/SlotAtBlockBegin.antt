@@ -4,7 +4,7 @@ use Rattle.std.proofs.Common.{ℕ, ◌≡◌, ◌≢◌, ◌+◌, ◌<◌, ◌�
 use Rattle.std.specs.Prelude.{All, Option, Some, slice_index_or}
 use Rattle.regalloc2_names.specs.Register.{VirtualRegister, no_vreg}
 use Rattle.regalloc2_names.specs.Place.{Place, NoPlace, InRegister, InSlot, is_memory, before}
-use Rattle.regalloc2_function.specs.FunctionValue.{FunctionValue, block_at, inst_at, no_operand, op_at, last_of}
+use Rattle.regalloc2_function.specs.FunctionValue.{FunctionValue, block_at, inst_at, op_at, last_of}
 use Rattle.regalloc2_function.specs.Fitting.{MachineFits}
 use Rattle.regalloc2_function.specs.Machine.{MachineValue}
 use Rattle.regalloc2_function.specs.OutputValue.{OutputValue, MoveValue, allocs_of, moves_before}
@@ -245,8 +245,8 @@ module _ (walk : WholeWalk) (fits : MachineFits walk.f walk.env) (m : IsOutputOf
           | inr (k, r) ↦ read_shows f out ws v (InSlot n) k (agree ws path) (subst (λ (i : ℕ). ReadsInPlace f out v (InSlot n) i k) (sym here) r) undefined
               (record {
                 no_definition = λ j less def is. undefined j less def (only_vreg_in_slot env f ok.defined_once last out m owned v known n mine sound_ops
-                    (op_at (inst_at f (end_of f ws).inst).operands j).vreg
-                    ((end_of f ws).inst, j, no_operand, inst_lt env f ok written v ws path, less, refl, is));
+                    (op_at (inst_at f (end_of f ws).inst).operands j).vreg (end_of f ws).inst j
+                    (inst_lt env f ok written v ws path, less, refl) is);
                 no_clobber = refl;
               })
           | inl none ↦ (

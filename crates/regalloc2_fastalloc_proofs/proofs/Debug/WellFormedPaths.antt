@@ -1,17 +1,16 @@
 -- Well-formed functions meet the requirements of `StepsArePlain`, and their paths are in their blocks.
 use Rattle.std.proofs.Common.{ℕ, suc, ◌≡◌, ◌≢◌, ◌+◌, ◌<◌, ◌≤◌, Bool, true, false, List, [], ◌∷◌, length, refl, ap, ◌∙◌, inl, inr, subst, arith}
 use Rattle.std.specs.Prelude.{slice_index_or, Contains}
-use Rattle.std.proofs.lemmas.List.{get_or_default}
 use Rattle.regalloc2_names.specs.declared.OperandPos.{OperandPos}
 use Rattle.regalloc2_names.specs.declared.OperandPos.TheVariants.{Early, Late}
 use Rattle.regalloc2_names.specs.Register.{VirtualRegister, is_vreg}
-use Rattle.regalloc2_names.specs.Operand.{OperandValue, is_reading}
-use Rattle.regalloc2_function.specs.FunctionValue.{FunctionValue, block_at, inst_at, no_operand, op_at}
+use Rattle.regalloc2_names.specs.Operand.{OperandValue}
+use Rattle.regalloc2_function.specs.FunctionValue.{FunctionValue, block_at, inst_at}
 use Rattle.regalloc2_function.specs.Machine.{MachineValue}
 use Rattle.regalloc2_semantics.specs.Runs.{Way, Onward, ToSuccessor, end_of, IsPath, IsWrittenFirst}
 use Rattle.regalloc2_function.specs.WellFormed.{IsWellFormed}
-use Rattle.regalloc2_semantics.specs.Debug.{IsGiven, UsesAt, ReadsAt, PassesAt}
-use Rattle.regalloc2_semantics.specs.Live.{Undefined, names, target_at, IsLive, read_there, passed_there, IsAside}
+use Rattle.regalloc2_semantics.specs.Debug.{IsGiven, UsesAt, PassesAt}
+use Rattle.regalloc2_semantics.specs.Live.{ReadsAt, Undefined, names, target_at, IsLive, read_there, passed_there, IsAside}
 use Rattle.regalloc2_semantics.specs.Sound.{HasSoundBlocks}
 use Rattle.regalloc2_semantics.proofs.Cells.{is_vreg-true}
 use Rattle.regalloc2_carry.proofs.SingleDef.{reads_defined}
@@ -20,10 +19,6 @@ use Rattle.regalloc2_carry.proofs.Paths.{block_within}
 use Rattle.regalloc2_semantics.proofs.Soundness.{well_formed_are_sound}
 use Rattle.regalloc2_fastalloc_proofs.proofs.Debug.MovesLeaveSlot.{inside_block}
 use Rattle.regalloc2_fastalloc_proofs.proofs.Debug.SlotHoldsToUses.{StepsArePlain}
-
--- reading a list of operands at an index in range gives the operand at that index
-pub op_is : (ops : List OperandValue) (k : ℕ) (o : OperandValue) → k < length ops → slice_index_or ops k o ≡ o → op_at ops k ≡ o
-op_is ops k o lt is = get_or_default ops k no_operand o lt ∙ is
 
 -- a list names its elements
 named_by : (b : Bool) (v p : VirtualRegister) (ps : List VirtualRegister) → is_vreg p v ≡ b → (names v ps ≡ true → Contains ps v) → names v (p ∷ ps) ≡ true →
@@ -70,9 +65,7 @@ module _ (env : MachineValue) (f : FunctionValue) (ok : IsWellFormed env f) (wri
       inside_block f ok.follow (end_of f ws).block ((end_of f ws).inst + 1) (within ws path.0) (omega (arith, ge)) path.1)
 
   not_given : (ws : List Way) (w : Way) → IsPath f (w ∷ ws) → (IsGiven f v ws w → ⊥) → Undefined (inst_at f (end_of f ws).inst).operands v
-  not_given ws w path not j lt d e =
-      let ops : List OperandValue = (inst_at f (end_of f ws).inst).operands in
-      not (inl (inst_lt ws path.0, (j, op_at ops j, lt, get_or_default ops j (op_at ops j) no_operand lt, d, e)))
+  not_given ws w path not j lt d e = not (inl (j, (inst_lt ws path.0, lt, e), d))
 
   goes_aside : (ws : List Way) (w : Way) → IsPath f (w ∷ ws) → (IsGiven f v ws w → ⊥) → IsAside f v (end_of f ws) w
   goes_aside ws Onward path not = tt
@@ -85,12 +78,8 @@ module _ (env : MachineValue) (f : FunctionValue) (ok : IsWellFormed env f) (wri
   -- what reads v doesn't define it
   reads : (at : OperandPos) (ws : List Way) → IsPath f ws → ReadsAt f v at (end_of f ws).inst → Undefined (inst_at f (end_of f ws).inst).operands v
       × IsLive f v (end_of f ws)
-  reads at ws path (lt, (k, o, less, is, reading, position, same)) =
+  reads at ws path (k, (lt, less, u), r, position) =
       let i : ℕ = (end_of f ws).inst in
-      let ops : List OperandValue = (inst_at f i).operands in
-      let e : op_at ops k ≡ o = op_is ops k o less is in
-      let r : is_reading (op_at ops k) ≡ true = ap is_reading e ∙ reading in
-      let u : (op_at ops k).vreg ≡ v = ap (λ (x : OperandValue). x.vreg) e ∙ same in
       let lb = within ws path in (
         λ j jl d m.
             let early : i < i = reads_later f ok.defined_once v.number i j i k
@@ -115,7 +104,7 @@ module _ (env : MachineValue) (f : FunctionValue) (ok : IsWellFormed env f) (wri
       let same : b ≡ c = omega (arith, from, to) in
       let ops : List OperandValue = (inst_at f i).operands in
       let undefined : Undefined ops v = λ j jl d m.
-      other (inst_lt ws path, (j, op_at ops j, jl, get_or_default ops j (op_at ops j) no_operand jl, d, m)) in
+      other (j, (inst_lt ws path, jl, m), d) in
       let end : i + 1 ≡ (block_at f b).range.end = omega (arith, last, some) in (
         undefined,
         passed_there (end_of f ws) k (end ∙ ap (λ (n : ℕ). (block_at f n).range.end) same, subst (λ (n : ℕ). k < length (block_at f n).succs) same edge)

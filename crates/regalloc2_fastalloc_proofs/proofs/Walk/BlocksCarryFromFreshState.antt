@@ -2,12 +2,12 @@
 -- a vreg that is used in a block that doesn't write it, or passed as an argument, has a slot.
 use Rattle.std.proofs.Common.{ℕ, ◌≡◌, ◌≢◌, ◌<◌, ◌≤◌, ◌+◌, true, List, length, subst, refl, sym, inr, arith}
 use Rattle.std.specs.Prelude.{Contains, Option}
-use Rattle.std.proofs.lemmas.List.{get_or_default}
 use Rattle.regalloc2_names.specs.Register.{VirtualRegister}
 use Rattle.regalloc2_names.specs.Operand.{OperandValue}
 use Rattle.regalloc2_names.specs.Place.{Place, NoPlace}
-use Rattle.regalloc2_semantics.specs.Debug.{DefinesAt, PassesAt}
-use Rattle.regalloc2_function.specs.FunctionValue.{FunctionValue, IsLimited, block_at, inst_at, no_operand, op_at, last_of}
+use Rattle.regalloc2_semantics.specs.Live.{DefinesAt}
+use Rattle.regalloc2_semantics.specs.Debug.{PassesAt}
+use Rattle.regalloc2_function.specs.FunctionValue.{FunctionValue, IsLimited, block_at, inst_at, op_at, last_of}
 use Rattle.regalloc2_function.specs.Machine.{MachineValue}
 use Rattle.regalloc2_function.specs.OutputValue.{allocs_of}
 use Rattle.regalloc2_semantics.specs.Runs.{arguments_at}
@@ -154,14 +154,4 @@ module _ (walk : WholeWalk)
         definition = own.1.definition;
         number = refl;
       }) refl) made own.1.number in
-      p.6 (subst (DefinesAt f v) (sym p.3) (
-        within,
-        (
-          own.0,
-          o,
-          own.1.operand,
-          get_or_default (inst_at f (last_of (block_at f p.0))).operands own.0 o no_operand own.1.operand,
-          own.1.definition,
-          is,
-        ),
-      )))
+      p.6 (subst (DefinesAt f v) (sym p.3) (own.0, (within, own.1.operand, is), own.1.definition)))
