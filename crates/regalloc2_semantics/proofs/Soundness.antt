@@ -62,7 +62,7 @@ times_apart : (b c : ℕ) (xs : List ℕ) → b ≢ c → times_in b xs + times_
 times_apart b c xs ne = counts_apart (λ x. nat_eq x b) (λ x. nat_eq x c) xs (λ x e. ne_eqb x c (λ s. ne (sym (eqb-true x b e) ∙ s)))
 
 -- a block that has an edge, or a parameter
-edge_within : (f : FunctionValue) (b k : ℕ) → HasEdge f b k → b < length f.blocks
+pub edge_within : (f : FunctionValue) (b k : ℕ) → HasEdge f b k → b < length f.blocks
 edge_within f b k edge = elim (cases_lt b (length f.blocks)) [
   | inl lt ↦ lt
   | inr le ↦ (let n : length (block_at f b).succs ≡ 0 = ap (λ (x : BlockValue). length x.succs) (get_or_past f.blocks b no_block le) in absurd (omega arith))

@@ -17,6 +17,7 @@ use Rattle.regalloc2_semantics.specs.Live.{Undefined, names}
 use Rattle.regalloc2_semantics.specs.Sound.{HasSoundBlocks}
 use Rattle.regalloc2_semantics.proofs.Cells.{is_vreg-same}
 use Rattle.regalloc2_semantics.proofs.AfterWrites.{after_defs-other}
+use Rattle.regalloc2_semantics.proofs.Given.{names_element, has_operands}
 use Rattle.regalloc2_semantics.proofs.Soundness.{no_definition, no_second, well_formed_are_sound}
 
 -- a path is at an instruction of a block
@@ -30,24 +31,10 @@ inside f ok [] p = record { block = ok.entry; first = omega arith; end = ok.none
 inside f ok (Onward ∷ ws) p = let h = inside f ok ws p.0 in let low = h.first in record { block = h.block; first = omega arith; end = p.1 }
 inside f ok (ToSuccessor k ∷ ws) p = let t = ok.targets (end_of f ws).block k p.1.1 in record { block = t; first = omega arith; end = ok.nonempty _ t }
 
--- an element of a list is named by it
-names_element : (v : VirtualRegister) (ps : List VirtualRegister) (k : ℕ) → k < length ps → slice_index_or ps k v ≡ v → names v ps ≡ true
-unfolding names
-names_element v [] k lt e = absurd (omega arith)
-names_element v (p ∷ ps) zero lt e = or_left (is_vreg p v) (names v ps) (subst (λ q. is_vreg q v ≡ true) (sym e) (is_vreg-same v))
-names_element v (p ∷ ps) (suc k) lt e = or_right (is_vreg p v) (names v ps) (names_element v ps k (omega arith) e)
-
--- an instruction with operands is one of the function's
-has_operands : (f : FunctionValue) (i k : ℕ) → k < length (inst_at f i).operands → i < length f.insts
-has_operands f i k lt = elim (cases_lt i (length f.insts)) [
-  | inl less ↦ less
-  | inr le ↦ (let n : length (inst_at f i).operands ≡ 0 = ap (λ (x : InstValue). length x.operands) (get_or_past f.insts i no_inst le) in absurd (omega arith))
-]
-
 -- what is defined before an instruction is not defined by it
 not_here : (f : FunctionValue) → DefinedOnce f → (i : ℕ) (v : VirtualRegister) → i < length f.insts → IsDefinedBy f v (before i) →
     Undefined (inst_at f i).operands v
-not_here f once i v within (inl h) = no_definition f once h.0 i v (names_element v (block_at f h.0).params h.3.0 h.3.1 h.3.2)
+not_here f once i v within (inl h) = no_definition f once h.0 i v (names_element v (block_at f h.0).params h.3)
 not_here f once i v within (inr h) = no_second f once i h.0 v (λ e. absurd (let less = h.3 in omega (arith, less, e))) within
     (has_operands f h.0 h.1 h.4) h.1 h.2 h.4 h.5
     h.6

@@ -22,6 +22,34 @@ abbrev pub ReadsAt : FunctionValue → VirtualRegister → OperandPos → ℕ �
 ReadsAt f v position i = (k : ℕ) × NamesAt f v i k × (is_reading (op_at (inst_at f i).operands k) ≡ true)
     × ((op_at (inst_at f i).operands k).position ≡ position)
 
+-- an edge out of the location passes v, and the instruction there doesn't define v
+abbrev pub PassesAt : FunctionValue → VirtualRegister → Location → Type 0
+PassesAt f v l = (k : ℕ) × HasWay f l (ToSuccessor k) × Contains (arguments_at f l.block k) v × (DefinesAt f v l.inst → ⊥)
+
+-- an edge gives v the value of its argument: v is a parameter of the block that the edge leads to
+abbrev pub IsTakenOver : FunctionValue → VirtualRegister → Location → Way → Type 0
+IsTakenOver f v l Onward = ⊥
+IsTakenOver f v l (ToSuccessor k) = Contains (block_at f (slice_index (block_at f l.block).succs k)).params v
+
+-- v gets a value at the location, by the instruction there or by the edge
+abbrev pub IsGiven : FunctionValue → VirtualRegister → Location → Way → Type 0
+IsGiven f v l w = DefinesAt f v l.inst ⊎ IsTakenOver f v l w
+
+-- v is live before an instruction: it is read there, or read or passed on some path from there before it is given a value (if no instruction reads what it
+-- writes, as in well-formed functions)
+pub data IsLive (f : FunctionValue) (v : VirtualRegister) : Location → Type 0 where
+  read_there : (l : Location) (position : OperandPos) → ReadsAt f v position l.inst → IsLive f v l
+  passed_there : (l : Location) → PassesAt f v l → IsLive f v l
+  later : (l : Location) (w : Way) → HasWay f l w → (IsGiven f v l w → ⊥) → IsLive f v (next_of f l w) → IsLive f v l
+
+-- the path ends at the first instruction of a block
+abbrev pub HasEntered : FunctionValue → List Way → Type 0
+HasEntered f ws = (end_of f ws).inst ≡ (block_at f (end_of f ws).block).range.first
+
+-- before a path's last step v has a value (a parameter the one that the edge gave it), and the place holds it
+abbrev pub HoldsValueAt : FunctionValue → OutputValue → List Way → Place → VirtualRegister → Type 0
+HoldsValueAt f out ws p v = IsSome (source_before f ws v) × (cells_before f out ws p ≡ source_before f ws v)
+
 -- whether a list names a vreg
 unfoldable pub names : VirtualRegister → List VirtualRegister → Bool
 names v [] = false
@@ -42,23 +70,6 @@ Undefined operands v = (j : ℕ) → j < length operands → is_def (op_at opera
 abbrev pub IsAside : FunctionValue → VirtualRegister → Location → Way → Type 0
 IsAside f v l Onward = Unit {0}
 IsAside f v l (ToSuccessor k) = names v (block_at f (target_at f l.block k)).params ≡ false
-
--- v is live before an instruction: it is read there, or read or passed on some path from there before it is written (if no instruction reads what it writes, as
--- in well-formed functions)
-pub data IsLive (f : FunctionValue) (v : VirtualRegister) : Location → Type 0 where
-  read_there : (l : Location) (j : ℕ) → j < length (inst_at f l.inst).operands → is_reading (op_at (inst_at f l.inst).operands j) ≡ true →
-      (op_at (inst_at f l.inst).operands j).vreg ≡ v → IsLive f v l
-  passed_there : (l : Location) (k : ℕ) → HasWay f l (ToSuccessor k) → Contains (arguments_at f l.block k) v → Undefined (inst_at f l.inst).operands v →
-      IsLive f v l
-  later : (l : Location) (w : Way) → HasWay f l w → Undefined (inst_at f l.inst).operands v → IsAside f v l w → IsLive f v (next_of f l w) → IsLive f v l
-
--- the path ends at the first instruction of a block
-abbrev pub HasEntered : FunctionValue → List Way → Type 0
-HasEntered f ws = (end_of f ws).inst ≡ (block_at f (end_of f ws).block).range.first
-
--- before a path's last step v has a value (a parameter the one that the edge gave it), and the place holds it
-abbrev pub HoldsValueAt : FunctionValue → OutputValue → List Way → Place → VirtualRegister → Type 0
-HoldsValueAt f out ws p v = IsSome (source_before f ws v) × (cells_before f out ws p ≡ source_before f ws v)
 
 -- the operand of an index defines the number n
 pub record DefinesNumber (operands : List OperandValue) (n k : ℕ) : Type 0 where

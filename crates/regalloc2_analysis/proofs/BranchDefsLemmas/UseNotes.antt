@@ -8,13 +8,15 @@ use Rattle.regalloc2_names.specs.declared.OperandPos.TheVariants.{Early, Late}
 use Rattle.regalloc2_names.specs.Operand.{OperandValue, is_reading}
 use Rattle.regalloc2_names.specs.Register.{VirtualRegister}
 use Rattle.regalloc2_function.specs.FunctionValue.{FunctionValue, block_at, inst_at, no_operand, last_of, op_at}
-use Rattle.regalloc2_semantics.specs.Debug.{PassesAt, UsesAt}
+use Rattle.regalloc2_semantics.specs.Runs.{Location}
+use Rattle.regalloc2_semantics.specs.Debug.{UsesAt}
 use Rattle.regalloc2_carry.proofs.SingleDef.{Made, is_made, made_before, one_made, one_operand, reads_defined, IsDefOperand}
 use Rattle.regalloc2_carry.proofs.SingleDef.Made.{by_operand}
 use Rattle.regalloc2_carry.proofs.Order.{passed_made}
 use Rattle.regalloc2_function.specs.Inside.TableLength.{CoversDefinitions}
 use Rattle.regalloc2_function.specs.Inside.MarkedNumbers.{Marks}
-use Rattle.regalloc2_semantics.specs.Live.{DefinesAt, ReadsAt, DefinesNumber}
+use Rattle.regalloc2_semantics.specs.Live.{DefinesAt, ReadsAt, PassesAt, DefinesNumber}
+use Rattle.regalloc2_semantics.proofs.Soundness.{edge_within}
 use Rattle.regalloc2_analysis.specs.BranchDefs.BranchDefs.{IsSite, IsUsedElsewhere, MayHaveTables}
 use Rattle.regalloc2_analysis.specs.BranchDefs.Notes.{AreUsed, IsSiteAt, PassesAmong, PassesIn, PassesOut, ReadsAmong, ReadsIn}
 use Rattle.regalloc2_analysis.specs.BranchDefs.Tables.{AreDefSites}
@@ -139,7 +141,8 @@ passed_used : (f : FunctionValue) → MayHaveTables f → (sites : List (Option 
     (IsSiteAt sites v.number (last_of (block_at f b)) → ⊥) → IsUsedElsewhere f v
 passed_used f w sites are b k lt edge v has free =
     let i : ℕ = last_of (block_at f b) in
-    (i, inr (inr (b, k, lt, refl, edge, has, λ d. free (noted_there f w sites are v i (goes_on_by_branch f w b k lt edge) d))))
+    let some = (w.1.follow b lt).0 in
+    (i, inr (inr (b, k, (omega (arith, some), edge), has, λ d. free (noted_there f w sites are v i (goes_on_by_branch f w b k lt edge) d))))
 
 -- what a branch passes and doesn't define isn't noted as its definition
 not_noted : (f : FunctionValue) → MayHaveTables f → (sites : List (Option DefSite)) → AreDefSites f sites → (b k : ℕ) → b < length f.blocks →
@@ -191,19 +194,21 @@ module _ (f : FunctionValue) (w : MayHaveTables f) (sites : List (Option DefSite
       passes.kept v.number (reads.marks v.number (omega (arith, small, number)) (i, r.1.0, (r.0, r.1.1, r.2, number)))
 
   -- what is passed is
-  of_pass : (v : VirtualRegister) (i : ℕ) → PassesAt f v i → slice_index_or new v.number false ≡ true
-  of_pass v i p =
-      let b : ℕ = p.0 in let k : ℕ = p.1 in
-      let made = passed_made f w.1.defined_once b k v w.1.follow w.1.uses_defined p.2 p.4 p.5 in
+  of_pass : (v : VirtualRegister) (l : Location) → PassesAt f v l → slice_index_or new v.number false ≡ true
+  of_pass v l (k, (end, edge), has, other) =
+      let b : ℕ = l.block in
+      let lt : b < length f.blocks = edge_within f b k edge in
+      let at : l.inst ≡ last_of (block_at f b) = omega (arith, end) in
+      let made = passed_made f w.1.defined_once b k v w.1.follow w.1.uses_defined lt edge has in
       let small = made_room f w.1.defined_once (length none) room v made in
-      let free : IsSiteAt sites v.number (last_of (block_at f b)) → ⊥ = not_noted f w sites are b k p.2 p.4 v p.5
-      (subst (λ (m : ℕ). DefinesAt f v m → ⊥) p.3 p.6) in
-      passes.marks v.number (omega (arith, small, middle)) (b, p.2, (k, p.4, (p.5.0, v, p.5.1, p.5.2, refl, free)))
+      let free : IsSiteAt sites v.number (last_of (block_at f b)) → ⊥ = not_noted f w sites are b k lt edge v has
+      (subst (λ (m : ℕ). DefinesAt f v m → ⊥) at other) in
+      passes.marks v.number (omega (arith, small, middle)) (b, lt, (k, edge, (has.0, v, has.1, has.2, refl, free)))
 
   of_use : (v : VirtualRegister) (i : ℕ) → UsesAt f v i → slice_index_or new v.number false ≡ true
   of_use v i (inl r) = of_read v i Early r
   of_use v i (inr (inl r)) = of_read v i Late r
-  of_use v i (inr (inr p)) = of_pass v i p
+  of_use v i (inr (inr p)) = of_pass v (record { block = p.0; inst = i }) p.1
 
   -- what is marked is what is used elsewhere
   pub are_used : AreUsed f new
@@ -228,4 +233,5 @@ used_made f w v u = by_use u.0 u.1
     by_use : (i : ℕ) → UsesAt f v i → Made f v
     by_use i (inl r) = by_read i Early r
     by_use i (inr (inl r)) = by_read i Late r
-    by_use i (inr (inr p)) = passed_made f w.1.defined_once p.0 p.1 v w.1.follow w.1.uses_defined p.2 p.4 p.5
+    by_use i (inr (inr (b, k, way, has, other))) =
+        passed_made f w.1.defined_once b k v w.1.follow w.1.uses_defined (edge_within f b k way.1) way.1 has

@@ -8,8 +8,9 @@ use Rattle.regalloc2_names.specs.declared.OperandPos.TheVariants.{Early, Late}
 use Rattle.regalloc2_names.specs.Register.{VirtualRegister}
 use Rattle.regalloc2_names.specs.Place.{before, after}
 use Rattle.regalloc2_function.specs.FunctionValue.{FunctionValue, block_at, inst_at, op_at}
-use Rattle.regalloc2_semantics.specs.Live.{DefinesAt, ReadsAt}
-use Rattle.regalloc2_semantics.specs.Debug.{IsFirstPoint, IsLastPoint, IsLastUse, PassesAt, UsesAt}
+use Rattle.regalloc2_semantics.specs.Runs.{Location}
+use Rattle.regalloc2_semantics.specs.Live.{DefinesAt, ReadsAt, PassesAt}
+use Rattle.regalloc2_semantics.specs.Debug.{IsFirstPoint, IsLastPoint, IsLastUse, UsesAt}
 use Rattle.regalloc2_semantics.specs.Debug.IsFirstPoint.{of_definition as begins_at_definition, of_parameter}
 use Rattle.regalloc2_semantics.specs.Debug.IsLastPoint.{of_late_use, of_early_use, of_argument, of_definition as ends_at_definition}
 use Rattle.regalloc2_carry.proofs.SingleDef.{Made, not_both, one_operand, one_param}
@@ -28,11 +29,14 @@ one_last f v i j a b = let x : i ≤ j = b.1 i a.0 in let y : j ≤ i = a.1 j b.
 
 -- the operand whose place shows a vreg is one of the function's; where there is none, the vreg is passed
 pub shown_within : (f : FunctionValue) (v : VirtualRegister) {by : Option InstOperand} → IsShownBy f v by →
-    MatchOption by ((i : ℕ) × PassesAt f v i) (λ o. (o.inst < length f.insts) × (o.index < length (inst_at f o.inst).operands)
+    MatchOption by ((l : Location) × PassesAt f v l) (λ o. (o.inst < length f.insts) × (o.index < length (inst_at f o.inst).operands)
     × ((op_at (inst_at f o.inst).operands o.index).vreg ≡ v))
 shown_within f v (by_late_use o last reader) = (reader.reader.inst, reader.reader.index, reader.reader.vreg)
 shown_within f v (by_early_use o last never reader) = (reader.reader.inst, reader.reader.index, reader.reader.vreg)
-shown_within f v (by_argument i last never nor) = (i, elim last.0 [ inl r ↦ absurd (nor r) | inr rest ↦ elim rest [ inl r ↦ absurd (never r) | inr p ↦ p ] ])
+shown_within f v (by_argument i last never nor) = elim last.0 [
+  | inl r ↦ absurd (nor r)
+  | inr rest ↦ elim rest [ inl r ↦ absurd (never r) | inr p ↦ (record { block = p.0; inst = i }, p.1) ]
+]
 shown_within f v (by_definition o never definer) = (definer.inst, definer.index, definer.vreg)
 
 module _ (f : FunctionValue) (ssa : IsSSA f) where

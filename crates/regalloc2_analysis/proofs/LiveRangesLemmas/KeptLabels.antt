@@ -17,6 +17,7 @@ use Rattle.regalloc2_semantics.specs.Debug.{AreLocationsOf, IsFirstPoint, IsKept
 use Rattle.regalloc2_semantics.specs.Debug.AreLocationsOf.{none as no_more, kept as located, left_out as omitted}
 use Rattle.regalloc2_semantics.specs.Debug.IsFirstPoint.{of_definition as begins_at_definition, of_parameter}
 use Rattle.regalloc2_semantics.specs.Debug.IsLastPoint.{of_late_use, of_early_use, of_argument, of_definition as ends_at_definition}
+use Rattle.regalloc2_semantics.proofs.Soundness.{edge_within}
 use Rattle.regalloc2_carry.proofs.Order.{ends_within}
 use Rattle.regalloc2_analysis.specs.declared.live_ranges.KeptLabel.{KeptLabel}
 use Rattle.regalloc2_analysis.specs.declared.live_ranges.LiveRange.{LiveRange}
@@ -67,7 +68,8 @@ first_small f limited ssa v (of_parameter b lt h) = let within = ends_within f s
 use_small : (f : FunctionValue) → IsSSA f → (v : VirtualRegister) (i : ℕ) → UsesAt f v i → i < length f.insts
 use_small f ssa v i (inl r) = r.1.0
 use_small f ssa v i (inr (inl r)) = r.1.0
-use_small f ssa v i (inr (inr p)) = let within = ends_within f ssa.follow p.0 p.2 in let some = (ssa.follow p.0 p.2).0 in omega (arith, within, some, p.3)
+use_small f ssa v i (inr (inr (b, k, (end, edge), has, other))) = let within = ends_within f ssa.follow b (edge_within f b k edge) in
+    omega (arith, within, end)
 
 last_small : (f : FunctionValue) → IsLimited f → IsSSA f → (v : VirtualRegister) {p : ℕ} → IsLastPoint f v p → p < 2147483648
 last_small f limited ssa v (of_late_use i a l) = let small = use_small f ssa v i a.0 in omega (arith, small, limited.insts)

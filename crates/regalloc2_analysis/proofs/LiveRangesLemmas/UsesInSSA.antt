@@ -10,8 +10,9 @@ use Rattle.regalloc2_names.specs.Place.{before, after}
 use Rattle.regalloc2_function.specs.FunctionValue.{FunctionValue, block_at, inst_at, no_operand, last_of, op_at}
 use Rattle.regalloc2_function.specs.Machine.{MachineValue}
 use Rattle.regalloc2_function.specs.WellFormed.{IsDefinedBy, IsWellFormed}
-use Rattle.regalloc2_semantics.specs.Live.{DefinesAt, ReadsAt}
-use Rattle.regalloc2_semantics.specs.Debug.{PassesAt, UsesAt}
+use Rattle.regalloc2_semantics.specs.Live.{DefinesAt, ReadsAt, PassesAt}
+use Rattle.regalloc2_semantics.specs.Debug.{UsesAt}
+use Rattle.regalloc2_semantics.proofs.Soundness.{edge_within}
 use Rattle.regalloc2_function.specs.Inside.TableLength.{CoversDefinitions}
 use Rattle.regalloc2_carry.proofs.SingleDef.{IsDefOperand, Made, TakesAt, is_made, made_before, made_behind, made_small, not_both, one_made, one_param}
 use Rattle.regalloc2_carry.proofs.SingleDef.{reads_defined}
@@ -60,7 +61,8 @@ HasNumber-from_Contains vs v h = (h.0, h.1, h.1, ap (λ (w : VirtualRegister). w
 pub used_number : (f : FunctionValue) (v : VirtualRegister) (i : ℕ) → UsesAt f v i → UsesNumber f v.number i
 used_number f v i (inl r) = reads OperandPos.Early r.0 r.1.0 (read_number f v OperandPos.Early i r)
 used_number f v i (inr (inl r)) = reads OperandPos.Late r.0 r.1.0 (read_number f v OperandPos.Late i r)
-used_number f v i (inr (inr p)) = passes (p.0, p.2, p.3, (p.1, p.4, HasNumber-from_Contains (slice_index_or (block_at f p.0).arguments p.1 []) v p.5))
+used_number f v i (inr (inr (b, k, (end, edge), has, other))) =
+    passes (b, edge_within f b k edge, omega (arith, end), (k, edge, HasNumber-from_Contains (slice_index_or (block_at f b).arguments k []) v has))
 
 -- a reader reads
 pub reader_reads : (f : FunctionValue) (v : VirtualRegister) (at : OperandPos) (o : InstOperand) → IsReader f v at o → ReadsAt f v at o.inst
@@ -118,7 +120,8 @@ module _ (f : FunctionValue) (ssa : IsSSA f) where
   argument_defined b s k lt edge less = (ssa.uses b lt).1 s edge k no_vreg less
 
   -- an instruction that passes the number passes the vreg, unless it defines the vreg
-  pub passes_it : (v : VirtualRegister) → Made f v → (i : ℕ) → (DefinesAt f v i → ⊥) → PassesNumber f v.number i → PassesAt f v i
+  pub passes_it : (v : VirtualRegister) → Made f v → (i : ℕ) → (DefinesAt f v i → ⊥) → PassesNumber f v.number i →
+      (b : ℕ) × PassesAt f v (record { block = b; inst = i })
   passes_it v made i other p =
       let vs : List VirtualRegister = slice_index_or (block_at f p.0).arguments p.3.0 [] in
       let k : ℕ = p.3.2.0 in
@@ -128,7 +131,7 @@ module _ (f : FunctionValue) (ssa : IsSSA f) where
       let last : ℕ = last_of (block_at f p.0) in
       let here = is_made f w (last + 1) (made_behind f w last (omega (arith, within, some)) (argument_defined p.0 p.3.0 k p.1 p.3.1 p.3.2.2)) in
       let same : w ≡ v = one_made f ssa.once w v here made p.3.2.3 in
-      (p.0, p.3.0, p.1, p.2, p.3.1, (k, p.3.2.2, get_or_default vs k v no_vreg p.3.2.2 ∙ same), other)
+      (p.0, p.3.0, (omega (arith, some, p.2), p.3.1), (k, p.3.2.2, get_or_default vs k v no_vreg p.3.2.2 ∙ same), other)
 
   -- a use comes after the definition
   pub use_after : (v : VirtualRegister) (i j : ℕ) → DefinesAt f v i → UsesAt f v j → i < j
@@ -138,9 +141,9 @@ module _ (f : FunctionValue) (ssa : IsSSA f) where
   use_after v i j d (inr (inl r)) = let n = read_number f v OperandPos.Late j r in
       reads_later f ssa.once v.number i d.0 j r.0 (IsDefOperand-from_DefinesAt f v i d) r.1.0 (reads_defined f ssa.some ssa.follow ssa.uses j r.1.0) n.within n.reading
       n.number
-  use_after v i j d (inr (inr p)) =
-      let h = passes_later f ssa.once v.number i d.0 p.0 p.1 v (IsDefOperand-from_DefinesAt f v i d) ssa.follow ssa.uses p.2 p.4 p.5 refl in
-      elim (cases_lt i j) [ inl less ↦ less | inr late ↦ absurd (p.6 (subst (DefinesAt f v) (omega (arith, h, late, p.3)) d)) ]
+  use_after v i j d (inr (inr (b, k, (end, edge), has, other))) =
+      let h = passes_later f ssa.once v.number i d.0 b k v (IsDefOperand-from_DefinesAt f v i d) ssa.follow ssa.uses (edge_within f b k edge) edge has refl in
+      elim (cases_lt i j) [ inl less ↦ less | inr late ↦ absurd (other (subst (DefinesAt f v) (omega (arith, h, late, end)) d)) ]
 
   -- what is defined by a point is so by a later one
   later_point : (v : VirtualRegister) (p q : ℕ) → p ≤ q → IsDefinedBy f v p → IsDefinedBy f v q
@@ -159,11 +162,12 @@ module _ (f : FunctionValue) (ssa : IsSSA f) where
       read_defined : (at : OperandPos) (r : ReadsAt f v at j) → IsDefinedBy f v (after j)
       read_defined at r = later_point v (before j) (after j) (omega arith) (subst (λ (w : VirtualRegister). IsDefinedBy f w (before j)) r.1.2
           (reads_defined f ssa.some ssa.follow ssa.uses j r.1.0 r.0 r.1.1 r.2))
-  used_defined v j (inr (inr p)) =
-      let vs : List VirtualRegister = slice_index_or (block_at f p.0).arguments p.1 [] in
-      let at : slice_index_or vs p.5.0 no_vreg ≡ v = get_or_default vs p.5.0 no_vreg v p.5.1 ∙ p.5.2 in
-      subst (λ (w : VirtualRegister). IsDefinedBy f w (after j)) at (subst (λ (n : ℕ). IsDefinedBy f (slice_index_or vs p.5.0 no_vreg) (after n)) (sym p.3)
-      (argument_defined p.0 p.1 p.5.0 p.2 p.4 p.5.1))
+  used_defined v j (inr (inr (b, k, (end, edge), has, other))) =
+      let vs : List VirtualRegister = slice_index_or (block_at f b).arguments k [] in
+      let at : slice_index_or vs has.0 no_vreg ≡ v = get_or_default vs has.0 no_vreg v has.1 ∙ has.2 in
+      let last : j ≡ last_of (block_at f b) = omega (arith, end) in
+      subst (λ (w : VirtualRegister). IsDefinedBy f w (after j)) at (subst (λ (n : ℕ). IsDefinedBy f (slice_index_or vs has.0 no_vreg) (after n)) (sym last)
+      (argument_defined b k has.0 (edge_within f b k edge) edge has.1))
 
   -- a block's parameter is used in that block or behind it
   pub use_within : (v : VirtualRegister) (b j : ℕ) → b < length f.blocks → Contains (block_at f b).params v → UsesAt f v j → (block_at f b).range.first ≤ j
@@ -187,4 +191,5 @@ module _ (f : FunctionValue) (ssa : IsSSA f) where
           inside : (v : VirtualRegister) (j : ℕ) → UsesAt f v j → j < length f.insts
           inside v j (inl r) = r.1.0
           inside v j (inr (inl r)) = r.1.0
-          inside v j (inr (inr p)) = let within = ends_within f ssa.follow p.0 p.2 in let some = (ssa.follow p.0 p.2).0 in omega (arith, within, some, p.3)
+          inside v j (inr (inr (b, k, (end, edge), has, other))) = let within = ends_within f ssa.follow b (edge_within f b k edge) in
+              omega (arith, within, end)

@@ -227,7 +227,7 @@ module _ (walk : WholeWalk) (m : IsOutputOfWalk walk.f walk.env (Made walk.f) (M
   reach given start at here (further (ToSuccessor k) ws g not) path live high = absurd (never_entered (ToSuccessor k ∷ ws) path refl live)
   reach given start at here (further Onward ws g not) path live high =
       let flat = flat_at ws path in
-      let r : Reached ws = reach given start at ws g path.0 (later (end_of f ws) Onward path.1 (plain.undefined ws Onward path not) tt live)
+      let r : Reached ws = reach given start at ws g path.0 (later (end_of f ws) Onward path.1 not live)
       (omega (arith, high)) in
       let low = r.behind_it in
       record {
@@ -244,7 +244,7 @@ module _ (walk : WholeWalk) (m : IsOutputOfWalk walk.f walk.env (Made walk.f) (M
   rises here used there path live = omega arith
   rises here used (further (ToSuccessor k) ws g not) path live = absurd (never_entered (ToSuccessor k ∷ ws) path refl live)
   rises here used (further Onward ws g not) path live =
-      let r = rises here ws g path.0 (later (end_of f ws) Onward path.1 (plain.undefined ws Onward path not) tt live) in omega (arith, r)
+      let r = rises here ws g path.0 (later (end_of f ws) Onward path.1 not live) in omega (arith, r)
 
   by_front : (ws : List Way) (c : Cells) → Fronts f out up ws c → after_moves (moves_on f out up (before (end_of f ws).inst)) c p ≡ source_before f ws v →
       ShowsAt f out v p ws
