@@ -1,21 +1,20 @@
 -- What `run` guarantees of its outputs: the main theorem's conclusion. Its terms are in regalloc2_semantics/specs,
 -- in reading order: `Runs`, `Faithful`, `Values`, `Places`, `Live`, `Debug`; values of functions, machines and outputs in regalloc2_function/specs.
-use Rattle.std.specs.Prelude.{ℕ, ◌≡◌, ◌<◌, ◌≤◌, ◌^◌, ◌⊎◌, List, All, IsSome, length, slice_index_or, Bool, false, [], nat_eq, ◌≢◌}
-use Rattle.regalloc2_names.specs.Register.{VirtualRegister, Register, no_vreg, has_register}
-use Rattle.regalloc2_names.specs.Operand.{OperandValue}
+use Rattle.std.specs.Prelude.{ℕ, ◌≡◌, ◌<◌, ◌≤◌, ◌^◌, ◌⊎◌, List, [], ◌∷◌, All, Contains, zip, IsSome, length, slice_index, Bool, false, nat_eq, ◌≢◌}
+use Rattle.regalloc2_names.specs.Register.{VirtualRegister, Register, has_register}
 use Rattle.regalloc2_names.specs.Place.{Place, InSlot, before}
 use Rattle.std.specs.List.{IsDistinct}
 use Rattle.regalloc2_names.specs.declared.OperandConstraint.TheVariants.{Reg}
 use Rattle.regalloc2_names.specs.declared.RegClass.{RegClass}
-use Rattle.regalloc2_function.specs.FunctionValue.{FunctionValue, block_at, inst_at, op_at, last_of}
+use Rattle.regalloc2_function.specs.FunctionValue.{FunctionValue, block_at, inst_at, op_at}
 use Rattle.regalloc2_function.specs.Machine.{MachineValue, allocatable_count}
 use Rattle.regalloc2_function.specs.OutputValue.{OutputValue, IsInOrder, allocs_of, place_at}
-use Rattle.regalloc2_semantics.specs.Runs.{Way, end_of, IsPath, IsWrittenFirst, arguments_at}
+use Rattle.regalloc2_semantics.specs.Runs.{Way, ToSuccessor, Location, end_of, IsPath, IsWrittenFirst, arguments_at}
 use Rattle.regalloc2_semantics.specs.Faithful.{ConstraintsMet, EditsAreListed, HasNoStackToStack, IsFaithful}
 use Rattle.regalloc2_semantics.specs.Debug.{HoldsValue as ShowsValue, AreDebugLocations}
 use Rattle.regalloc2_semantics.specs.Places.{IsProperPlace, PlacesAreProper, Owner, OfVReg, OfBranch, IsSlotOf, AreSlotsOwned, units_at_most}
 use Rattle.regalloc2_semantics.specs.Values.{Meaning, SameNumbers, numbers, source_reads}
-use Rattle.regalloc2_semantics.specs.Live.{NamesAt, DefinesNumber, IsEdgeInto, IsLive, HasEntered, HoldsValueAt}
+use Rattle.regalloc2_semantics.specs.Live.{NamesAt, DefinesAt, IsLive, HoldsValueAt}
 
 -- on every path each use of the function reads a number, whatever the instructions compute
 abbrev pub ReadsNumbers : FunctionValue → Type 0
@@ -29,33 +28,28 @@ pub record RunsAsTheFunction (f : FunctionValue) (env : MachineValue) (out : Out
   pub reads_numbers : ReadsNumbers f
   pub same_numbers : SameNumbers f out
 
--- the operands of the branch at a block's end
-abbrev pub last_operands : FunctionValue → ℕ → List OperandValue
-last_operands f e = (inst_at f (last_of (block_at f e))).operands
+-- the edge at position k out of a location passes u to the parameter v
+abbrev pub IsPassedTo : FunctionValue → Location → ℕ → VirtualRegister → VirtualRegister → Type 0
+IsPassedTo f l k v u = Contains (zip (block_at f (slice_index (block_at f l.block).succs k)).params (arguments_at f l.block k)) (v, u)
 
--- the argument that an edge gives for the parameter n
-abbrev pub argument_for : FunctionValue → ℕ → ℕ → ℕ → VirtualRegister
-argument_for f e k n = slice_index_or (arguments_at f e k) n no_vreg
-
--- The place of v where a path comes to the block b. If the branch into b defines v, that is the place of the operand that does; and so if v is a parameter
--- of b that is given what the branch defines. Else it is v's slot.
-pub data ArrivesAt (f : FunctionValue) (out : OutputValue) (slot : VirtualRegister → ℕ) (b : ℕ) (v : VirtualRegister) : Place → Type 0 where
-  defined : (e k j : ℕ) → IsEdgeInto f b e k → DefinesNumber (last_operands f e) v.number j →
-      ArrivesAt f out slot b v (place_at (allocs_of out (last_of (block_at f e))) j)
-  given : (e k n j : ℕ) → IsEdgeInto f b e k → n < length (block_at f b).params → slice_index_or (block_at f b).params n no_vreg ≡ v →
-      DefinesNumber (last_operands f e) (argument_for f e k n).number j → ArrivesAt f out slot b v (place_at (allocs_of out (last_of (block_at f e))) j)
-  in_slot : ((e k j : ℕ) → IsEdgeInto f b e k → DefinesNumber (last_operands f e) v.number j → ⊥) →
-      ((e k n j : ℕ) → IsEdgeInto f b e k → n < length (block_at f b).params → slice_index_or (block_at f b).params n no_vreg ≡ v →
-      DefinesNumber (last_operands f e) (argument_for f e k n).number j → ⊥) → ArrivesAt f out slot b v (InSlot (slot v))
+-- The place of v behind the edge at position k out of a location. If the branch at the location defines v, or what the edge passes to v, that is the place of
+-- the operand that does. Else it is v's slot.
+pub data ArrivesAt (f : FunctionValue) (out : OutputValue) (slot : VirtualRegister → ℕ) (l : Location) (k : ℕ) (v : VirtualRegister) : Place → Type 0 where
+  defined : (d : DefinesAt f v l.inst) → ArrivesAt f out slot l k v (place_at (allocs_of out l.inst) d.0)
+  given : (u : VirtualRegister) → IsPassedTo f l k v u → (d : DefinesAt f u l.inst) → ArrivesAt f out slot l k v (place_at (allocs_of out l.inst) d.0)
+  in_slot : (DefinesAt f v l.inst → ⊥) → ((u : VirtualRegister) → IsPassedTo f l k v u → DefinesAt f u l.inst → ⊥) →
+      ArrivesAt f out slot l k v (InSlot (slot v))
 
 -- Between blocks values are on the stack, but for what the branch between them defines: each vreg has one slot, which is that of its operands in slots;
--- on every path, where it comes to a block, each vreg that is live there owns its slot, and its place holds its value; so do the block's parameters.
+-- on every path, behind each edge, each vreg that is live there owns its slot, and its place holds its value; so do the block's parameters. At the
+-- function's entry no vreg is live.
 pub record LiveInSlots (f : FunctionValue) (out : OutputValue) (owner : ℕ → Owner) : Type 0 where
   pub slot : VirtualRegister → ℕ
   pub operands : (v : VirtualRegister) (i k n : ℕ) → NamesAt f v i k → place_at (allocs_of out i) k ≡ InSlot n → slot v ≡ n
-  pub owned : (ws : List Way) → IsPath f ws → HasEntered f ws → (v : VirtualRegister) → IsLive f v (end_of f ws) → owner (slot v) ≡ OfVReg v
-  pub live : (ws : List Way) → IsPath f ws → HasEntered f ws → (v : VirtualRegister) → IsLive f v (end_of f ws) → (p : Place) →
-      ArrivesAt f out slot (end_of f ws).block v p → HoldsValueAt f out ws p v
+  pub owned : (ws : List Way) (k : ℕ) → IsPath f (ToSuccessor k ∷ ws) → (v : VirtualRegister) → IsLive f v (end_of f (ToSuccessor k ∷ ws)) →
+      owner (slot v) ≡ OfVReg v
+  pub live : (ws : List Way) (k : ℕ) → IsPath f (ToSuccessor k ∷ ws) → (v : VirtualRegister) → IsLive f v (end_of f (ToSuccessor k ∷ ws)) → (p : Place) →
+      ArrivesAt f out slot (end_of f ws) k v p → HoldsValueAt f out (ToSuccessor k ∷ ws) p v
 
 -- Slots take no more units than these bounds.
 pub record SlotsAreBounded (f : FunctionValue) (out : OutputValue) : Type 0 where

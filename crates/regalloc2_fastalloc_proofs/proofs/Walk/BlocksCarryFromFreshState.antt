@@ -142,19 +142,19 @@ module _ (walk : WholeWalk)
       handed_has_slot laws b lb k edge v has foreign blank begin 0 out.allocs last walks
       (omega arith)
 
+  -- what a branch defines by its number, it defines
+  pub own_defines : (v : VirtualRegister) (b : ℕ) → b < length f.blocks → Made f v → IsOwnDef f b v → DefinesAt f v (last_of (block_at f b))
+  own_defines v b lb made (j, d) =
+      let within : last_of (block_at f b) < length f.insts = last_within f ok.follow b lb in
+      let o : OperandValue = op_at (inst_at f (last_of (block_at f b))).operands j in
+      let own : Made f o.vreg = by_operand (last_of (block_at f b)) j
+      (record { inst = within; operand = d.operand; definition = d.definition; number = refl }) refl in
+      (j, (within, d.operand, one_made f ok.defined_once o.vreg v own made d.number), d.definition)
+
   -- a vreg that an instruction passes, and therefore doesn't define, has a slot too
   pub passed_slots : (v : VirtualRegister) (l : Location) → PassesAt f v l → slot_in last v.number ≢ NoPlace
   passed_slots v l (k, (end, edge), has, other) =
       let lb : l.block < length f.blocks = edge_within f l.block k edge in
       let at : l.inst ≡ last_of (block_at f l.block) = omega (arith, end) in
-      let within : last_of (block_at f l.block) < length f.insts = last_within f ok.follow l.block lb in
       let made : Made f v = used_made f ok.defined_once ok.follow ok.uses_defined v l.block lb (inr (k, edge, has)) in
-      handed_slots v l.block k lb edge has (λ own.
-      let o : OperandValue = op_at (inst_at f (last_of (block_at f l.block))).operands own.0 in
-      let is : o.vreg ≡ v = one_made f ok.defined_once o.vreg v (by_operand (last_of (block_at f l.block)) own.0 (record {
-        inst = within;
-        operand = own.1.operand;
-        definition = own.1.definition;
-        number = refl;
-      }) refl) made own.1.number in
-      other (subst (DefinesAt f v) (sym at) (own.0, (within, own.1.operand, is), own.1.definition)))
+      handed_slots v l.block k lb edge has (λ own. other (subst (DefinesAt f v) (sym at) (own_defines v l.block lb made own)))
