@@ -7,10 +7,10 @@ use Rattle.regalloc2_function.specs.FunctionValue.{FunctionValue, block_at, inst
 use Rattle.regalloc2_function.specs.Machine.{MachineValue}
 use Rattle.regalloc2_semantics.specs.Runs.{Way, Onward, ToSuccessor, Location, first_of, end_of, IsPath, IsWrittenFirst}
 use Rattle.regalloc2_function.specs.WellFormed.{IsWellFormed}
-use Rattle.regalloc2_semantics.specs.Live.{Undefined, IsAside, target_at, IsLive, read_there, passed_there, later, HasEntered}
+use Rattle.regalloc2_semantics.specs.Live.{IsLive, read_there, passed_there, later}
+use Rattle.regalloc2_semantics.specs.Sound.{Undefined, IsAside, target_at, HasSoundBlocks}
+use Rattle.regalloc2_carry.specs.Live.{HasEntered, LiveStandWhereBlocksCarryOn}
 use Rattle.regalloc2_carry.specs.Blocks.{IsUnwritten}
-use Rattle.regalloc2_semantics.specs.Sound.{HasSoundBlocks}
-use Rattle.regalloc2_carry.specs.Live.{LiveStandWhereBlocksCarryOn}
 use Rattle.regalloc2_carry.proofs.SingleDef.{IsDefOperand, reads_defined}
 use Rattle.regalloc2_carry.proofs.Order.{ends_within, reads_later, passes_defined_earlier}
 use Rattle.regalloc2_semantics.proofs.Soundness.{well_formed_are_sound}

@@ -15,9 +15,10 @@ use Rattle.regalloc2_semantics.specs.Runs.{arguments_at, source_before, source_a
 use Rattle.regalloc2_semantics.specs.Faithful.{ReadsAgree}
 use Rattle.regalloc2_carry.specs.Listing.{items_by, items_from, block_items, IsReadIn}
 use Rattle.regalloc2_carry.specs.Carry.{CarriesFrom, Carries}
-use Rattle.regalloc2_semantics.specs.Live.{Undefined, HasEntered, HoldsValueAt, names, HasEdge, target_at}
+use Rattle.regalloc2_semantics.specs.Live.{HoldsValueAt}
+use Rattle.regalloc2_semantics.specs.Sound.{Undefined, names, HasEdge, target_at, HasSoundBlocks}
+use Rattle.regalloc2_carry.specs.Live.{HasEntered}
 use Rattle.regalloc2_carry.specs.BlockByPoints.{block_walked, Rising, EndsQuiet}
-use Rattle.regalloc2_semantics.specs.Sound.{HasSoundBlocks}
 use Rattle.regalloc2_carry.specs.Blocks.{IsUnwritten, IsUsed, IsUsedIn, IsWantedBehind, IsExcused, ExcusedAreSilent, ComesIn, GoesOut, BlockCarriesOn}
 use Rattle.regalloc2_carry.specs.Blocks.{BlocksAgreeInPlaces, BlocksAgreeInPlacesByPoints}
 use Rattle.regalloc2_semantics.proofs.AfterWrites.{after_defs-other}

@@ -16,8 +16,10 @@ use Rattle.regalloc2_function.specs.OutputValue.{MoveValue, allocs_of, place_at}
 use Rattle.regalloc2_semantics.specs.Runs.{Way, ToSuccessor, Location, HasWay, end_of, IsPath, IsWrittenFirst, arguments_at}
 use Rattle.regalloc2_carry.specs.BlockByPoints.{block_walked, Rising, EndsQuiet}
 use Rattle.regalloc2_carry.specs.Blocks.{BlockCarriesOn}
-use Rattle.regalloc2_semantics.specs.Live.{DefinesAt, IsLive, HasEntered, HoldsValueAt, DefinesNumber, IsEdgeInto, target_at}
-use Rattle.regalloc2_carry.specs.Live.{LiveStandInPlaces}
+use Rattle.regalloc2_semantics.specs.Live.{DefinesAt, IsLive, HoldsValueAt}
+use Rattle.regalloc2_semantics.specs.Sound.{target_at}
+use Rattle.regalloc2_analysis.specs.BranchDefs.BranchDefs.{DefinesNumber, IsEdgeInto}
+use Rattle.regalloc2_carry.specs.Live.{HasEntered, LiveStandInPlaces}
 use Rattle.regalloc2_semantics.specs.Laws.{ReadsAgreeOnPaths}
 use Rattle.regalloc2_carry.proofs.Points.{rising_by}
 use Rattle.regalloc2_carry.proofs.SingleDef.{Made}

@@ -9,8 +9,7 @@ use Rattle.regalloc2_names.specs.Register.{VirtualRegister, is_vreg}
 use Rattle.regalloc2_names.specs.Operand.{OperandValue, is_def}
 use Rattle.regalloc2_function.specs.FunctionValue.{FunctionValue, BlockValue, InstValue, block_at, inst_at, no_block, no_inst, no_operand, op_at}
 use Rattle.regalloc2_function.specs.WellFormed.{defines_number, times_in, ways_into, DefinedOnce, PredecessorsAgree, NoCriticalEdge}
-use Rattle.regalloc2_semantics.specs.Live.{Undefined, names, HasEdge, target_at}
-use Rattle.regalloc2_semantics.specs.Sound.{IsParameter, IsEnteredOnce, WellFormedAreSound}
+use Rattle.regalloc2_semantics.specs.Sound.{Undefined, names, HasEdge, target_at, IsParameter, IsEnteredOnce, WellFormedAreSound}
 use Rattle.regalloc2_semantics.proofs.Cells.{is_vreg-true}
 
 -- sums by recursion

@@ -13,8 +13,7 @@ use Rattle.regalloc2_semantics.specs.Runs.{Way, Onward, ToSuccessor, Location, e
 use Rattle.regalloc2_semantics.specs.Runs.{source_read}
 use Rattle.regalloc2_function.specs.WellFormed.{DefinedOnce, IsDefinedBy}
 use Rattle.regalloc2_semantics.specs.Laws.{SourceIsEarlier, NumbersGiveReads, AgreeingReadsFindEarlier, ReadsAgreeWhereNumbersDo, WellFormedReadEarlier}
-use Rattle.regalloc2_semantics.specs.Live.{Undefined, names}
-use Rattle.regalloc2_semantics.specs.Sound.{HasSoundBlocks}
+use Rattle.regalloc2_semantics.specs.Sound.{Undefined, names, HasSoundBlocks}
 use Rattle.regalloc2_semantics.proofs.Cells.{is_vreg-same}
 use Rattle.regalloc2_semantics.proofs.AfterWrites.{after_defs-other}
 use Rattle.regalloc2_semantics.proofs.Given.{names_element, has_operands}

@@ -1,11 +1,11 @@
--- The instructions that define or read a vreg, the vregs that are live where a path comes to an instruction, the places that hold their values,
--- and the edges out of branches with definitions.
-use Rattle.std.specs.Prelude.{ℕ, ◌<◌, Bool, false, ◌||◌, List, [], ◌∷◌, length, slice_index, ◌≡◌, true, IsSome, Contains}
+-- The instructions that define, read or pass a vreg, the vregs that are live where a path comes to an instruction, and the places that hold
+-- their values.
+use Rattle.std.specs.Prelude.{ℕ, ◌<◌, ◌⊎◌, List, length, slice_index, ◌≡◌, true, IsSome, Contains}
 use Rattle.regalloc2_names.specs.declared.OperandPos.{OperandPos}
-use Rattle.regalloc2_names.specs.Register.{VirtualRegister, is_vreg}
-use Rattle.regalloc2_names.specs.Operand.{OperandValue, is_def, is_reading}
+use Rattle.regalloc2_names.specs.Register.{VirtualRegister}
+use Rattle.regalloc2_names.specs.Operand.{is_def, is_reading}
 use Rattle.regalloc2_names.specs.Place.{Place}
-use Rattle.regalloc2_function.specs.FunctionValue.{FunctionValue, block_at, op_at, inst_at, last_of}
+use Rattle.regalloc2_function.specs.FunctionValue.{FunctionValue, block_at, inst_at, op_at}
 use Rattle.regalloc2_function.specs.OutputValue.{OutputValue}
 use Rattle.regalloc2_semantics.specs.Runs.{Way, Onward, ToSuccessor, Location, end_of, next_of, HasWay, arguments_at, source_before, cells_before}
 
@@ -42,49 +42,6 @@ pub data IsLive (f : FunctionValue) (v : VirtualRegister) : Location → Type 0 
   passed_there : (l : Location) → PassesAt f v l → IsLive f v l
   later : (l : Location) (w : Way) → HasWay f l w → (IsGiven f v l w → ⊥) → IsLive f v (next_of f l w) → IsLive f v l
 
--- the path ends at the first instruction of a block
-abbrev pub HasEntered : FunctionValue → List Way → Type 0
-HasEntered f ws = (end_of f ws).inst ≡ (block_at f (end_of f ws).block).range.first
-
 -- before a path's last step v has a value (a parameter the one that the edge gave it), and the place holds it
 abbrev pub HoldsValueAt : FunctionValue → OutputValue → List Way → Place → VirtualRegister → Type 0
 HoldsValueAt f out ws p v = IsSome (source_before f ws v) × (cells_before f out ws p ≡ source_before f ws v)
-
--- whether a list names a vreg
-unfoldable pub names : VirtualRegister → List VirtualRegister → Bool
-names v [] = false
-names v (p ∷ ps) = is_vreg p v || names v ps
-
--- the block has an edge at a position; and the block that the edge leads to
-abbrev pub HasEdge : FunctionValue → ℕ → ℕ → Type 0
-HasEdge f b k = k < length (block_at f b).succs
-
-abbrev pub target_at : FunctionValue → ℕ → ℕ → ℕ
-target_at f b k = slice_index (block_at f b).succs k
-
--- no operand defines the vreg
-abbrev pub Undefined : List OperandValue → VirtualRegister → Type 0
-Undefined operands v = (j : ℕ) → j < length operands → is_def (op_at operands j).kind ≡ true → (op_at operands j).vreg ≡ v → ⊥
-
--- the edge or fall-through (`Way`) gives v no new value: it leads to no block with v as a parameter
-abbrev pub IsAside : FunctionValue → VirtualRegister → Location → Way → Type 0
-IsAside f v l Onward = Unit {0}
-IsAside f v l (ToSuccessor k) = names v (block_at f (target_at f l.block k)).params ≡ false
-
--- the operand of an index defines the number n
-pub record DefinesNumber (operands : List OperandValue) (n k : ℕ) : Type 0 where
-  pub operand : k < length operands
-  pub definition : is_def (op_at operands k).kind ≡ true
-  pub number : (op_at operands k).vreg.number ≡ n
-
--- a block ends in a branch with a definition
-abbrev pub EndsInDefinitions : FunctionValue → ℕ → Type 0
-EndsInDefinitions f b = ((inst_at f (last_of (block_at f b))).is_branch ≡ true)
-    × ((n k : ℕ) × DefinesNumber (inst_at f (last_of (block_at f b))).operands n k)
-
--- the block b is entered by the edge at a position out of a block that ends in a branch with a definition
-pub record IsEdgeInto (f : FunctionValue) (b from position : ℕ) : Type 0 where
-  pub block : from < length f.blocks
-  pub edge : HasEdge f from position
-  pub target : target_at f from position ≡ b
-  pub definitions : EndsInDefinitions f from

@@ -15,9 +15,9 @@ use Rattle.regalloc2_carry.proofs.SingleDef.Made.{by_operand}
 use Rattle.regalloc2_carry.proofs.Order.{passed_made}
 use Rattle.regalloc2_function.specs.Inside.TableLength.{CoversDefinitions}
 use Rattle.regalloc2_function.specs.Inside.MarkedNumbers.{Marks}
-use Rattle.regalloc2_semantics.specs.Live.{DefinesAt, ReadsAt, PassesAt, DefinesNumber}
+use Rattle.regalloc2_semantics.specs.Live.{DefinesAt, ReadsAt, PassesAt}
+use Rattle.regalloc2_analysis.specs.BranchDefs.BranchDefs.{DefinesNumber, IsSite, IsUsedElsewhere, MayHaveTables}
 use Rattle.regalloc2_semantics.proofs.Soundness.{edge_within}
-use Rattle.regalloc2_analysis.specs.BranchDefs.BranchDefs.{IsSite, IsUsedElsewhere, MayHaveTables}
 use Rattle.regalloc2_analysis.specs.BranchDefs.Notes.{AreUsed, IsSiteAt, PassesAmong, PassesIn, PassesOut, ReadsAmong, ReadsIn}
 use Rattle.regalloc2_analysis.specs.BranchDefs.Tables.{AreDefSites}
 use Rattle.regalloc2_analysis.specs.declared.branch_defs.DefSite.{DefSite}

@@ -11,7 +11,7 @@ use Rattle.regalloc2_semantics.specs.Runs.{Way, Onward, end_of, IsPath}
 use Rattle.regalloc2_function.specs.WellFormed.{BlocksFollow}
 use Rattle.regalloc2_carry.specs.Listing.{with_moves}
 use Rattle.regalloc2_carry.specs.Carry.{Spares, Untouched}
-use Rattle.regalloc2_semantics.specs.Live.{Undefined}
+use Rattle.regalloc2_semantics.specs.Sound.{Undefined}
 use Rattle.regalloc2_semantics.proofs.Cells.{cases_place}
 use Rattle.regalloc2_carry.proofs.Order.{stands_later}
 use Rattle.regalloc2_carry.proofs.UnwrittenPlaces.{NoMoveTo}

@@ -10,7 +10,8 @@ use Rattle.regalloc2_function.specs.OutputValue.{allocs_of, place_at}
 use Rattle.regalloc2_semantics.specs.Runs.{Way, Onward, ToSuccessor, end_of, IsPath, IsWrittenFirst, source_before, Cells, after_moves}
 use Rattle.regalloc2_semantics.specs.Debug.{GoesOn, there, further, HoldsValue, UsesAt}
 use Rattle.regalloc2_carry.specs.Carry.{Carries}
-use Rattle.regalloc2_semantics.specs.Live.{IsLive, later, HasEntered}
+use Rattle.regalloc2_semantics.specs.Live.{IsLive, later}
+use Rattle.regalloc2_carry.specs.Live.{HasEntered}
 use Rattle.regalloc2_carry.specs.Blocks.{IsUnwritten}
 use Rattle.regalloc2_carry.specs.BlockByPoints.{at_point, walked, listed, Rising}
 use Rattle.regalloc2_carry.proofs.CarryRules.{carries_weaken}

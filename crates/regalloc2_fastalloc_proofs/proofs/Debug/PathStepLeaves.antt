@@ -12,7 +12,7 @@ use Rattle.regalloc2_semantics.specs.Runs.{Way, Onward, ToSuccessor, end_of, Sta
 use Rattle.regalloc2_semantics.specs.Runs.{after_moves, moves_at, cells_early, cells_late, cells_before}
 use Rattle.regalloc2_semantics.specs.Faithful.{ReadsAgree}
 use Rattle.regalloc2_carry.specs.Carry.{Spares}
-use Rattle.regalloc2_semantics.specs.Live.{Undefined, target_at, IsAside}
+use Rattle.regalloc2_semantics.specs.Sound.{Undefined, target_at, IsAside}
 use Rattle.regalloc2_carry.proofs.UnwrittenPlaces.{NoMoveTo, moves_kept}
 use Rattle.regalloc2_carry.proofs.ParamsOnEdge.{passed-other}
 use Rattle.regalloc2_semantics.proofs.AfterWrites.{after_defs-other}

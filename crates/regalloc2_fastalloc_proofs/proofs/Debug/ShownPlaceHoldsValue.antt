@@ -12,9 +12,9 @@ use Rattle.regalloc2_function.specs.Fitting.{MachineFits}
 use Rattle.regalloc2_function.specs.OutputValue.{allocs_of, place_at}
 use Rattle.regalloc2_semantics.specs.Runs.{end_of, IsWrittenFirst, arguments_at}
 use Rattle.regalloc2_semantics.specs.Debug.{HoldsValue, UsesAt}
-use Rattle.regalloc2_semantics.specs.Sound.{HasSoundBlocks}
+use Rattle.regalloc2_semantics.specs.Sound.{HasSoundBlocks, target_at}
 use Rattle.regalloc2_carry.specs.Blocks.{IsUnwritten}
-use Rattle.regalloc2_semantics.specs.Live.{DefinesAt, ReadsAt, target_at}
+use Rattle.regalloc2_semantics.specs.Live.{DefinesAt, ReadsAt}
 use Rattle.regalloc2_semantics.specs.Laws.{ReadsAgreeOnPaths}
 use Rattle.regalloc2_carry.proofs.SingleDef.{Made, by_operand, one_made, one_operand, not_both, reads_defined}
 use Rattle.regalloc2_carry.proofs.SingleDef as defined

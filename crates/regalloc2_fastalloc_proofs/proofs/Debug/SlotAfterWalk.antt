@@ -11,7 +11,9 @@ use Rattle.regalloc2_semantics.specs.Runs.{Way, Onward, end_of, IsPath, IsWritte
 use Rattle.regalloc2_semantics.specs.Debug.{HoldsValue}
 use Rattle.regalloc2_function.specs.WellFormed.{DefinedOnce, IsWellFormed}
 use Rattle.regalloc2_semantics.specs.Laws.{ReadsAgreeOnPaths}
-use Rattle.regalloc2_semantics.specs.Live.{NamesAt, DefinesAt, IsLive, HasEntered, Undefined}
+use Rattle.regalloc2_semantics.specs.Live.{NamesAt, DefinesAt, IsLive}
+use Rattle.regalloc2_semantics.specs.Sound.{Undefined}
+use Rattle.regalloc2_carry.specs.Live.{HasEntered}
 use Rattle.regalloc2_carry.proofs.SingleDef.{Made, one_made}
 use Rattle.regalloc2_fastalloc_state.specs.StateParts.{SlotsHaveOneOwner, slot_name}
 use Rattle.regalloc2_fastalloc_proofs.specs.InstSteps.{StateValue}

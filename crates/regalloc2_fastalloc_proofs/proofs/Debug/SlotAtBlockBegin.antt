@@ -10,9 +10,10 @@ use Rattle.regalloc2_function.specs.Machine.{MachineValue}
 use Rattle.regalloc2_function.specs.OutputValue.{OutputValue, MoveValue, allocs_of, moves_before}
 use Rattle.regalloc2_semantics.specs.Runs.{Way, end_of, IsPath, Stamp, IsWrittenFirst, source_before, Cells, after_moves, cells_before}
 use Rattle.regalloc2_carry.specs.BlockByPoints.{at_point, listed}
-use Rattle.regalloc2_semantics.specs.Live.{Undefined, IsLive, HasEntered}
+use Rattle.regalloc2_semantics.specs.Live.{IsLive}
+use Rattle.regalloc2_semantics.specs.Sound.{Undefined}
+use Rattle.regalloc2_carry.specs.Live.{HasEntered, LiveStandInPlaces}
 use Rattle.regalloc2_semantics.specs.Laws.{ReadsAgreeOnPaths}
-use Rattle.regalloc2_carry.specs.Live.{LiveStandInPlaces}
 use Rattle.regalloc2_carry.specs.Stores.{store_moves}
 use Rattle.regalloc2_carry.proofs.LiveIn.{live_is_used}
 use Rattle.regalloc2_carry.proofs.Order.{ends_before}

@@ -17,9 +17,8 @@ use Rattle.regalloc2_carry.proofs.CarryRules.{carries_moves}
 use Rattle.regalloc2_carry.proofs.PushedMoves.{before_part-more, walked-pushed}
 use Rattle.regalloc2_carry.proofs.MoveInFront.{walked-more, with_moves-more, with_moves-none}
 use Rattle.regalloc2_carry.specs.Carry.{Carries}
-use Rattle.regalloc2_semantics.specs.Live.{Undefined, target_at}
+use Rattle.regalloc2_semantics.specs.Sound.{Undefined, target_at, HasSoundBlocks}
 use Rattle.regalloc2_carry.specs.BlockByPoints.{at_point, walked, before_part, Rising, listed}
-use Rattle.regalloc2_semantics.specs.Sound.{HasSoundBlocks}
 use Rattle.regalloc2_semantics.specs.Laws.{ReadsAgreeOnPaths}
 use Rattle.regalloc2_carry.proofs.SingleDef.{Made, one_operand, not_both, reads_defined}
 use Rattle.regalloc2_carry.proofs.SingleDef as defined

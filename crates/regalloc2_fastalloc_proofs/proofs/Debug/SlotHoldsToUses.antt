@@ -6,7 +6,8 @@ use Rattle.regalloc2_function.specs.FunctionValue.{FunctionValue, inst_at}
 use Rattle.regalloc2_function.specs.OutputValue.{OutputValue}
 use Rattle.regalloc2_semantics.specs.Runs.{Way, Onward, ToSuccessor, end_of, IsPath, source_before}
 use Rattle.regalloc2_semantics.specs.Debug.{GoesOn, there, further, HoldsValue, UsesAt}
-use Rattle.regalloc2_semantics.specs.Live.{IsGiven, Undefined, IsLive, later, IsAside}
+use Rattle.regalloc2_semantics.specs.Live.{IsGiven, IsLive, later}
+use Rattle.regalloc2_semantics.specs.Sound.{Undefined, IsAside}
 use Rattle.regalloc2_semantics.proofs.Given.{undefined_not_given, aside_not_given}
 use Rattle.regalloc2_semantics.specs.Laws.{ReadsAgreeOnPaths}
 use Rattle.regalloc2_fastalloc_proofs.specs.Debug.SlotHoldsValue.{IsKeptInSlot, ShowsAt}

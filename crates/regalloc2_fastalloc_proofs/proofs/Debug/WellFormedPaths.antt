@@ -10,8 +10,8 @@ use Rattle.regalloc2_function.specs.Machine.{MachineValue}
 use Rattle.regalloc2_semantics.specs.Runs.{Way, Onward, ToSuccessor, end_of, IsPath, IsWrittenFirst}
 use Rattle.regalloc2_function.specs.WellFormed.{IsWellFormed}
 use Rattle.regalloc2_semantics.specs.Debug.{UsesAt}
-use Rattle.regalloc2_semantics.specs.Live.{ReadsAt, PassesAt, Undefined, target_at, IsLive, read_there, passed_there}
-use Rattle.regalloc2_semantics.specs.Sound.{HasSoundBlocks}
+use Rattle.regalloc2_semantics.specs.Live.{ReadsAt, PassesAt, IsLive, read_there, passed_there}
+use Rattle.regalloc2_semantics.specs.Sound.{Undefined, target_at, HasSoundBlocks}
 use Rattle.regalloc2_carry.proofs.SingleDef.{reads_defined}
 use Rattle.regalloc2_carry.proofs.Order.{ends_within, stands_later, reads_later}
 use Rattle.regalloc2_carry.proofs.Paths.{block_within}

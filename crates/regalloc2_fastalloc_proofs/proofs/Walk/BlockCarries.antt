@@ -7,7 +7,8 @@ use Rattle.regalloc2_function.specs.FunctionValue.{FunctionValue, InstValue, blo
 use Rattle.regalloc2_function.specs.OutputValue.{place_at}
 use Rattle.regalloc2_carry.specs.Carry.{Carries}
 use Rattle.regalloc2_carry.specs.BlockByPoints.{at_point, walked, listed}
-use Rattle.regalloc2_semantics.specs.Live.{target_at, IsEdgeInto}
+use Rattle.regalloc2_semantics.specs.Sound.{target_at}
+use Rattle.regalloc2_analysis.specs.BranchDefs.BranchDefs.{IsEdgeInto, IsUsedElsewhere}
 use Rattle.regalloc2_carry.specs.Blocks.{IsUsed, IsUsedIn, IsUnwritten, IsExcused, ExcusedAreSilent, StandsBefore, ComesIn, GoesOut}
 use Rattle.regalloc2_carry.proofs.BlockBackward.{Relied}
 use Rattle.regalloc2_carry.proofs.SingleDef.{Made, ReadsDefined, reads_defined, one_made, not_both}
@@ -21,7 +22,6 @@ use Rattle.regalloc2_semantics.specs.Runs.{arguments_at}
 use Rattle.regalloc2_names.specs.Operand.{is_def}
 use Rattle.regalloc2_names.specs.declared.OperandPos.{OperandPos}
 use Rattle.regalloc2_names.specs.declared.OperandPos.TheVariants.{Early, Late}
-use Rattle.regalloc2_analysis.specs.BranchDefs.BranchDefs.{IsUsedElsewhere}
 use Rattle.std.proofs.lemmas.List.{get_or_default, get_or_past, nil_from_length}
 use Rattle.std.proofs.lemmas.Bool.{cases_Bool, cases_lt}
 use Rattle.regalloc2_carry.proofs.Order.{ends_within}

@@ -5,7 +5,9 @@ use Rattle.regalloc2_names.specs.Place.{Place, InSlot, before, after}
 use Rattle.regalloc2_function.specs.FunctionValue.{FunctionValue, block_at, inst_at, op_at}
 use Rattle.regalloc2_function.specs.OutputValue.{OutputValue, allocs_of, place_at}
 use Rattle.regalloc2_semantics.specs.Runs.{Way, Onward, end_of, IsPath}
-use Rattle.regalloc2_semantics.specs.Live.{NamesAt, DefinesAt, Undefined, IsLive, HasEntered}
+use Rattle.regalloc2_semantics.specs.Live.{NamesAt, DefinesAt, IsLive}
+use Rattle.regalloc2_semantics.specs.Sound.{Undefined}
+use Rattle.regalloc2_carry.specs.Live.{HasEntered}
 use Rattle.regalloc2_names.specs.Operand.{is_def}
 use Rattle.regalloc2_fastalloc_proofs.specs.StoreSteps.{IsStoredAt}
 use Rattle.regalloc2_fastalloc_proofs.specs.Debug.SlotHoldsValue.{ReadsInPlace, ShowsAt}
