@@ -13,7 +13,7 @@ use Rattle.regalloc2_semantics.proofs.Cells.{cases_place, stored-same, stored-ot
 use Rattle.regalloc2_carry.specs.Listing.{Item, with_moves, defines, writes}
 use Rattle.regalloc2_carry.specs.Listing.Item.{Move, Exec}
 use Rattle.regalloc2_carry.specs.Carry.{CarriesFrom, Carries, late_cells, Spares, DefinesVRegAt, Untouched}
-use Rattle.regalloc2_semantics.specs.Live.{Undefined}
+use Rattle.regalloc2_semantics.specs.Sound.{Undefined}
 use Rattle.regalloc2_semantics.proofs.AfterWrites.{after_defs-other}
 use Rattle.regalloc2_carry.proofs.BothRuns.{early-other, late-spared, late-made}
 

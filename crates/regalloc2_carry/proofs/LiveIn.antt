@@ -7,13 +7,15 @@ use Rattle.regalloc2_function.specs.FunctionValue.{FunctionValue, block_at, inst
 use Rattle.regalloc2_function.specs.Machine.{MachineValue}
 use Rattle.regalloc2_semantics.specs.Runs.{Way, Onward, ToSuccessor, Location, first_of, end_of, IsPath, IsWrittenFirst}
 use Rattle.regalloc2_function.specs.WellFormed.{IsWellFormed}
-use Rattle.regalloc2_semantics.specs.Live.{Undefined, target_at, IsLive, read_there, passed_there, later}
+use Rattle.regalloc2_semantics.specs.Live.{IsLive, read_there, passed_there, later}
+use Rattle.regalloc2_semantics.specs.Sound.{Undefined, IsAside, target_at, HasSoundBlocks}
+use Rattle.regalloc2_carry.specs.Live.{HasEntered, LiveStandWhereBlocksCarryOn}
 use Rattle.regalloc2_carry.specs.Blocks.{IsUnwritten}
-use Rattle.regalloc2_semantics.specs.Sound.{HasSoundBlocks}
-use Rattle.regalloc2_carry.specs.Live.{LiveStandWhereBlocksCarryOn, HasEntered}
+use Rattle.regalloc2_carry.specs.Live.{HasEntered}
 use Rattle.regalloc2_carry.proofs.SingleDef.{IsDefOperand, reads_defined}
 use Rattle.regalloc2_carry.proofs.Order.{ends_within, reads_later, passes_defined_earlier}
 use Rattle.regalloc2_semantics.proofs.Soundness.{well_formed_are_sound}
+use Rattle.regalloc2_semantics.proofs.Given.{undefined_at, undefined_not_given, aside_not_given}
 use Rattle.regalloc2_carry.proofs.Paths.{Live, UsedSomewhere, live_somewhere, block_within, holds_live, items_carry_on}
 
 module _ (env : MachineValue) (f : FunctionValue) (ok : IsWellFormed env f) (v : VirtualRegister) where
@@ -54,21 +56,24 @@ module _ (env : MachineValue) (f : FunctionValue) (ok : IsWellFormed env f) (v :
   -- v is live in a block if it is live at one of its instructions, before which the block doesn't write it
   pub live_on : (l : Location) → IsLive f v l → l.block < length f.blocks → (block_at f l.block).range.first ≤ l.inst →
       l.inst < (block_at f l.block).range.end → FreeUpTo l.block l.inst → Live f v l.block
-  live_on l (read_there m j lt reads is) lb ge less free =
+  live_on l (read_there m position (j, (inside, lt, is), reads, at)) lb ge less free =
       let within = ends_within f ok.follow m.block lb in
       let inst : m.inst < length f.insts = omega (arith, less, within) in
       Live.read
       (all_free m.block m.inst lb free (λ i k d. reads_later f ok.defined_once v.number i k m.inst j d inst
       (reads_defined f (omega (arith, lb)) ok.follow ok.uses_defined m.inst inst) lt reads (ap (λ (w : VirtualRegister). w.number) is)))
       (m.inst, j, ge, less, lt, reads, is)
-  live_on l (passed_there m k way has here) lb ge less free =
+  live_on l (passed_there m (k, way, has, never)) lb ge less free =
       let end = way.0 in
+      let here : Undefined (inst_at f m.inst).operands v = undefined_at f v m.inst never in
       Live.passed_on
       (all_free m.block m.inst lb free (λ i j d. passed_later m.block m.inst k lb end way.1 has here i j d))
       k way.1 has
-  live_on l (later m Onward way here aside on) lb ge less free = live_on (record { block = m.block; inst = m.inst + 1 }) on lb (omega (arith, ge)) way
-      (one_more m.block m.inst free here)
-  live_on l (later m (ToSuccessor k) way here aside on) lb ge less free =
+  live_on l (later m Onward way never on) lb ge less free = live_on (record { block = m.block; inst = m.inst + 1 }) on lb (omega (arith, ge)) way
+      (one_more m.block m.inst free (undefined_not_given f v m Onward never))
+  live_on l (later m (ToSuccessor k) way never on) lb ge less free =
+      let here : Undefined (inst_at f m.inst).operands v = undefined_not_given f v m (ToSuccessor k) never in
+      let aside : IsAside f v m (ToSuccessor k) = aside_not_given f v m (ToSuccessor k) never in
       let b : ℕ = target_at f m.block k in
       let lt : b < length f.blocks = (well_formed_are_sound env f ok).targets m.block k way.1 in
       let some : (block_at f b).range.first < (block_at f b).range.end = (ok.follow b lt).0 in

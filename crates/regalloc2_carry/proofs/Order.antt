@@ -7,7 +7,7 @@ use Rattle.regalloc2_names.specs.Operand.{is_reading}
 use Rattle.regalloc2_names.specs.Place.{after}
 use Rattle.regalloc2_function.specs.FunctionValue.{FunctionValue, block_at, inst_at, last_of, op_at}
 use Rattle.regalloc2_function.specs.WellFormed.{BlocksFollow, DefinedOnce, IsDefinedUpTo, UsesAreDefined}
-use Rattle.regalloc2_semantics.specs.Live.{Undefined}
+use Rattle.regalloc2_semantics.specs.Sound.{Undefined}
 use Rattle.regalloc2_carry.proofs.SingleDef.{IsDefOperand, Made, MadeBefore, by_earlier, is_made, made_before, made_behind, one_made, one_operand, not_both}
 use Rattle.regalloc2_carry.proofs.SingleDef.{ReadsDefined}
 use Rattle.regalloc2_carry.proofs.SingleDef.Made.{by_operand}

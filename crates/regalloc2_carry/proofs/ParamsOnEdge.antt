@@ -4,7 +4,7 @@ use Rattle.std.specs.Prelude.{◌||◌, Contains}
 use Rattle.std.proofs.lemmas.Bool.{cases_Bool, or_parts}
 use Rattle.regalloc2_names.specs.Register.{VirtualRegister, is_vreg}
 use Rattle.regalloc2_semantics.specs.Runs.{Source, assigned, passed}
-use Rattle.regalloc2_semantics.specs.Live.{names}
+use Rattle.regalloc2_semantics.specs.Sound.{names}
 use Rattle.regalloc2_carry.specs.Blocks.{Passes}
 use Rattle.regalloc2_semantics.proofs.Cells.{is_vreg-true, is_vreg-same, assigned-same, assigned-other}
 

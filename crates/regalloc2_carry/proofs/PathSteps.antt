@@ -1,16 +1,15 @@
 -- One step of a path, in terms of what is left of its block's listing.
-use Rattle.std.proofs.Common.{ℕ, suc, ◌≡◌, ◌+◌, ◌<◌, true, false, List, length, refl, sym, subst}
-use Rattle.std.specs.Prelude.{Option, slice_index_or}
-use Rattle.std.proofs.lemmas.List.{get_or_default}
+use Rattle.std.proofs.Common.{ℕ, suc, ◌≡◌, ◌+◌, true, false, List, length, refl}
+use Rattle.std.specs.Prelude.{Option}
 use Rattle.regalloc2_names.specs.declared.OperandPos.{OperandPos}
 use Rattle.regalloc2_names.specs.declared.OperandPos.TheVariants.{Early, Late}
 use Rattle.regalloc2_names.specs.Register.{VirtualRegister}
-use Rattle.regalloc2_names.specs.Operand.{OperandValue, is_late, is_reading}
+use Rattle.regalloc2_names.specs.Operand.{OperandValue, is_late}
 use Rattle.regalloc2_names.specs.Place.{Place}
-use Rattle.regalloc2_function.specs.FunctionValue.{FunctionValue, block_at, inst_at, no_operand, op_at}
+use Rattle.regalloc2_function.specs.FunctionValue.{FunctionValue, block_at, inst_at, op_at}
 use Rattle.regalloc2_function.specs.OutputValue.{OutputValue, allocs_of}
-use Rattle.regalloc2_semantics.specs.Runs.{Way, Location, end_of, last_inst, Stamp, Source, after_defs, read_of, source_before, source_after, source_read}
-use Rattle.regalloc2_semantics.specs.Runs.{UsesWritten, Cells, cells_early, cells_late, cells_before, allocated_read, moves_at}
+use Rattle.regalloc2_semantics.specs.Runs.{Way, Location, end_of, last_inst, Stamp, Source, after_defs, read_of, source_before, source_after}
+use Rattle.regalloc2_semantics.specs.Runs.{UsesWritten, Cells, cells_early, cells_late, cells_before, moves_at}
 use Rattle.regalloc2_semantics.specs.Faithful.{ReadsAgree}
 use Rattle.regalloc2_carry.specs.Listing.{Item, items_by, items_from}
 use Rattle.regalloc2_carry.specs.Carry.{CarriesFrom, Finds}
@@ -42,10 +41,6 @@ read_same : (q : OperandPos) (a b x y : Option Stamp) → (is_late q ≡ false �
 read_same Early a b x y early late = early refl
 read_same Late a b x y early late = late refl
 
--- the operand of an index, whatever stands for one past the end
-pub op_at-any : (ops : List OperandValue) (k : ℕ) (d : OperandValue) → k < length ops → slice_index_or ops k d ≡ op_at ops k
-op_at-any ops k d lt = get_or_default ops k d no_operand lt
-
 -- where each use finds what its vreg has, and that is something, reads agree
 pub reads_agree : (f : FunctionValue) (out : OutputValue) (ws : List Way) → UsesWritten f ws →
     ((v : VirtualRegister) → Finds v false (last_inst f ws).operands (allocs_of out (end_of f ws).inst) (source_before f ws v)
@@ -53,17 +48,6 @@ pub reads_agree : (f : FunctionValue) (out : OutputValue) (ws : List Way) → Us
     ((v : VirtualRegister) → Finds v true (last_inst f ws).operands (allocs_of out (end_of f ws).inst) (source_after f ws v)
     (cells_late f out (end_of f ws) (length ws) (cells_early f out (end_of f ws) (cells_before f out ws)))) →
     ReadsAgree f out ws
-reads_agree f out ws written early late k d lt reads =
-    (written k d lt reads, subst (λ o. allocated_read f out ws k o ≡ source_read f ws o) (sym e) same)
-  where
-    ops : List OperandValue
-    ops = (last_inst f ws).operands
-
-    e : slice_index_or ops k d ≡ op_at ops k
-    e = op_at-any ops k d lt
-
-    r : is_reading (op_at ops k) ≡ true
-    r = subst (λ o. is_reading o ≡ true) e reads
-
-    same : allocated_read f out ws k (op_at ops k) ≡ source_read f ws (op_at ops k)
-    same = read_same (op_at ops k).position _ _ _ _ (λ h. early (op_at ops k).vreg k lt r h refl) (λ h. late (op_at ops k).vreg k lt r h refl)
+reads_agree f out ws written early late k lt reads =
+    let o : OperandValue = op_at (last_inst f ws).operands k in
+    (written k lt reads, read_same o.position _ _ _ _ (λ h. early o.vreg k lt reads h refl) (λ h. late o.vreg k lt reads h refl))

@@ -8,7 +8,7 @@ use Rattle.regalloc2_names.specs.declared.OperandPos.TheVariants.{Early, Late}
 use Rattle.regalloc2_names.specs.Register.{VirtualRegister}
 use Rattle.regalloc2_names.specs.Operand.{OperandValue, is_reading}
 use Rattle.regalloc2_names.specs.Place.{Place}
-use Rattle.regalloc2_function.specs.FunctionValue.{FunctionValue, block_at, inst_at, no_operand, op_at}
+use Rattle.regalloc2_function.specs.FunctionValue.{FunctionValue, block_at, inst_at, op_at}
 use Rattle.regalloc2_function.specs.OutputValue.{OutputValue}
 use Rattle.regalloc2_semantics.specs.Runs.{Way, Onward, ToSuccessor, Location, first_of, end_of, last_inst, IsPath, HasWay, Stamp, read_of, over_edge}
 use Rattle.regalloc2_semantics.specs.Runs.{arguments_at, source_before, source_after, source_read, IsWrittenFirst, cells_before, IsReached}
@@ -16,9 +16,9 @@ use Rattle.regalloc2_semantics.specs.Faithful.{ReadsAgree}
 use Rattle.regalloc2_carry.specs.Listing.{items_by, items_from, block_items, IsReadIn}
 use Rattle.regalloc2_carry.specs.Carry.{CarriesFrom, Carries}
 use Rattle.regalloc2_carry.specs.Live.{HasEntered}
-use Rattle.regalloc2_semantics.specs.Live.{Undefined, HoldsValueAt, names, HasEdge, target_at}
+use Rattle.regalloc2_semantics.specs.Live.{HoldsValueAt}
+use Rattle.regalloc2_semantics.specs.Sound.{Undefined, names, HasEdge, target_at, HasSoundBlocks}
 use Rattle.regalloc2_carry.specs.BlockByPoints.{block_walked, Rising, EndsQuiet}
-use Rattle.regalloc2_semantics.specs.Sound.{HasSoundBlocks}
 use Rattle.regalloc2_carry.specs.Blocks.{IsUnwritten, IsUsed, IsUsedIn, IsWantedBehind, IsExcused, ExcusedAreSilent, ComesIn, GoesOut, BlockCarriesOn}
 use Rattle.regalloc2_carry.specs.Blocks.{BlocksAgreeInPlaces, BlocksAgreeInPlacesByPoints}
 use Rattle.regalloc2_semantics.proofs.AfterWrites.{after_defs-other}
@@ -124,7 +124,7 @@ module _ (f : FunctionValue) (ok : HasSoundBlocks f) (written : IsWrittenFirst f
       let at : ℕ → Type 0 = λ x. j < length (inst_at f x).operands in
       let o : OperandValue = op_at (last_inst f vs).operands j in
       let same : op_at (inst_at f i).operands j ≡ o = ap (λ x. op_at (inst_at f x).operands j) (sym e) in
-      let w : IsSome (source_read f vs o) = (written vs p).0 j no_operand (subst at (sym e) lt) (subst (λ x. is_reading x ≡ true) same reads) in
+      let w : IsSome (source_read f vs o) = (written vs p).0 j (subst at (sym e) lt) (subst (λ x. is_reading x ≡ true) same reads) in
       let here : o.vreg ≡ v = subst (λ x. x.vreg ≡ v) same is in
       none_is_not_some (source_read f vs o) (read_none o.position (source_before f vs o.vreg) (source_after f vs o.vreg) (ap (source_before f vs) here ∙ before)
       (ap (source_after f vs) here ∙ after)) w

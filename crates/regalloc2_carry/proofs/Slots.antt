@@ -7,7 +7,7 @@ use Rattle.regalloc2_function.specs.OutputValue.{MoveValue}
 use Rattle.regalloc2_semantics.specs.Runs.{arguments_at, Cells, after_moves}
 use Rattle.regalloc2_carry.specs.Listing.{Item, with_moves, writes}
 use Rattle.regalloc2_carry.specs.Carry.{Carries, Untouched}
-use Rattle.regalloc2_semantics.specs.Live.{names, HasEdge, target_at}
+use Rattle.regalloc2_semantics.specs.Sound.{names, HasEdge, target_at}
 use Rattle.regalloc2_carry.specs.Blocks.{IsWantedBehind, Passes, StandsAfter}
 use Rattle.regalloc2_carry.proofs.CarryRules.{carries_weaken, carries_fresh, carries_moves}
 

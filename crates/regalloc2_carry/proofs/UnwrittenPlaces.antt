@@ -13,7 +13,7 @@ use Rattle.regalloc2_carry.specs.Listing.{Item, exec_item, with_moves, defines, 
 use Rattle.regalloc2_carry.specs.Listing.Item.{Exec}
 use Rattle.regalloc2_carry.specs.BlockByPoints.{walked}
 use Rattle.regalloc2_carry.specs.Carry.{CarriesFrom, Carries, Finds, early_cells, late_cells, Spares, Untouched}
-use Rattle.regalloc2_semantics.specs.Live.{Undefined}
+use Rattle.regalloc2_semantics.specs.Sound.{Undefined}
 use Rattle.regalloc2_semantics.proofs.Cells.{is_vreg-true, stored-other}
 use Rattle.regalloc2_semantics.proofs.AfterWrites.{after_defs-other}
 use Rattle.regalloc2_carry.proofs.BothRuns.{early-other, late-spared}

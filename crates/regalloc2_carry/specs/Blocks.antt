@@ -7,10 +7,9 @@ use Rattle.regalloc2_function.specs.OutputValue.{OutputValue}
 use Rattle.regalloc2_semantics.specs.Runs.{first_of, arguments_at, IsWrittenFirst, IsReached}
 use Rattle.regalloc2_carry.specs.Listing.{Item, block_items, IsReadIn}
 use Rattle.regalloc2_carry.specs.Carry.{Carries}
-use Rattle.regalloc2_semantics.specs.Live.{Undefined, names, HasEdge, target_at}
+use Rattle.regalloc2_semantics.specs.Sound.{Undefined, names, HasEdge, target_at, IsParameter, IsEnteredOnce, HasSoundBlocks}
 use Rattle.regalloc2_carry.specs.BlockByPoints.{block_walked, Rising, EndsQuiet}
 use Rattle.regalloc2_semantics.specs.Laws.{ReadsAgreeOnPaths}
-use Rattle.regalloc2_semantics.specs.Sound.{IsParameter, IsEnteredOnce, HasSoundBlocks}
 
 -- no instruction of the block writes v
 abbrev pub IsUnwritten : FunctionValue → ℕ → VirtualRegister → Type 0

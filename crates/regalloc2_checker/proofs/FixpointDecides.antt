@@ -1,13 +1,13 @@
 -- What is accepted by facts that stand still is what is faithful.
 use Rattle.std.proofs.Common.{ℕ, ◌≡◌, ◌+◌, ◌-◌, ◌<◌, ◌≤◌, true, false, List, [], ◌∷◌, length, arith, sym, ◌∙◌, subst}
-use Rattle.std.specs.Prelude.{All, slice_index_or}
+use Rattle.std.specs.Prelude.{All}
 use Rattle.std.proofs.lemmas.Bool.{true_from_ne_false as unless_false}
 use Rattle.regalloc2_index.proofs.Bools.{not_both}
 use Rattle.regalloc2_names.specs.declared.OperandPos.{OperandPos}
 use Rattle.regalloc2_names.specs.Register.{VirtualRegister}
 use Rattle.regalloc2_names.specs.Operand.{OperandValue, is_reading}
 use Rattle.regalloc2_names.specs.Place.{Place}
-use Rattle.regalloc2_function.specs.FunctionValue.{FunctionValue, block_at, inst_at}
+use Rattle.regalloc2_function.specs.FunctionValue.{FunctionValue, block_at, inst_at, op_at}
 use Rattle.regalloc2_function.specs.Machine.{MachineValue}
 use Rattle.regalloc2_function.specs.OutputValue.{OutputValue, allocs_of, place_at}
 use Rattle.regalloc2_semantics.specs.Runs.{Way, Onward, ToSuccessor, Location, end_of, IsPath, last_inst, source_before, source_after, read_of, moves_at}
@@ -97,14 +97,14 @@ facts_are_held law f o F ok s g b n r less position p v = (
 accepted_reads : AreEarlier → (f : FunctionValue) (env : MachineValue) (o : OutputValue) (F : ℕ → Facts) → IsFixpoint f o F → (b n : ℕ) (ws : List Way) →
     IsPath f ws → end_of f ws ≡ nth_of f b n →
     IsAcceptedInst f env o (nth_of f b n) (facts_within f o b (F b) n) → ReadsAgree f o ws
-accepted_reads law f env o F s b n ws h e a k d less =
-    let op : OperandValue = slice_index_or (last_inst f ws).operands k d in
+accepted_reads law f env o F s b n ws h e a k less =
+    let op : OperandValue = op_at (last_inst f ws).operands k in
     λ reads.
-    let u = subst (λ (l : Location). (k : ℕ) (d : OperandValue) → k < length (inst_at f l.inst).operands →
-    is_reading (slice_index_or (inst_at f l.inst).operands k d) ≡ true →
-    facts_for f o (nth_of f b n) (slice_index_or (inst_at f l.inst).operands k d).position (facts_within f o b (F b) n) (place_at (allocs_of o l.inst) k)
-    (slice_index_or (inst_at f l.inst).operands k d).vreg ≡ true) (sym e) a.uses in
-    same_write-true _ _ (covered_for law f o F s b n ws h e op.position (place_at (allocs_of o (end_of f ws).inst) k) op.vreg (u k d less reads))
+    let u = subst (λ (l : Location). (k : ℕ) → k < length (inst_at f l.inst).operands →
+    is_reading (op_at (inst_at f l.inst).operands k) ≡ true →
+    facts_for f o (nth_of f b n) (op_at (inst_at f l.inst).operands k).position (facts_within f o b (F b) n) (place_at (allocs_of o l.inst) k)
+    (op_at (inst_at f l.inst).operands k).vreg ≡ true) (sym e) a.uses in
+    same_write-true _ _ (covered_for law f o F s b n ws h e op.position (place_at (allocs_of o (end_of f ws).inst) k) op.vreg (u k less reads))
 
 -- each step of each path is faithful where each instruction of each reached block is accepted
 accepted_steps : AreEarlier → (f : FunctionValue) (env : MachineValue) (o : OutputValue) (F : ℕ → Facts) → IsFramed f → IsFixpoint f o F →
@@ -134,25 +134,25 @@ faithful_accepted : AreEarlier → (f : FunctionValue) (env : MachineValue) (o :
 faithful_accepted law f env o F g h b n r less =
     let w = reached_within f b r n less in
     record {
-      uses = λ k d in_range reads. uses k d in_range reads;
+      uses = λ k in_range reads. uses k in_range reads;
       constraints = subst (λ (m : Location). ConstraintsMet f env o m.inst) w.2 (h.constraints w.0 w.1);
       moves = subst (λ (m : Location). All (λ x. IsStackToStack env x → ⊥) (moves_at f o m)) w.2 (h.moves w.0 w.1);
     }
   where
-    uses : (k : ℕ) (d : OperandValue) → k < length (inst_at f ((block_at f b).range.first + n)).operands →
-        is_reading (slice_index_or (inst_at f ((block_at f b).range.first + n)).operands k d) ≡ true →
-        facts_for f o (nth_of f b n) (slice_index_or (inst_at f ((block_at f b).range.first + n)).operands k d).position (facts_within f o b (F b) n)
-        (place_at (allocs_of o ((block_at f b).range.first + n)) k) (slice_index_or (inst_at f ((block_at f b).range.first + n)).operands k d).vreg ≡ true
-    uses k d in_range reads = unless_false _ (λ x.
-        let op : OperandValue = slice_index_or (inst_at f ((block_at f b).range.first + n)).operands k d in
+    uses : (k : ℕ) → k < length (inst_at f ((block_at f b).range.first + n)).operands →
+        is_reading (op_at (inst_at f ((block_at f b).range.first + n)).operands k) ≡ true →
+        facts_for f o (nth_of f b n) (op_at (inst_at f ((block_at f b).range.first + n)).operands k).position (facts_within f o b (F b) n)
+        (place_at (allocs_of o ((block_at f b).range.first + n)) k) (op_at (inst_at f ((block_at f b).range.first + n)).operands k).vreg ≡ true
+    uses k in_range reads = unless_false _ (λ x.
+        let op : OperandValue = op_at (inst_at f ((block_at f b).range.first + n)).operands k in
         let w = refuted_for law f o F g b n r less op.position (place_at (allocs_of o ((block_at f b).range.first + n)) k) op.vreg x in
-        let t = subst (λ (l : Location). (k : ℕ) (d : OperandValue) → k < length (inst_at f l.inst).operands →
-        is_reading (slice_index_or (inst_at f l.inst).operands k d) ≡ true →
-        same_write (cell_at f o w.0 (slice_index_or (inst_at f l.inst).operands k d).position (place_at (allocs_of o l.inst) k))
-        (read_of (slice_index_or (inst_at f l.inst).operands k d).position (source_before f w.0 (slice_index_or (inst_at f l.inst).operands k d).vreg)
-        (source_after f w.0 (slice_index_or (inst_at f l.inst).operands k d).vreg)) ≡ true)
-        w.2 (λ j c i y. let q = h.reads w.0 w.1 j c i y in same_write-same _ _ q.0 q.1) in
-        not_both _ (t k d in_range reads) w.3)
+        let t = subst (λ (l : Location). (k : ℕ) → k < length (inst_at f l.inst).operands →
+        is_reading (op_at (inst_at f l.inst).operands k) ≡ true →
+        same_write (cell_at f o w.0 (op_at (inst_at f l.inst).operands k).position (place_at (allocs_of o l.inst) k))
+        (read_of (op_at (inst_at f l.inst).operands k).position (source_before f w.0 (op_at (inst_at f l.inst).operands k).vreg)
+        (source_after f w.0 (op_at (inst_at f l.inst).operands k).vreg)) ≡ true)
+        w.2 (λ j i y. let q = h.reads w.0 w.1 j i y in same_write-same _ _ q.0 q.1) in
+        not_both _ (t k in_range reads) w.3)
 
 -- an output of a structurally valid function is faithful exactly where a fixpoint whose other facts are refuted accepts each instruction of
 -- each reached block

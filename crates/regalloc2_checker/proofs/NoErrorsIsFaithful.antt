@@ -12,7 +12,7 @@ use Rattle.regalloc2_names.specs.declared.OperandPos.TheVariants.{Early, Late}
 use Rattle.regalloc2_names.specs.Register.{VirtualRegister}
 use Rattle.regalloc2_names.specs.Operand.{OperandValue, is_reading}
 use Rattle.regalloc2_names.specs.Place.{Place, NoPlace, InRegister, InSlot}
-use Rattle.regalloc2_function.specs.FunctionValue.{FunctionValue, block_at, inst_at}
+use Rattle.regalloc2_function.specs.FunctionValue.{FunctionValue, block_at, inst_at, no_operand, op_at}
 use Rattle.regalloc2_function.specs.Machine.{MachineValue}
 use Rattle.regalloc2_function.specs.OutputValue.{OutputValue, MoveValue, allocs_of, place_at}
 use Rattle.regalloc2_semantics.specs.Runs.{Way, Location, end_of, IsPath, source_read, moves_at, allocated_read, IsReached}
@@ -124,11 +124,11 @@ step_faithful : {A : Type 0} (f : FunctionValue) (env : MachineValue) (o : Outpu
 step_faithful f env o ws h r =
     let l : Location = end_of f ws in
     let operands : List OperandValue = (inst_at f l.inst).operands in (
-      λ k d less. subst (λ (op : OperandValue). is_reading op ≡ true → IsSome (source_read f ws op)
-          × (allocated_read f o ws k op ≡ source_read f ws op)) (get_or_default operands k _ d less)
+      λ k less. subst (λ (op : OperandValue). is_reading op ≡ true → IsSome (source_read f ws op)
+          × (allocated_read f o ws k op ≡ source_read f ws op)) (get_or_default operands k _ no_operand less)
           (λ reads. let x = (fine_at f env o l r k less).value reads ws h refl in (rw x.1 at x.0, x.1)),
-      λ k d less. subst (λ (op : OperandValue). Meets env (length operands) (allocs_of o l.inst) op.constraint (place_at (allocs_of o l.inst) k))
-          (get_or_default operands k _ d less) (fine_at f env o l r k less).constraint,
+      λ k less. subst (λ (op : OperandValue). Meets env (length operands) (allocs_of o l.inst) op.constraint (place_at (allocs_of o l.inst) k))
+          (get_or_default operands k _ no_operand less) (fine_at f env o l r k less).constraint,
       no_move_faults env (moves_at f o l) r.of_moves r.moves (left_none r.of_moves _ (sym r.all)),
     )
 
@@ -188,7 +188,9 @@ fine_reached f env o h l r k less = record {
   constraint = subst (λ (m : Location). k < length (inst_at f m.inst).operands →
       Meets env (length (inst_at f m.inst).operands) (allocs_of o m.inst) (operand_at (inst_at f m.inst).operands k).constraint
       (place_at (allocs_of o m.inst) k)) r.2
-      (λ less. h.constraints r.0 r.1 k _ less) less;
+      (λ less. let ops : List OperandValue = (inst_at f (end_of f r.0).inst).operands in
+      subst (λ (op : OperandValue). Meets env (length ops) (allocs_of o (end_of f r.0).inst) op.constraint (place_at (allocs_of o (end_of f r.0).inst) k))
+      (get_or_default ops k no_operand _ less) (h.constraints r.0 r.1 k less)) less;
 }
   where
     held : (ws : List Way) → IsPath f ws → (e : end_of f ws ≡ l) → is_reading (operand_at (inst_at f l.inst).operands k) ≡ true →
@@ -199,7 +201,11 @@ fine_reached f env o h l r k less = record {
         IsSome (cell_at f o ws (operand_at (inst_at f m.inst).operands k).position (place_at (allocs_of o m.inst) k))
         × (cell_at f o ws (operand_at (inst_at f m.inst).operands k).position (place_at (allocs_of o m.inst) k) ≡ source_read f ws
         (operand_at (inst_at f m.inst).operands k))) e
-        (λ less reads. let x = h.reads ws p k _ less reads in (rw (sym x.1) at x.0, x.1)) less reads
+        (λ less reads. let ops : List OperandValue = (inst_at f (end_of f ws).inst).operands in
+        let same : op_at ops k ≡ operand_at ops k = get_or_default ops k no_operand _ less in
+        let x = subst (λ (op : OperandValue). is_reading op ≡ true → IsSome (source_read f ws op) × (allocated_read f o ws k op ≡ source_read f ws op)) same
+        (h.reads ws p k less) reads in
+        (rw (sym x.1) at x.0, x.1)) less reads
 
 no_inst_errors : {A : Type 0} (f : FunctionValue) (env : MachineValue) (o : OutputValue) → IsFaithful f env o → (l : Location) → IsReached f l →
     (es : List (CheckerError A)) → InstReport f env o l es → es ≡ []

@@ -9,11 +9,12 @@ use Rattle.std.proofs.lemmas.List.Sorted.{All-permutation}
 use Rattle.regalloc2_names.specs.Operand.{OperandValue, is_fixed, is_fixed_nonallocatable}
 use Rattle.regalloc2_names.specs.Place.{Place, NoPlace, InRegister, InSlot, is_no_place}
 use Rattle.regalloc2_names.specs.Register.{VirtualRegister}
-use Rattle.regalloc2_function.specs.FunctionValue.{FunctionValue, IsLimited, Label, inst_at, no_operand, op_at, op_at as operand_at}
+use Rattle.regalloc2_function.specs.FunctionValue.{FunctionValue, IsLimited, Label, inst_at, op_at, op_at as operand_at}
 use Rattle.regalloc2_function.specs.Machine.{MachineValue}
 use Rattle.regalloc2_function.specs.OutputValue.{DebugLocation, OutputValue}
-use Rattle.regalloc2_semantics.specs.Runs.{IsWrittenFirst}
-use Rattle.regalloc2_semantics.specs.Debug.{ShowsValue, PassesAt}
+use Rattle.regalloc2_semantics.specs.Runs.{IsWrittenFirst, Location}
+use Rattle.regalloc2_semantics.specs.Debug.{ShowsValue}
+use Rattle.regalloc2_semantics.specs.Live.{PassesAt}
 use Rattle.regalloc2_semantics.specs.Places.{IsProperPlace}
 use Rattle.regalloc2_function.specs.WellFormed.{IsWellFormed}
 use Rattle.regalloc2_carry.proofs.SingleDef.{Made, made_small}
@@ -38,7 +39,7 @@ use Rattle.regalloc2_fastalloc.proofs.DebugLocationsFound.{pointed_made}
 -- a vreg that shows the value of v, is an operand of it; an argument alone is in a slot
 module _ (env : MachineValue) (f : FunctionValue) (limited : IsLimited f) (ok : IsWellFormed env f) (May : ℕ → Type 0) (t : StateValue) (offsets : List ℕ)
     (allocs : List Place) (at : (i : ℕ) → i < length f.insts → slice_index offsets i ≡ offset_of f i)
-    (kept : WalkKept env (Made f) f May allocs 0 0 allocs t) (handed : (v : VirtualRegister) (i : ℕ) → PassesAt f v i →
+    (kept : WalkKept env (Made f) f May allocs 0 0 allocs t) (handed : (v : VirtualRegister) (l : Location) → PassesAt f v l →
     slot_name t.slots v.number ≢ NoPlace) where
   -- an operand of one that is made is allocated
   allocated : (o : OperandValue) → o.vreg.number < f.num_vregs → is_fixed_nonallocatable o ≡ false
@@ -83,7 +84,7 @@ module _ (env : MachineValue) (f : FunctionValue) (limited : IsLimited f) (ok : 
 
 module _ (env : MachineValue) (f : FunctionValue) (limited : IsLimited f) (ok : IsWellFormed env f) (May : ℕ → Type 0) (t : StateValue) (out : OutputValue)
     (m : IsOutputOfWalk f env (Made f) May t out)
-    (handed : (v : VirtualRegister) (i : ℕ) → PassesAt f v i → slot_name t.slots v.number ≢ NoPlace) (owns : OwnsSlots (Made f) f t.slots out) where
+    (handed : (v : VirtualRegister) (l : Location) → PassesAt f v l → slot_name t.slots v.number ≢ NoPlace) (owns : OwnsSlots (Made f) f t.slots out) where
   -- the place that shows v is one of v's
   place_is_own : (v : VirtualRegister) → Made f v → (p : Place) → slot_name t.slots v.number ≡ p → (by : Option InstOperand) → IsShownBy f v by →
       IsPlaceOf f out owns.owned.owner v (if is_no_place p then place_by out.offsets out.allocs by else p)
@@ -93,10 +94,7 @@ module _ (env : MachineValue) (f : FunctionValue) (limited : IsLimited f) (ok : 
       inl (
         o.inst,
         o.index,
-        no_operand,
-        h.0,
-        h.1,
-        h.2,
+        h,
         place_is f env (Made f) May t out m o.inst h.0 o.index h.1
             ∙ ap (λ (n : ℕ). slice_index_or out.allocs (n + o.index) NoPlace) (sym (m.offsets o.inst h.0)),
       ))

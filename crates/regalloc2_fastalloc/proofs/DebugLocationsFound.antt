@@ -12,7 +12,9 @@ use Rattle.regalloc2_names.specs.Register.{VirtualRegister}
 use Rattle.regalloc2_function.specs.FunctionValue.{FunctionValue, Label, inst_at, no_inst, operand_count, op_at}
 use Rattle.regalloc2_function.specs.OutputValue.{DebugLocation}
 use Rattle.regalloc2_function.specs.Stored.{location_of}
-use Rattle.regalloc2_semantics.specs.Debug.{IsFirstPoint, PassesAt}
+use Rattle.regalloc2_semantics.specs.Runs.{Location}
+use Rattle.regalloc2_semantics.specs.Live.{PassesAt}
+use Rattle.regalloc2_semantics.specs.Debug.{IsFirstPoint}
 use Rattle.regalloc2_semantics.specs.Debug.IsFirstPoint.{of_definition, of_parameter}
 use Rattle.regalloc2_carry.proofs.SingleDef.{Made}
 use Rattle.regalloc2_fastalloc_state.specs.StateParts.{SpillSlotsValue}
@@ -72,7 +74,7 @@ pointed_made f v (of_parameter b lt h) = made_by_parameter f v b lt h
 pub operand_within : (f : FunctionValue) (v : VirtualRegister) (by : Option InstOperand) → IsShownBy f v by → (o : InstOperand) → by ≡ Some o →
     (o.inst < length f.insts) × (o.index < length (inst_at f o.inst).operands) × ((op_at (inst_at f o.inst).operands o.index).vreg ≡ v)
 operand_within f v by shown o is =
-    subst (λ (b : Option InstOperand). MatchOption b ((i : ℕ) × PassesAt f v i)
+    subst (λ (b : Option InstOperand). MatchOption b ((l : Location) × PassesAt f v l)
     (λ p. (p.inst < length f.insts) × (p.index < length (inst_at f p.inst).operands) × ((op_at (inst_at f p.inst).operands p.index).vreg ≡ v))) is
     (shown_within f v shown)
 

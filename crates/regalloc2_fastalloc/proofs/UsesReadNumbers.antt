@@ -4,7 +4,7 @@ use Rattle.std.specs.Prelude.{All, Option, None, Some, IsSome, slice_index_or}
 use Rattle.std.specs.Option.{option_map}
 use Rattle.std.proofs.lemmas.List.Elements.{All-nil, All-cons, All-map}
 use Rattle.regalloc2_names.specs.Operand.{OperandValue, is_reading}
-use Rattle.regalloc2_function.specs.FunctionValue.{FunctionValue}
+use Rattle.regalloc2_function.specs.FunctionValue.{FunctionValue, op_at}
 use Rattle.regalloc2_function.specs.Machine.{MachineValue}
 use Rattle.regalloc2_function.specs.OutputValue.{OutputValue}
 use Rattle.regalloc2_semantics.specs.Runs.{Way, IsPath, last_inst, Stamp, source_read}
@@ -17,15 +17,15 @@ if_read false x xs h rest = rest
 
 -- what the reading uses of operands read
 each_reads : (read : ℕ → OperandValue → Option Stamp) (n : ℕ) (os : List OperandValue)
-    → ((k : ℕ) (d : OperandValue) → k < length os → is_reading (slice_index_or os k d) ≡ true → IsSome (read (k + n) (slice_index_or os k d))) →
+    → ((k : ℕ) → k < length os → is_reading (op_at os k) ≡ true → IsSome (read (k + n) (op_at os k))) →
     All IsSome (reads_from read n os)
 unfolding reads_from
 each_reads read n [] h = All-nil IsSome
 each_reads read n (o ∷ os) h =
     let e : 0 + n ≡ n = omega arith in
-    if_read (is_reading o) (read n o) (reads_from read (n + 1) os) (λ yes. subst (λ m. IsSome (read m o)) e (h 0 o (omega arith) yes))
-    (each_reads read (n + 1) os (λ k d less yes. let s : suc k + n ≡ k + (n + 1) = omega arith in
-    subst (λ m. IsSome (read m (slice_index_or os k d))) s (h (suc k) d (omega arith) yes)))
+    if_read (is_reading o) (read n o) (reads_from read (n + 1) os) (λ yes. subst (λ m. IsSome (read m o)) e (h 0 (omega arith) yes))
+    (each_reads read (n + 1) os (λ k less yes. let s : suc k + n ≡ k + (n + 1) = omega arith in
+    subst (λ m. IsSome (read m (op_at os k))) s (h (suc k) (omega arith) yes)))
 
 there_mapped : (g : Stamp → ℕ) (x : Option Stamp) → IsSome x → IsSome (option_map g x)
 there_mapped g None h = h
@@ -36,7 +36,7 @@ all_there g xs h = All-map IsSome (option_map g) xs (λ k d less. there_mapped g
 
 step_reads : (f : FunctionValue) (env : MachineValue) (out : OutputValue) → IsFaithful f env out → (ws : List Way) → IsPath f ws →
     All IsSome (source_reads f ws)
-step_reads f env out h ws p = each_reads (λ k o. source_read f ws o) 0 (last_inst f ws).operands (λ k d less yes. (h.reads ws p k d less yes).0)
+step_reads f env out h ws p = each_reads (λ k o. source_read f ws o) 0 (last_inst f ws).operands (λ k less yes. (h.reads ws p k less yes).0)
 
 -- where an output is faithful, on every path each use of the function reads a number, whatever the instructions compute
 pub reads_numbers : (f : FunctionValue) (env : MachineValue) (out : OutputValue) → IsFaithful f env out → (meaning : Meaning) (ws : List Way) → IsPath f ws →

@@ -1,21 +1,20 @@
 -- What `run` guarantees of its outputs: the main theorem's conclusion. Its terms are in regalloc2_semantics/specs,
 -- in reading order: `Runs`, `Faithful`, `Values`, `Places`, `Live`, `Debug`; values of functions, machines and outputs in regalloc2_function/specs.
-use Rattle.std.specs.Prelude.{ℕ, ◌≡◌, ◌<◌, ◌≤◌, ◌^◌, ◌⊎◌, List, All, IsSome, length, slice_index_or, false, [], nat_eq, ◌≢◌}
-use Rattle.regalloc2_names.specs.Register.{VirtualRegister, Register, no_vreg, has_register}
-use Rattle.regalloc2_names.specs.Operand.{OperandValue}
+use Rattle.std.specs.Prelude.{ℕ, ◌≡◌, ◌<◌, ◌≤◌, ◌^◌, ◌⊎◌, List, All, IsSome, length, false, [], nat_eq, ◌≢◌, ◌∷◌, Contains, zip, slice_index}
+use Rattle.regalloc2_names.specs.Register.{VirtualRegister, Register, has_register}
 use Rattle.regalloc2_names.specs.Place.{Place, InSlot, before}
 use Rattle.std.specs.List.{IsDistinct}
 use Rattle.regalloc2_names.specs.declared.OperandConstraint.TheVariants.{Reg}
 use Rattle.regalloc2_names.specs.declared.RegClass.{RegClass}
-use Rattle.regalloc2_function.specs.FunctionValue.{FunctionValue, block_at, inst_at, op_at, last_of}
+use Rattle.regalloc2_function.specs.FunctionValue.{FunctionValue, block_at, inst_at, op_at}
 use Rattle.regalloc2_function.specs.Machine.{MachineValue, allocatable_count}
 use Rattle.regalloc2_function.specs.OutputValue.{OutputValue, IsInOrder, allocs_of, place_at}
-use Rattle.regalloc2_semantics.specs.Runs.{Way, first_of, end_of, IsPath, IsWrittenFirst, arguments_at}
+use Rattle.regalloc2_semantics.specs.Runs.{Way, first_of, end_of, IsPath, IsWrittenFirst, arguments_at, ToSuccessor, Location}
 use Rattle.regalloc2_semantics.specs.Faithful.{ConstraintsMet, EditsAreListed, IsStackToStack, IsFaithful}
 use Rattle.regalloc2_semantics.specs.Debug.{ShowsValue, AreDebugLocations}
-use Rattle.regalloc2_semantics.specs.Places.{IsProperPlace, PlacesAreProper, Owner, OfVReg, OfBranch, IsSlotOf, AreSlotsOwned, StandsInSlot, units_at_most}
+use Rattle.regalloc2_semantics.specs.Places.{IsProperPlace, PlacesAreProper, Owner, OfVReg, OfBranch, IsSlotOf, AreSlotsOwned, units_at_most}
 use Rattle.regalloc2_semantics.specs.Values.{Meaning, SameNumbers, numbers, source_reads}
-use Rattle.regalloc2_semantics.specs.Live.{DefinesNumber, IsEdgeInto, IsLive, HoldsValueAt}
+use Rattle.regalloc2_semantics.specs.Live.{NamesAt, DefinesAt, IsLive, HoldsValueAt}
 
 -- The allocated program runs as the function does, along every path from the entry: at each step each use finds in its place the function's own
 -- write, each place meets its constraint, and no move is stack-to-stack; and so each use reads the function's own number, whatever the instructions
@@ -25,32 +24,26 @@ pub record RunsAsTheFunction (f : FunctionValue) (env : MachineValue) (out : Out
   pub reads_numbers : (meaning : Meaning) (ws : List Way) → IsPath f ws → All (All IsSome) (numbers f meaning (source_reads f) ws).history
   pub same_numbers : SameNumbers f out
 
--- the operands of the branch at a block's end
-abbrev pub last_operands : FunctionValue → ℕ → List OperandValue
-last_operands f e = (inst_at f (last_of (block_at f e))).operands
+-- the edge at position k out of a location passes u to the parameter v
+abbrev pub IsPassedTo : FunctionValue → Location → ℕ → VirtualRegister → VirtualRegister → Type 0
+IsPassedTo f l k v u = Contains (zip (block_at f (slice_index (block_at f l.block).succs k)).params (arguments_at f l.block k)) (v, u)
 
--- the argument that an edge gives for the parameter n
-abbrev pub argument_for : FunctionValue → ℕ → ℕ → ℕ → VirtualRegister
-argument_for f e k n = slice_index_or (arguments_at f e k) n no_vreg
-
--- The place of v where a path comes to the block b. If the branch into b defines v, that is the place of the operand that does; and so if v is a parameter
--- of b that is given what the branch defines. Else it is v's slot.
-pub data ArrivesAt (f : FunctionValue) (out : OutputValue) (slot : VirtualRegister → ℕ) (b : ℕ) (v : VirtualRegister) : Place → Type 0 where
-  defined : (e k j : ℕ) → IsEdgeInto f b e k → DefinesNumber (last_operands f e) v.number j →
-      ArrivesAt f out slot b v (place_at (allocs_of out (last_of (block_at f e))) j)
-  given : (e k n j : ℕ) → IsEdgeInto f b e k → n < length (block_at f b).params → slice_index_or (block_at f b).params n no_vreg ≡ v →
-      DefinesNumber (last_operands f e) (argument_for f e k n).number j → ArrivesAt f out slot b v (place_at (allocs_of out (last_of (block_at f e))) j)
-  in_slot : ((e k j : ℕ) → IsEdgeInto f b e k → DefinesNumber (last_operands f e) v.number j → ⊥) →
-      ((e k n j : ℕ) → IsEdgeInto f b e k → n < length (block_at f b).params → slice_index_or (block_at f b).params n no_vreg ≡ v →
-      DefinesNumber (last_operands f e) (argument_for f e k n).number j → ⊥) → ArrivesAt f out slot b v (InSlot (slot v))
+-- The place of v behind the edge at position k out of a location. If the branch at the location defines v, or what the edge passes to v, that is the place of
+-- the operand that does. Else it is v's slot.
+pub data ArrivesAt (f : FunctionValue) (out : OutputValue) (slot : VirtualRegister → ℕ) (l : Location) (k : ℕ) (v : VirtualRegister) : Place → Type 0 where
+  defined : (d : DefinesAt f v l.inst) → ArrivesAt f out slot l k v (place_at (allocs_of out l.inst) d.0)
+  given : (u : VirtualRegister) → IsPassedTo f l k v u → (d : DefinesAt f u l.inst) → ArrivesAt f out slot l k v (place_at (allocs_of out l.inst) d.0)
+  in_slot : (DefinesAt f v l.inst → ⊥) → ((u : VirtualRegister) → IsPassedTo f l k v u → DefinesAt f u l.inst → ⊥) →
+      ArrivesAt f out slot l k v (InSlot (slot v))
 
 -- Between blocks values are on the stack, but for what the branch between them defines: each vreg has one slot, which is that of its operands in slots;
--- on every path, where it comes to a block, each vreg that is live there owns its slot, and its place holds its value; so do the block's parameters.
+-- on every path, behind each edge, each vreg that is live there owns its slot, and its place holds its value; so do the block's parameters. At the
+-- function's entry no vreg is live.
 pub record LiveInSlots (f : FunctionValue) (out : OutputValue) (owner : ℕ → Owner) : Type 0 where
   pub slot : VirtualRegister → ℕ
-  pub operands : (v : VirtualRegister) (n : ℕ) → StandsInSlot f out v n → slot v ≡ n
-  pub live : (ws : List Way) → IsPath f ws → end_of f ws ≡ first_of f (end_of f ws).block → (v : VirtualRegister) → IsLive f v (end_of f ws) →
-      (owner (slot v) ≡ OfVReg v) × ((p : Place) → ArrivesAt f out slot (end_of f ws).block v p → HoldsValueAt f out ws p v)
+  pub operands : (v : VirtualRegister) (i k n : ℕ) → NamesAt f v i k → place_at (allocs_of out i) k ≡ InSlot n → slot v ≡ n
+  pub live : (ws : List Way) (k : ℕ) → IsPath f (ToSuccessor k ∷ ws) → (v : VirtualRegister) → IsLive f v (end_of f (ToSuccessor k ∷ ws)) →
+      (owner (slot v) ≡ OfVReg v) × ((p : Place) → ArrivesAt f out slot (end_of f ws) k v p → HoldsValueAt f out (ToSuccessor k ∷ ws) p v)
 
 -- The slot n of a branch i: it is the branch's first or second one for its class, and only moves name it, each at the point before the branch.
 pub record ServesBranch (out : OutputValue) (n i time : ℕ) : Type 0 where
@@ -59,14 +52,9 @@ pub record ServesBranch (out : OutputValue) (n i time : ℕ) : Type 0 where
   pub no_operand : All (λ p. p ≢ InSlot n) out.allocs
   pub no_location : All (λ d. d.place ≢ InSlot n) out.debug_locations
 
--- an operand that names the vreg has the place
-abbrev pub IsPlaceOfOperand : FunctionValue → OutputValue → VirtualRegister → Place → Type 0
-IsPlaceOfOperand f out v p = (i k : ℕ) × (d : OperandValue) × (i < length f.insts) × (k < length (inst_at f i).operands)
-    × ((slice_index_or (inst_at f i).operands k d).vreg ≡ v) × (place_at (allocs_of out i) k ≡ p)
-
 -- A place of a vreg: an operand that names it is there, or it is the slot that it owns.
 abbrev pub IsPlaceOf : FunctionValue → OutputValue → (ℕ → Owner) → VirtualRegister → Place → Type 0
-IsPlaceOf f out owner v p = IsPlaceOfOperand f out v p ⊎ ((n : ℕ) × (p ≡ InSlot n) × (owner n ≡ OfVReg v))
+IsPlaceOf f out owner v p = ((i k : ℕ) × NamesAt f v i k × (place_at (allocs_of out i) k ≡ p)) ⊎ ((n : ℕ) × (p ≡ InSlot n) × (owner n ≡ OfVReg v))
 
 -- There is a debug location for each label that is kept, each from its vreg's first point to its last one, by rising label, and as listed where
 -- labels are equal. Each place is valid, and one of that vreg; and if no path from the entry reads or passes a vreg before writing it, it holds that
@@ -75,17 +63,13 @@ abbrev pub ShowsLabels : FunctionValue → MachineValue → OutputValue → (ℕ
 ShowsLabels f env out owner = AreDebugLocations f (λ l d. IsProperPlace env out l.vreg.class d.place × IsPlaceOf f out owner l.vreg d.place
     × (IsWrittenFirst f → ShowsValue f out l.vreg d.place)) out
 
--- an operand of the function names the vreg
-abbrev pub IsNamed : FunctionValue → VirtualRegister → Type 0
-IsNamed f v = (i k : ℕ) × (i < length f.insts) × (k < length (inst_at f i).operands) × ((op_at (inst_at f i).operands k).vreg ≡ v)
-
 -- A function of one block, all of whose operands are under `Reg`, without clobbers, which names no more vregs of a class than
 -- registers of it may be allocated.
 pub record HasRegistersForAll (f : FunctionValue) (env : MachineValue) : Type 0 where
   pub one_block : length f.blocks ≡ 1
   pub under_reg : (i k : ℕ) → i < length f.insts → k < length (inst_at f i).operands → (op_at (inst_at f i).operands k).constraint ≡ Reg
   pub no_clobbers : (i : ℕ) (r : Register) → i < length f.insts → has_register (inst_at f i).clobbers r ≡ false
-  pub enough : (class : RegClass) (vs : List VirtualRegister) → IsDistinct (λ v w. nat_eq v.number w.number) vs → All (λ v. (v.class ≡ class) × IsNamed f v) vs →
+  pub enough : (class : RegClass) (vs : List VirtualRegister) → IsDistinct (λ v w. nat_eq v.number w.number) vs → All (λ v. (v.class ≡ class) × ((i k : ℕ) × NamesAt f v i k)) vs →
       length vs ≤ allocatable_count env class
 
 -- The whole guarantee about an output. Only `faithful`, `live` and the last part of `labels` have a premise: that no path from the entry reads or

@@ -8,7 +8,8 @@ use Rattle.regalloc2_names.specs.Register.{Register, VirtualRegister, class_code
 use Rattle.regalloc2_names.specs.Place.{Place, NoPlace, InRegister, InSlot, is_memory, before}
 use Rattle.regalloc2_function.specs.FunctionValue.{FunctionValue, block_at, inst_at, last_of}
 use Rattle.regalloc2_semantics.specs.Runs.{arguments_at}
-use Rattle.regalloc2_semantics.specs.Live.{HasEdge, target_at, DefinesNumber}
+use Rattle.regalloc2_semantics.specs.Sound.{HasEdge, target_at}
+use Rattle.regalloc2_analysis.specs.BranchDefs.BranchDefs.{DefinesNumber}
 use Rattle.regalloc2_parts.specs.AtOnce.{ends_of, own_names, in_turn, HasOneSourceEach}
 use Rattle.regalloc2_fastalloc_state.specs.declared.inst_regs.InstRegs.{InstRegs}
 use Rattle.regalloc2_parts.specs.declared.scratch_pool.ScratchPair.{ScratchPair}

@@ -7,9 +7,9 @@ use Rattle.regalloc2_names.specs.Place.{Place, NoPlace, InRegister, is_memory, b
 use Rattle.regalloc2_function.specs.FunctionValue.{FunctionValue, block_at, inst_at, op_at, last_of}
 use Rattle.regalloc2_function.specs.OutputValue.{MoveValue}
 use Rattle.regalloc2_semantics.specs.Runs.{arguments_at}
-use Rattle.regalloc2_semantics.specs.Live.{target_at, DefinesNumber, IsEdgeInto}
+use Rattle.regalloc2_semantics.specs.Sound.{target_at}
+use Rattle.regalloc2_analysis.specs.BranchDefs.BranchDefs.{DefinesNumber, IsEdgeInto, IsStoredOperand, fixed_definition}
 use Rattle.regalloc2_carry.specs.Stores.{Store, store_moves, IsOneOf, AreInOrder}
-use Rattle.regalloc2_analysis.specs.BranchDefs.BranchDefs.{IsStoredOperand, fixed_definition}
 use Rattle.regalloc2_fastalloc_state.specs.StateParts.{SpillSlotsValue, GetsSpillSlot, NoneIsFrom, slot_name}
 use Rattle.regalloc2_fastalloc_proofs.specs.InstSteps.{StateValue, Outcome, next, no_register, SameMachine, MayHold}
 

@@ -7,7 +7,7 @@ use Rattle.regalloc2_names.specs.Place.{before}
 use Rattle.regalloc2_function.specs.FunctionValue.{FunctionValue, block_at}
 use Rattle.regalloc2_function.specs.OutputValue.{MoveValue}
 use Rattle.regalloc2_semantics.specs.Runs.{arguments_at}
-use Rattle.regalloc2_semantics.specs.Live.{HasEdge, target_at}
+use Rattle.regalloc2_semantics.specs.Sound.{HasEdge, target_at}
 use Rattle.regalloc2_parts.specs.AtOnce.{in_turn}
 use Rattle.regalloc2_fastalloc_state.specs.declared.inst_regs.InstRegs.{InstRegs}
 use Rattle.regalloc2_fastalloc_proofs.specs.InstSteps.{StateValue}

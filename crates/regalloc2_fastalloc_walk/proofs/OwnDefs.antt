@@ -5,8 +5,7 @@ use Rattle.regalloc2_names.specs.Register.{VirtualRegister}
 use Rattle.regalloc2_function.specs.FunctionValue.{FunctionValue, block_at, inst_at, last_of}
 use Rattle.regalloc2_function.specs.WellFormed.{DefinedOnce}
 use Rattle.regalloc2_carry.proofs.SingleDef.{one_operand}
-use Rattle.regalloc2_semantics.specs.Live.{DefinesNumber}
-use Rattle.regalloc2_analysis.specs.BranchDefs.BranchDefs.{IsSite}
+use Rattle.regalloc2_analysis.specs.BranchDefs.BranchDefs.{DefinesNumber, IsSite}
 use Rattle.regalloc2_analysis.specs.BranchDefs.Tables.{AreBranchDefsOf, site_of}
 use Rattle.regalloc2_analysis.specs.declared.branch_defs.BranchDefs.{BranchDefs}
 use Rattle.regalloc2_analysis.specs.declared.branch_defs.DefSite.{DefSite}

@@ -13,10 +13,10 @@ use Rattle.regalloc2_names.specs.Register.{VirtualRegister, no_vreg}
 use Rattle.regalloc2_names.specs.Operand.{OperandValue}
 use Rattle.regalloc2_function.specs.FunctionValue.{FunctionValue, block_at, inst_at, op_at, last_of}
 use Rattle.regalloc2_semantics.specs.Runs.{arguments_at}
-use Rattle.regalloc2_semantics.specs.Live.{target_at, DefinesNumber, IsEdgeInto}
+use Rattle.regalloc2_semantics.specs.Sound.{target_at}
+use Rattle.regalloc2_analysis.specs.BranchDefs.BranchDefs.{DefinesNumber, IsEdgeInto, AreStoredOperands, IsSite, IsStoredOperand}
 use Rattle.regalloc2_carry.proofs.SingleDef.{IsDefOperand, TakesAt, one_operand, one_param as one_taken, not_both}
 use Rattle.regalloc2_semantics.proofs.Soundness.{well_formed_are_sound}
-use Rattle.regalloc2_analysis.specs.BranchDefs.BranchDefs.{AreStoredOperands, IsSite, IsStoredOperand}
 use Rattle.regalloc2_analysis.specs.BranchDefs.Tables.{AreBranchDefsOf, site_of}
 use Rattle.regalloc2_analysis.specs.declared.branch_defs.BranchDefs.{BranchDefs}
 use Rattle.regalloc2_analysis.specs.declared.branch_defs.DefSite.{DefSite}

@@ -16,8 +16,7 @@ use Rattle.regalloc2_carry.specs.Stores.{Store, moves_by, store_moves, IsOneOf, 
 use Rattle.regalloc2_carry.specs.Stores.IsOneOf.{first, later}
 use Rattle.regalloc2_carry.proofs.SingleDef.{IsDefOperand, not_both, one_operand}
 use Rattle.regalloc2_semantics.proofs.Soundness.{well_formed_are_sound}
-use Rattle.regalloc2_semantics.specs.Live.{DefinesNumber, IsEdgeInto}
-use Rattle.regalloc2_analysis.specs.BranchDefs.BranchDefs.{fixed_definition}
+use Rattle.regalloc2_analysis.specs.BranchDefs.BranchDefs.{DefinesNumber, IsEdgeInto, fixed_definition}
 use Rattle.regalloc2_fastalloc_state.specs.StateParts.{NoSlotIsShared, SpillSlotsValue, GetsSpillSlot, NoneIsFrom, slot_name}
 use Rattle.regalloc2_fastalloc_proofs.specs.InstSteps.{StateValue, SameMachine, no_register}
 use Rattle.regalloc2_fastalloc_proofs.specs.BlockSteps.{MayBeAllocated}

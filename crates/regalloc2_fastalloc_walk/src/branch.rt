@@ -1,6 +1,6 @@
 //! The moves of a branch: each argument goes to the slots of the parameters that it is passed to.
 
-ghost use Rattle.regalloc2_semantics.specs.Live.{HasEdge, target_at};
+ghost use Rattle.regalloc2_semantics.specs.Sound.{HasEdge, target_at};
 ghost use Rattle.std.specs.Prelude.{ℕ, List, ◌≡◌, ◌↔◌, ◌≢◌, ◌<◌, ◌+◌, ◌++◌, ◌∷◌, ◌⊎◌, [], None, Some, length, IsTrue, IfSome, IfErr, OnOk, OnErr, IfNone};
 ghost use Rattle.std.specs.Prelude.{slice_index_or, true, MatchResult};
 ghost use Rattle.regalloc2_names.specs.Place.{Place, NoPlace, InRegister, before};

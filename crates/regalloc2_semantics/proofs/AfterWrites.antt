@@ -11,7 +11,7 @@ use Rattle.regalloc2_function.specs.OutputValue.{place_at}
 use Rattle.regalloc2_function.specs.FunctionValue.{op_at}
 use Rattle.regalloc2_semantics.specs.Runs.{Stamp, Source, assigned, after_defs, Cells, stored, after_early_defs, after_writes}
 use Rattle.regalloc2_semantics.proofs.Cells.{stored-same, stored-other, assigned-same, assigned-other}
-use Rattle.regalloc2_semantics.specs.Live.{Undefined}
+use Rattle.regalloc2_semantics.specs.Sound.{Undefined}
 
 -- one operand
 defined_not : (b : Bool) (m : Source) (w v : VirtualRegister) (x : Option Stamp) → (b ≡ true → w ≡ v → ⊥) → (cond b (assigned m w x) m) v ≡ m v

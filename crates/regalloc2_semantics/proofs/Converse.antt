@@ -2,11 +2,11 @@
 -- For each write that the function's run reads there is an interpretation (`Meaning`) that gives the number 1 to that write alone.
 use Rattle.std.proofs.Common.{ℕ, zero, suc, ◌≡◌, ◌+◌, ◌<◌, Bool, true, false, cond, List, [], ◌∷◌, length, map, refl, arith, sym, ◌∙◌, eq-eqb, eqb-true}
 use Rattle.std.proofs.Common.{nat_eq, inl, inr}
-use Rattle.std.specs.Prelude.{Option, None, Some, IsSome, ◌&&◌, slice_index_or}
+use Rattle.std.specs.Prelude.{Option, None, Some, IsSome, ◌&&◌}
 use Rattle.std.specs.Option.{option_map}
 use Rattle.std.proofs.lemmas.Bool.{cases_eq, ne_eqb}
 use Rattle.regalloc2_names.specs.Operand.{OperandValue, is_reading}
-use Rattle.regalloc2_function.specs.FunctionValue.{FunctionValue}
+use Rattle.regalloc2_function.specs.FunctionValue.{FunctionValue, op_at}
 use Rattle.regalloc2_function.specs.OutputValue.{OutputValue}
 use Rattle.regalloc2_semantics.specs.Runs.{Way, IsPath, last_inst, Stamp, source_read, allocated_read}
 use Rattle.regalloc2_semantics.specs.Laws.{NumbersGiveReads}
@@ -68,16 +68,15 @@ same_rest false n m r t rs ts h = h
 
 at_operand : (n m : Option Stamp → Option ℕ) (r t : ℕ → OperandValue → Option Stamp) (i : ℕ) (os : List OperandValue) →
     map n (reads_from r i os) ≡ map m (reads_from t i os) →
-    (k : ℕ) (d : OperandValue) → k < length os → is_reading (slice_index_or os k d) ≡ true →
-    n (r (k + i) (slice_index_or os k d)) ≡ m (t (k + i) (slice_index_or os k d))
+    (k : ℕ) → k < length os → is_reading (op_at os k) ≡ true → n (r (k + i) (op_at os k)) ≡ m (t (k + i) (op_at os k))
 unfolding reads_from
-at_operand n m r t i [] h k d lt e = absurd (omega arith)
-at_operand n m r t i (o ∷ os) h zero d lt e =
+at_operand n m r t i [] h k lt e = absurd (omega arith)
+at_operand n m r t i (o ∷ os) h zero lt e =
     let z : 0 + i ≡ i = omega arith in
     rw z (same_first (is_reading o) n m (r i o) (t i o) (reads_from r (i + 1) os) (reads_from t (i + 1) os) e h)
-at_operand n m r t i (o ∷ os) h (suc k) d lt e =
+at_operand n m r t i (o ∷ os) h (suc k) lt e =
     let z : suc k + i ≡ k + (i + 1) = omega arith in
-    rw z (at_operand n m r t (i + 1) os (same_rest (is_reading o) n m (r i o) (t i o) (reads_from r (i + 1) os) (reads_from t (i + 1) os) h) k d (omega arith)
+    rw z (at_operand n m r t (i + 1) os (same_rest (is_reading o) n m (r i o) (t i o) (reads_from r (i + 1) os) (reads_from t (i + 1) os) h) k (omega arith)
     e)
 
 -- the heads of the two histories
@@ -98,25 +97,25 @@ some_of : (x : Option Stamp) (t : Stamp) → x ≡ Some t → IsSome x
 some_of x t e = rw e refl
 
 -- an operand whose read is of an earlier step reads the same on both sides
-agree : (f : FunctionValue) (out : OutputValue) → SameNumbers f out → (ws : List Way) → IsPath f ws → (k : ℕ) (d : OperandValue) →
+agree : (f : FunctionValue) (out : OutputValue) → SameNumbers f out → (ws : List Way) → IsPath f ws → (k : ℕ) →
     k < length (last_inst f ws).operands →
-    is_reading (slice_index_or (last_inst f ws).operands k d) ≡ true → (t : Stamp) → source_read f ws (slice_index_or (last_inst f ws).operands k d) ≡ Some t →
+    is_reading (op_at (last_inst f ws).operands k) ≡ true → (t : Stamp) → source_read f ws (op_at (last_inst f ws).operands k) ≡ Some t →
     t.step < length ws →
-    allocated_read f out ws k (slice_index_or (last_inst f ws).operands k d) ≡ source_read f ws (slice_index_or (last_inst f ws).operands k d)
+    allocated_read f out ws k (op_at (last_inst f ws).operands k) ≡ source_read f ws (op_at (last_inst f ws).operands k)
 unfolding numbers
-agree f out same [] p k d lt reads t e less = absurd (omega arith)
-agree f out same (w ∷ ws) p k d lt reads t e less =
+agree f out same [] p k lt reads t e less = absurd (omega arith)
+agree f out same (w ∷ ws) p k lt reads t e less =
     let os : List OperandValue = (last_inst f (w ∷ ws)).operands in
     let a : Stamp → ℕ = marked f t (allocated_reads f out) (w ∷ ws) in
     let b : Stamp → ℕ = marked f t (source_reads f) (w ∷ ws) in
     let h : map (option_map a) (allocated_reads f out (w ∷ ws)) ≡ map (option_map b) (source_reads f (w ∷ ws)) = heads _ _ _ _ (same (marking t) (w ∷ ws) p) in
     let z : k + 0 ≡ k = omega arith in
-    let here : option_map a (allocated_read f out (w ∷ ws) k (slice_index_or os k d)) ≡ option_map b (source_read f (w ∷ ws) (slice_index_or os k d)) =
-    rw z at (at_operand (option_map a) (option_map b) (allocated_read f out (w ∷ ws)) (λ j o. source_read f (w ∷ ws) o) 0 os h k d lt reads) in
+    let here : option_map a (allocated_read f out (w ∷ ws) k (op_at os k)) ≡ option_map b (source_read f (w ∷ ws) (op_at os k)) =
+    rw z at (at_operand (option_map a) (option_map b) (allocated_read f out (w ∷ ws)) (λ j o. source_read f (w ∷ ws) o) 0 os h k lt reads) in
     same_read a b _ _ t e (marked_here f t (source_reads f) (w ∷ ws) less) (no_other_marked f t (allocated_reads f out) (w ∷ ws)) here
 
 -- reads agree if each use finds an earlier write and both runs read the same numbers, whatever the instructions compute
 pub numbers_give_reads : NumbersGiveReads
-numbers_give_reads f out earlier same ws p k d lt reads =
-    let found = earlier ws p k d lt reads in
-    (some_of (source_read f ws (slice_index_or (last_inst f ws).operands k d)) found.0 found.1, agree f out same ws p k d lt reads found.0 found.1 found.2)
+numbers_give_reads f out earlier same ws p k lt reads =
+    let found = earlier ws p k lt reads in
+    (some_of (source_read f ws (op_at (last_inst f ws).operands k)) found.0 found.1, agree f out same ws p k lt reads found.0 found.1 found.2)

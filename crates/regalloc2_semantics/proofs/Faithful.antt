@@ -20,7 +20,7 @@ constraints_met : (f : FunctionValue) (env : MachineValue) (out : OutputValue) �
     ConstraintsMet f env out i
 constraints_met f env out h i = elim (cases_lt i (length f.insts)) [
   | inl lt ↦ h i lt
-  | inr le ↦ λ k d less. let n : length (inst_at f i).operands ≡ 0 = none_past f i le in absurd (omega arith)
+  | inr le ↦ λ k less. let n : length (inst_at f i).operands ≡ 0 = none_past f i le in absurd (omega arith)
 ]
 
 moves_before-All : (P : MoveValue → Type 0) (out : OutputValue) (first i : ℕ) → All (λ e. P e.1) out.edits → All P (moves_before out first i)

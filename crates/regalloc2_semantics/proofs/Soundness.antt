@@ -9,8 +9,7 @@ use Rattle.regalloc2_names.specs.Register.{VirtualRegister, is_vreg}
 use Rattle.regalloc2_names.specs.Operand.{OperandValue, is_def}
 use Rattle.regalloc2_function.specs.FunctionValue.{FunctionValue, BlockValue, InstValue, block_at, inst_at, no_block, no_inst, no_operand, op_at, EachBlock}
 use Rattle.regalloc2_function.specs.WellFormed.{times_in, ways_into, DefinedOnce, NotCriticalAt, PredecessorsAt}
-use Rattle.regalloc2_semantics.specs.Live.{Undefined, names, HasEdge, target_at}
-use Rattle.regalloc2_semantics.specs.Sound.{IsParameter, IsEnteredOnce, WellFormedAreSound}
+use Rattle.regalloc2_semantics.specs.Sound.{IsParameter, IsEnteredOnce, WellFormedAreSound, Undefined, names, HasEdge, target_at}
 use Rattle.regalloc2_semantics.proofs.Cells.{is_vreg-true}
 use Rattle.regalloc2_function.proofs.DefsCounted.{defines_number}
 
@@ -63,7 +62,7 @@ times_apart : (b c : ℕ) (xs : List ℕ) → b ≢ c → times_in b xs + times_
 times_apart b c xs ne = counts_apart (λ x. nat_eq x b) (λ x. nat_eq x c) xs (λ x e. ne_eqb x c (λ s. ne (sym (eqb-true x b e) ∙ s)))
 
 -- a block that has an edge, or a parameter
-edge_within : (f : FunctionValue) (b k : ℕ) → HasEdge f b k → b < length f.blocks
+pub edge_within : (f : FunctionValue) (b k : ℕ) → HasEdge f b k → b < length f.blocks
 edge_within f b k edge = elim (cases_lt b (length f.blocks)) [
   | inl lt ↦ lt
   | inr le ↦ (let n : length (block_at f b).succs ≡ 0 = ap (λ (x : BlockValue). length x.succs) (get_or_past f.blocks b no_block le) in absurd (omega arith))

@@ -1,8 +1,8 @@
 -- Where reads agree, both runs read the same numbers.
 use Rattle.std.proofs.Common.{ℕ, suc, ◌≡◌, ◌+◌, ◌<◌, Bool, true, false, cond, List, [], ◌∷◌, length, refl, arith, ap}
-use Rattle.std.specs.Prelude.{Option, slice_index_or}
+use Rattle.std.specs.Prelude.{Option}
 use Rattle.regalloc2_names.specs.Operand.{OperandValue, is_reading}
-use Rattle.regalloc2_function.specs.FunctionValue.{FunctionValue}
+use Rattle.regalloc2_function.specs.FunctionValue.{FunctionValue, op_at}
 use Rattle.regalloc2_function.specs.Machine.{MachineValue}
 use Rattle.regalloc2_function.specs.OutputValue.{OutputValue}
 use Rattle.regalloc2_semantics.specs.Runs.{Way, IsPath, last_inst, Stamp, source_read, allocated_read}
@@ -16,20 +16,19 @@ pick false x y xs ys h e = e
 
 -- reads that agree at each operand make one list
 reads_from-same : (r t : ℕ → OperandValue → Option Stamp) (n : ℕ) (os : List OperandValue) →
-    ((k : ℕ) (d : OperandValue) → k < length os → is_reading (slice_index_or os k d) ≡ true →
-    r (k + n) (slice_index_or os k d) ≡ t (k + n) (slice_index_or os k d)) →
+    ((k : ℕ) → k < length os → is_reading (op_at os k) ≡ true → r (k + n) (op_at os k) ≡ t (k + n) (op_at os k)) →
     reads_from r n os ≡ reads_from t n os
 unfolding reads_from
 reads_from-same r t n [] h = refl
 reads_from-same r t n (o ∷ os) h =
     let e : 0 + n ≡ n = omega arith in
-    pick (is_reading o) _ _ _ _ (λ yes. rw e at (h 0 o (omega arith) yes))
-    (reads_from-same r t (n + 1) os (λ k d less yes. let s : suc k + n ≡ k + (n + 1) = omega arith in rw s at (h (suc k) d (omega arith) yes)))
+    pick (is_reading o) _ _ _ _ (λ yes. rw e at (h 0 (omega arith) yes))
+    (reads_from-same r t (n + 1) os (λ k less yes. let s : suc k + n ≡ k + (n + 1) = omega arith in rw s at (h (suc k) (omega arith) yes)))
 
 reads-same : (f : FunctionValue) (out : OutputValue) (ws : List Way) → ReadsAgree f out ws → allocated_reads f out ws ≡ source_reads f ws
 reads-same f out ws h =
     reads_from-same (allocated_read f out ws) (λ k o. source_read f ws o) 0 (last_inst f ws).operands
-    (λ k d less yes. let e : k + 0 ≡ k = omega arith in rw e (h k d less yes).1)
+    (λ k less yes. let e : k + 0 ≡ k = omega arith in rw e (h k less yes).1)
 
 numbers-same : (f : FunctionValue) (meaning : Meaning) (r t : List Way → List (Option Stamp)) (ws : List Way) → IsPath f ws →
     ((vs : List Way) → IsPath f vs → r vs ≡ t vs) →

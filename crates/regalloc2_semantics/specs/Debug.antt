@@ -3,33 +3,20 @@
 -- The points are as in upstream's `vreg_to_live_inst_range`; the definition of holding the value is this project's own.
 -- `run` guarantees `AreDebugLocations`, with valid places (`IsProperPlace`) of the labels' vregs; they hold their vregs' values if no path from
 -- the entry reads or passes a vreg before writing it (`ShowsLabels`).
-use Rattle.std.specs.Prelude.{ℕ, ◌≡◌, ◌+◌, ◌/◌, ◌<◌, ◌≤◌, ◌⊎◌, true, List, [], ◌∷◌, Contains, length, IsPermutation, slice_index_or, false, slice_index, Some}
+use Rattle.std.specs.Prelude.{ℕ, ◌≡◌, ◌+◌, ◌/◌, ◌<◌, ◌≤◌, ◌⊎◌, List, [], ◌∷◌, Contains, IsPermutation, false, Some}
 use Rattle.std.specs.Ordering.{nat_cmp}
 use Rattle.std.specs.List.Sorted.{IsNonDecreasingBy, IsStableByKey}
-use Rattle.regalloc2_names.specs.declared.OperandPos.{OperandPos}
 use Rattle.regalloc2_names.specs.declared.OperandPos.TheVariants.{Early, Late}
-use Rattle.regalloc2_names.specs.Operand.{OperandValue, is_def, is_reading}
 use Rattle.regalloc2_names.specs.Register.{VirtualRegister}
 use Rattle.regalloc2_names.specs.Place.{before, after, Place}
-use Rattle.regalloc2_function.specs.FunctionValue.{FunctionValue, Label, block_at, inst_at, last_of}
+use Rattle.regalloc2_function.specs.FunctionValue.{FunctionValue, Label, block_at, inst_at}
 use Rattle.regalloc2_function.specs.OutputValue.{OutputValue, DebugLocation}
-use Rattle.regalloc2_semantics.specs.Runs.{Way, Onward, ToSuccessor, end_of, IsPath, Stamp, source_before, after_moves, moves_at, cells_before}
+use Rattle.regalloc2_semantics.specs.Runs.{Way, end_of, IsPath, Stamp, source_before, after_moves, moves_at, cells_before}
+use Rattle.regalloc2_semantics.specs.Live.{DefinesAt, ReadsAt, PassesAt, IsGiven}
 
--- An instruction defines v, or reads it at a position, or passes it. A branch that passes what it defines itself doesn't count.
-abbrev pub DefinesAt : FunctionValue → VirtualRegister → ℕ → Type 0
-DefinesAt f v i = (i < length f.insts) × ((k : ℕ) × (o : OperandValue) × (k < length (inst_at f i).operands) × (slice_index_or (inst_at f i).operands k o ≡ o)
-    × (is_def o.kind ≡ true) × (o.vreg ≡ v))
-
-abbrev pub ReadsAt : FunctionValue → VirtualRegister → OperandPos → ℕ → Type 0
-ReadsAt f v position i = (i < length f.insts) × ((k : ℕ) × (o : OperandValue) × (k < length (inst_at f i).operands)
-    × (slice_index_or (inst_at f i).operands k o ≡ o) × (is_reading o ≡ true) × (o.position ≡ position) × (o.vreg ≡ v))
-
-abbrev pub PassesAt : FunctionValue → VirtualRegister → ℕ → Type 0
-PassesAt f v i = (b k : ℕ) × (b < length f.blocks) × (i ≡ last_of (block_at f b)) × (k < length (block_at f b).succs)
-    × Contains (slice_index_or (block_at f b).arguments k []) v × (DefinesAt f v i → ⊥)
-
+-- the instruction i reads or passes v
 abbrev pub UsesAt : FunctionValue → VirtualRegister → ℕ → Type 0
-UsesAt f v i = ReadsAt f v Early i ⊎ ReadsAt f v Late i ⊎ PassesAt f v i
+UsesAt f v i = ReadsAt f v Early i ⊎ ReadsAt f v Late i ⊎ ((b : ℕ) × PassesAt f v (record { block = b; inst = i }))
 
 -- the last instruction that reads or passes v
 abbrev pub IsLastUse : FunctionValue → VirtualRegister → ℕ → Type 0
@@ -68,24 +55,15 @@ pub record AreDebugLocations (f : FunctionValue) (Asked : Label → DebugLocatio
   pub rising : IsNonDecreasingBy (λ d. d.label) out.debug_locations
   pub stable : IsStableByKey (λ d. d.label) nat_cmp listed out.debug_locations
 
--- an edge from a block gives v the value of its argument: v is a parameter of the block that the edge leads to
-abbrev pub IsTakenOver : FunctionValue → VirtualRegister → ℕ → Way → Type 0
-IsTakenOver f v block Onward = ⊥
-IsTakenOver f v block (ToSuccessor k) = Contains (block_at f (slice_index (block_at f block).succs k)).params v
-
--- v is written at the last step of a path, or by the edge from there
-abbrev pub IsGiven : FunctionValue → VirtualRegister → List Way → Way → Type 0
-IsGiven f v ws w = DefinesAt f v (end_of f ws).inst ⊎ IsTakenOver f v (end_of f ws).block w
-
 -- a path that extends another one, and does not write v in between
 pub data GoesOn (f : FunctionValue) (v : VirtualRegister) (start : List Way) : List Way → Type 0 where
   there : GoesOn f v start start
-  further : (w : Way) (ws : List Way) → GoesOn f v start ws → (IsGiven f v ws w → ⊥) → GoesOn f v start (w ∷ ws)
+  further : (w : Way) (ws : List Way) → GoesOn f v start ws → (IsGiven f v (end_of f ws) w → ⊥) → GoesOn f v start (w ∷ ws)
 
 -- If a path writes v, and then not again up to a later step that reads or passes v, the place holds that write at each step in between and at the later step,
 -- once the moves before the step's instruction have run. Steps at a branch are left out.
 abbrev pub ShowsValue : FunctionValue → OutputValue → VirtualRegister → Place → Type 0
 ShowsValue f out v p = (given : List Way) (w : Way) (here used : List Way) (s : Stamp) →
-    IsPath f used → IsGiven f v given w → source_before f (w ∷ given) v ≡ Some s → GoesOn f v (w ∷ given) here → GoesOn f v here used →
+    IsPath f used → IsGiven f v (end_of f given) w → source_before f (w ∷ given) v ≡ Some s → GoesOn f v (w ∷ given) here → GoesOn f v here used →
     UsesAt f v (end_of f used).inst →
     (inst_at f (end_of f here).inst).is_branch ≡ false → after_moves (moves_at f out (end_of f here)) (cells_before f out here) p ≡ Some s

@@ -1,14 +1,14 @@
 -- Held values, and faithful outputs: on every path each use reads what the function's own run reads.
 -- Constraints are as in upstream's `OperandConstraint`. Its checker tests that reads agree, and keeps a set of vregs for each place; here
 -- both are defined along paths.
-use Rattle.std.specs.Prelude.{◌≡◌, List, length, Option, IsSome, ℕ, ◌<◌, ◌≤◌, true, All, slice_index_or}
+use Rattle.std.specs.Prelude.{◌≡◌, List, length, Option, IsSome, ℕ, ◌<◌, ◌≤◌, true, All}
 use Rattle.regalloc2_names.specs.declared.OperandPos.{OperandPos}
 use Rattle.regalloc2_names.specs.declared.OperandConstraint.{OperandConstraint}
 use Rattle.regalloc2_names.specs.declared.OperandConstraint.TheVariants.{Any, Reg, Stack, FixedReg, Reuse, Limit}
 use Rattle.regalloc2_names.specs.Place.{Place, NoPlace, InRegister, InSlot}
 use Rattle.regalloc2_names.specs.Register.{VirtualRegister}
 use Rattle.regalloc2_names.specs.Operand.{OperandValue, is_reading}
-use Rattle.regalloc2_function.specs.FunctionValue.{FunctionValue, block_at, inst_at}
+use Rattle.regalloc2_function.specs.FunctionValue.{FunctionValue, block_at, inst_at, op_at}
 use Rattle.regalloc2_function.specs.OutputValue.{OutputValue, MoveValue, allocs_of, place_at, is_listed_at}
 use Rattle.regalloc2_function.specs.Machine.{MachineValue, IsStackPlace, IsPlainRegister}
 use Rattle.regalloc2_semantics.specs.Runs.{Way, Location, IsPath, end_of, Stamp, read_of, source_before, source_after, Cells, cells_early, cells_late}
@@ -27,8 +27,8 @@ HoldsOnPaths f o l position p v = (ws : List Way) → IsPath f ws → end_of f w
 
 -- at the last step of a path each reading use finds in its place the write that its vreg has, and there is one
 abbrev pub ReadsAgree : FunctionValue → OutputValue → List Way → Type 0
-ReadsAgree f out ws = (k : ℕ) (d : OperandValue) → k < length (last_inst f ws).operands →
-    let o : OperandValue = slice_index_or (last_inst f ws).operands k d in
+ReadsAgree f out ws = (k : ℕ) → k < length (last_inst f ws).operands →
+    let o : OperandValue = op_at (last_inst f ws).operands k in
     is_reading o ≡ true → IsSome (source_read f ws o) × (allocated_read f out ws k o ≡ source_read f ws o)
 
 -- a register below a bound
@@ -53,8 +53,8 @@ Meets env count places (Limit n) p = IsPlainRegister env p × IsNumberedBelow p 
 
 -- the place of every operand of an instruction meets the operand's constraint
 abbrev pub ConstraintsMet : FunctionValue → MachineValue → OutputValue → ℕ → Type 0
-ConstraintsMet f env out i = (k : ℕ) (d : OperandValue) → k < length (inst_at f i).operands →
-    Meets env (length (inst_at f i).operands) (allocs_of out i) (slice_index_or (inst_at f i).operands k d).constraint (place_at (allocs_of out i) k)
+ConstraintsMet f env out i = (k : ℕ) → k < length (inst_at f i).operands →
+    Meets env (length (inst_at f i).operands) (allocs_of out i) (op_at (inst_at f i).operands k).constraint (place_at (allocs_of out i) k)
 
 -- a move between two stack places
 abbrev pub IsStackToStack : MachineValue → MoveValue → Type 0

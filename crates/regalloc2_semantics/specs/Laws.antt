@@ -1,9 +1,9 @@
 -- Laws on the runs, and from reads that agree to a faithful output.
-use Rattle.std.specs.Prelude.{ℕ, ◌≡◌, ◌<◌, true, List, length, slice_index_or, Some, None, All}
+use Rattle.std.specs.Prelude.{ℕ, ◌≡◌, ◌<◌, true, List, length, Some, None, All}
 use Rattle.regalloc2_names.specs.Operand.{OperandValue, is_reading}
 use Rattle.regalloc2_names.specs.Register.{VirtualRegister}
 use Rattle.regalloc2_names.specs.Place.{Place, NoPlace}
-use Rattle.regalloc2_function.specs.FunctionValue.{FunctionValue}
+use Rattle.regalloc2_function.specs.FunctionValue.{FunctionValue, op_at}
 use Rattle.regalloc2_function.specs.Machine.{MachineValue}
 use Rattle.regalloc2_function.specs.OutputValue.{OutputValue}
 use Rattle.regalloc2_function.specs.WellFormed.{IsWellFormed}
@@ -13,8 +13,8 @@ use Rattle.regalloc2_semantics.specs.Values.{SameNumbers}
 
 -- every use of the last step finds a write of an earlier step
 abbrev pub UsesFindEarlier : FunctionValue → List Way → Type 0
-UsesFindEarlier f ws = (k : ℕ) (d : OperandValue) → k < length (last_inst f ws).operands →
-    let o : OperandValue = slice_index_or (last_inst f ws).operands k d in
+UsesFindEarlier f ws = (k : ℕ) → k < length (last_inst f ws).operands →
+    let o : OperandValue = op_at (last_inst f ws).operands k in
     is_reading o ≡ true → (s : Stamp) × (source_read f ws o ≡ Some s) × (s.step < length ws)
 
 -- each write that the function's run finds was made at an earlier step

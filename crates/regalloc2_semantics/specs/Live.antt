@@ -1,61 +1,47 @@
--- The vregs that are live where a path comes to an instruction, the places that hold their values, and the edges out of branches with
--- definitions.
-use Rattle.std.specs.Prelude.{ℕ, ◌<◌, Bool, false, ◌||◌, List, [], ◌∷◌, length, slice_index, ◌≡◌, true, IsSome, Contains}
-use Rattle.regalloc2_names.specs.Register.{VirtualRegister, is_vreg}
-use Rattle.regalloc2_names.specs.Operand.{OperandValue, is_def, is_reading}
+-- The instructions that define, read or pass a vreg, the vregs that are live where a path comes to an instruction, and the places that hold
+-- their values.
+use Rattle.std.specs.Prelude.{ℕ, ◌<◌, ◌⊎◌, List, length, slice_index, ◌≡◌, true, IsSome, Contains}
+use Rattle.regalloc2_names.specs.declared.OperandPos.{OperandPos}
+use Rattle.regalloc2_names.specs.Register.{VirtualRegister}
+use Rattle.regalloc2_names.specs.Operand.{is_def, is_reading}
 use Rattle.regalloc2_names.specs.Place.{Place}
-use Rattle.regalloc2_function.specs.FunctionValue.{FunctionValue, block_at, op_at, inst_at, last_of}
+use Rattle.regalloc2_function.specs.FunctionValue.{FunctionValue, block_at, inst_at, op_at}
 use Rattle.regalloc2_function.specs.OutputValue.{OutputValue}
 use Rattle.regalloc2_semantics.specs.Runs.{Way, Onward, ToSuccessor, Location, next_of, HasWay, arguments_at, source_before, cells_before}
 
--- whether a list names a vreg
-unfoldable pub names : VirtualRegister → List VirtualRegister → Bool
-names v [] = false
-names v (p ∷ ps) = is_vreg p v || names v ps
+-- the operand k of the instruction i names v
+abbrev pub NamesAt : FunctionValue → VirtualRegister → ℕ → ℕ → Type 0
+NamesAt f v i k = (i < length f.insts) × (k < length (inst_at f i).operands) × ((op_at (inst_at f i).operands k).vreg ≡ v)
 
--- the block has an edge at a position; and the block that the edge leads to
-abbrev pub HasEdge : FunctionValue → ℕ → ℕ → Type 0
-HasEdge f b k = k < length (block_at f b).succs
+-- an operand of the instruction i defines v
+abbrev pub DefinesAt : FunctionValue → VirtualRegister → ℕ → Type 0
+DefinesAt f v i = (k : ℕ) × NamesAt f v i k × (is_def (op_at (inst_at f i).operands k).kind ≡ true)
 
-abbrev pub target_at : FunctionValue → ℕ → ℕ → ℕ
-target_at f b k = slice_index (block_at f b).succs k
+-- an operand of the instruction i reads v at the position
+abbrev pub ReadsAt : FunctionValue → VirtualRegister → OperandPos → ℕ → Type 0
+ReadsAt f v position i = (k : ℕ) × NamesAt f v i k × (is_reading (op_at (inst_at f i).operands k) ≡ true)
+    × ((op_at (inst_at f i).operands k).position ≡ position)
 
--- no operand defines the vreg
-abbrev pub Undefined : List OperandValue → VirtualRegister → Type 0
-Undefined operands v = (j : ℕ) → j < length operands → is_def (op_at operands j).kind ≡ true → (op_at operands j).vreg ≡ v → ⊥
+-- an edge out of the location passes v, and the instruction there doesn't define v
+abbrev pub PassesAt : FunctionValue → VirtualRegister → Location → Type 0
+PassesAt f v l = (k : ℕ) × HasWay f l (ToSuccessor k) × Contains (arguments_at f l.block k) v × (DefinesAt f v l.inst → ⊥)
 
--- the edge or fall-through (`Way`) gives v no new value: it leads to no block with v as a parameter
-abbrev pub IsAside : FunctionValue → VirtualRegister → Location → Way → Type 0
-IsAside f v l Onward = Unit {0}
-IsAside f v l (ToSuccessor k) = names v (block_at f (target_at f l.block k)).params ≡ false
+-- an edge gives v the value of its argument: v is a parameter of the block that the edge leads to
+abbrev pub IsTakenOver : FunctionValue → VirtualRegister → Location → Way → Type 0
+IsTakenOver f v l Onward = ⊥
+IsTakenOver f v l (ToSuccessor k) = Contains (block_at f (slice_index (block_at f l.block).succs k)).params v
 
--- v is live before an instruction: it is read there, or read or passed on some path from there before it is written (if no instruction reads what it writes, as
--- in well-formed functions)
+-- v gets a value at the location, by the instruction there or by the edge
+abbrev pub IsGiven : FunctionValue → VirtualRegister → Location → Way → Type 0
+IsGiven f v l w = DefinesAt f v l.inst ⊎ IsTakenOver f v l w
+
+-- v is live before an instruction: it is read there, or read or passed on some path from there before it is given a value (if no instruction reads what it
+-- writes, as in well-formed functions)
 pub data IsLive (f : FunctionValue) (v : VirtualRegister) : Location → Type 0 where
-  read_there : (l : Location) (j : ℕ) → j < length (inst_at f l.inst).operands → is_reading (op_at (inst_at f l.inst).operands j) ≡ true →
-      (op_at (inst_at f l.inst).operands j).vreg ≡ v → IsLive f v l
-  passed_there : (l : Location) (k : ℕ) → HasWay f l (ToSuccessor k) → Contains (arguments_at f l.block k) v → Undefined (inst_at f l.inst).operands v →
-      IsLive f v l
-  later : (l : Location) (w : Way) → HasWay f l w → Undefined (inst_at f l.inst).operands v → IsAside f v l w → IsLive f v (next_of f l w) → IsLive f v l
+  read_there : (l : Location) (position : OperandPos) → ReadsAt f v position l.inst → IsLive f v l
+  passed_there : (l : Location) → PassesAt f v l → IsLive f v l
+  later : (l : Location) (w : Way) → HasWay f l w → (IsGiven f v l w → ⊥) → IsLive f v (next_of f l w) → IsLive f v l
 
 -- before a path's last step v has a value (a parameter the one that the edge gave it), and the place holds it
 abbrev pub HoldsValueAt : FunctionValue → OutputValue → List Way → Place → VirtualRegister → Type 0
 HoldsValueAt f out ws p v = IsSome (source_before f ws v) × (cells_before f out ws p ≡ source_before f ws v)
-
--- the operand of an index defines the number n
-pub record DefinesNumber (operands : List OperandValue) (n k : ℕ) : Type 0 where
-  pub operand : k < length operands
-  pub definition : is_def (op_at operands k).kind ≡ true
-  pub number : (op_at operands k).vreg.number ≡ n
-
--- a block ends in a branch with a definition
-abbrev pub EndsInDefinitions : FunctionValue → ℕ → Type 0
-EndsInDefinitions f b = ((inst_at f (last_of (block_at f b))).is_branch ≡ true)
-    × ((n k : ℕ) × DefinesNumber (inst_at f (last_of (block_at f b))).operands n k)
-
--- the block b is entered by the edge at a position out of a block that ends in a branch with a definition
-pub record IsEdgeInto (f : FunctionValue) (b from position : ℕ) : Type 0 where
-  pub block : from < length f.blocks
-  pub edge : HasEdge f from position
-  pub target : target_at f from position ≡ b
-  pub definitions : EndsInDefinitions f from

@@ -1,11 +1,11 @@
 -- Valid places (`IsProperPlace`), and spill slots as memory: who owns each, which units it stands for, and how many units slots may take.
 -- What upstream's allocators take for granted of places. Cells are kept by name; the facts on slots make the names real, disjoint memory.
-use Rattle.std.specs.Prelude.{ℕ, ◌≡◌, ◌<◌, ◌⊎◌, true, false, All, length, Some, ◌≢◌, ◌+◌, ◌-◌, ◌%◌, ◌≤◌, if◌then◌else◌, Any as SomeIn, slice_index_or, ◌*◌}
+use Rattle.std.specs.Prelude.{ℕ, ◌≡◌, ◌<◌, ◌⊎◌, true, false, All, length, Some, ◌≢◌, ◌+◌, ◌-◌, ◌%◌, ◌≤◌, if◌then◌else◌, Any as SomeIn, ◌*◌}
 use Rattle.std.specs.Prelude.{max}
 use Rattle.regalloc2_names.specs.declared.RegClass.{RegClass}
 use Rattle.regalloc2_names.specs.declared.RegClass.TheVariants.{Int, Float, Vector}
 use Rattle.regalloc2_names.specs.Register.{Register, VirtualRegister}
-use Rattle.regalloc2_names.specs.Operand.{is_fixed_nonallocatable, OperandValue}
+use Rattle.regalloc2_names.specs.Operand.{is_fixed_nonallocatable}
 use Rattle.regalloc2_names.specs.Place.{Place, NoPlace, InRegister, InSlot}
 use Rattle.regalloc2_function.specs.FunctionValue.{FunctionValue, inst_at, EachOperand, slot_size}
 use Rattle.regalloc2_function.specs.Machine.{MachineValue, is_allocatable, scratch_of, IsFixedStackSlot}
@@ -69,12 +69,6 @@ pub record AreSlotsOwned (f : FunctionValue) (out : OutputValue) : Type 0 where
       (first_unit f (owner m) m + units_of_owner f (owner m) ≤ first_unit f (owner n) n)
       ⊎ (first_unit f (owner n) n + units_of_owner f (owner n) ≤ first_unit f (owner m) m)
   pub moves : All (λ e. (class : RegClass) × IsOfClass owner e.1.from class × IsOfClass owner e.1.to class) out.edits
-
--- an operand names the vreg, and its place is the slot
-abbrev pub StandsInSlot : FunctionValue → OutputValue → VirtualRegister → ℕ → Type 0
-StandsInSlot f out v n =
-    (i k : ℕ) × (d : OperandValue) × (i < length f.insts) × (k < length (inst_at f i).operands) × ((slice_index_or (inst_at f i).operands k d).vreg ≡ v)
-    × (place_at (allocs_of out i) k ≡ InSlot n)
 
 -- How many units slots may take: each less than twice the greatest size, since it is aligned; there is one at most for each vreg, and six for the moves of
 -- each block.

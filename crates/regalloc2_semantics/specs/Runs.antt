@@ -11,7 +11,7 @@ use Rattle.regalloc2_names.specs.declared.sets.PRegSet.{PRegSet}
 use Rattle.regalloc2_names.specs.Register.{VirtualRegister, is_vreg, has_register}
 use Rattle.regalloc2_names.specs.Operand.{OperandValue, is_def, is_reading, is_late}
 use Rattle.regalloc2_names.specs.Place.{Place, NoPlace, InRegister, InSlot, is_place}
-use Rattle.regalloc2_function.specs.FunctionValue.{FunctionValue, block_at, inst_at, InstValue}
+use Rattle.regalloc2_function.specs.FunctionValue.{FunctionValue, block_at, inst_at, InstValue, op_at}
 use Rattle.regalloc2_function.specs.OutputValue.{OutputValue, MoveValue, allocs_of, place_at, is_listed_at}
 
 -- how a path goes on: to the next instruction of the block, or by the edge to the successor at a position
@@ -108,8 +108,8 @@ source_read f ws o = read_of o.position (source_before f ws o.vreg) (source_afte
 
 -- every use of the last step finds a write
 abbrev pub UsesWritten : FunctionValue → List Way → Type 0
-UsesWritten f ws = (k : ℕ) (d : OperandValue) → k < length (last_inst f ws).operands →
-    let o : OperandValue = slice_index_or (last_inst f ws).operands k d in
+UsesWritten f ws = (k : ℕ) → k < length (last_inst f ws).operands →
+    let o : OperandValue = op_at (last_inst f ws).operands k in
     is_reading o ≡ true → IsSome (source_read f ws o)
 
 -- each vreg is definitely assigned: no path reads or passes it before writing it

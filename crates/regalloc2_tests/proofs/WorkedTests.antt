@@ -13,7 +13,9 @@ use Rattle.regalloc2_names.specs.Register.{Register, has_register, class_code}
 use Rattle.regalloc2_names.specs.Place.{after}
 use Rattle.regalloc2_function.specs.FunctionValue.{FunctionValue, InstValue, Label, EachOperand}
 use Rattle.regalloc2_function.specs.Machine.{MachineValue, empty_set, is_allocatable, IsFixedStackSlot, allocatable_count, count_below, scratch_of}
-use Rattle.regalloc2_semantics.specs.Debug.{ReadsAt, PassesAt, UsesAt, IsLastUse, IsLastPoint, IsKept}
+use Rattle.regalloc2_semantics.specs.Debug.{UsesAt, IsLastUse, IsLastPoint, IsKept}
+use Rattle.regalloc2_semantics.specs.Runs.{Location}
+use Rattle.regalloc2_semantics.specs.Live.{ReadsAt, PassesAt}
 use Rattle.regalloc2_semantics.specs.Debug.IsFirstPoint.{of_definition as first_of_definition}
 use Rattle.regalloc2_semantics.specs.Debug.IsLastPoint.{of_late_use, of_early_use, of_argument, of_definition}
 use Rattle.regalloc2_semantics.specs.Fits.{Fits, TakesEarly, TakesLate, need_of}
@@ -30,18 +32,18 @@ abbrev label_until : ℕ → Label
 label_until n = record { vreg = v 0; start = 1; end = n; label = 5 }
 
 read_early : ReadsAt read_once (v 0) Early 1
-read_early = (omega arith, (0, use_reg 0, omega arith, refl, refl, refl, refl))
+read_early = (0, (omega arith, omega arith, refl), refl, refl)
 
 unread_late : (i : ℕ) → ReadsAt read_once (v 0) Late i → ⊥
 unread_late i h = grind arith
 
-unpassed : (i : ℕ) → PassesAt read_once (v 0) i → ⊥
-unpassed i h = grind arith
+unpassed : (l : Location) → PassesAt read_once (v 0) l → ⊥
+unpassed l h = grind arith
 
 used_within : (i : ℕ) → UsesAt read_once (v 0) i → i ≤ 1
-used_within i (inl h) = omega (arith, h.0)
-used_within i (inr (inl h)) = omega (arith, h.0)
-used_within i (inr (inr h)) = absurd (unpassed i h)
+used_within i (inl h) = omega (arith, h.1.0)
+used_within i (inr (inl h)) = omega (arith, h.1.0)
+used_within i (inr (inr h)) = absurd (unpassed (record { block = h.0; inst = i }) h.1)
 
 last_use : IsLastUse read_once (v 0) 1
 last_use = (inl read_early, used_within)
@@ -49,7 +51,7 @@ last_use = (inl read_early, used_within)
 -- a label that ends at most one instruction past the last use is kept
 label_kept : IsKept read_once (label_until 2) (after 0) (after 1)
 label_kept = (
-  first_of_definition 0 (omega arith, (0, def_reg 0, omega arith, refl, refl, refl)),
+  first_of_definition 0 (0, (omega arith, omega arith, refl), refl),
   of_early_use 1 last_use (unread_late 1) read_early,
   omega arith,
   omega arith,

@@ -8,8 +8,7 @@ use Rattle.std.proofs.lemmas.List.{get_or_read}
 use Rattle.regalloc2_names.specs.Operand.{OperandValue}
 use Rattle.regalloc2_carry.proofs.SingleDef.{IsDefOperand}
 use Rattle.regalloc2_carry.proofs.Order.{ends_within}
-use Rattle.regalloc2_semantics.specs.Live.{DefinesNumber, EndsInDefinitions}
-use Rattle.regalloc2_analysis.specs.BranchDefs.BranchDefs.{HasDefinitions, IsSite, MayHaveTables}
+use Rattle.regalloc2_analysis.specs.BranchDefs.BranchDefs.{DefinesNumber, EndsInDefinitions, HasDefinitions, IsSite, MayHaveTables}
 
 -- what is read at an index is the operand of that index
 pub read_operand : (ops : List OperandValue) (k : ℕ) (o : OperandValue) → k < length ops → o ≡ slice_index_or ops k o → o ≡ op_at ops k

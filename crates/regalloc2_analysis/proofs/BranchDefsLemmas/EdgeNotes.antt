@@ -12,7 +12,8 @@ use Rattle.regalloc2_names.specs.Operand.{OperandValue, is_def}
 use Rattle.regalloc2_names.specs.Register.{Register, is_register, has_register}
 use Rattle.regalloc2_names.specs.Same.{is_register-true, is_register-same}
 use Rattle.regalloc2_function.specs.FunctionValue.{FunctionValue, block_at, inst_at, last_of, op_at}
-use Rattle.regalloc2_semantics.specs.Live.{target_at, EndsInDefinitions, IsEdgeInto}
+use Rattle.regalloc2_semantics.specs.Sound.{target_at}
+use Rattle.regalloc2_analysis.specs.BranchDefs.BranchDefs.{EndsInDefinitions, IsEdgeInto}
 use Rattle.regalloc2_carry.proofs.SingleDef.{IsDefOperand, one_made}
 use Rattle.regalloc2_carry.proofs.SingleDef.Made.{by_operand}
 use Rattle.regalloc2_analysis.specs.BranchDefs.BranchDefs.{AreStoredOperands, IsHeld, IsUsedElsewhere, MayHaveTables, fixed_definition}

@@ -7,8 +7,7 @@ use Rattle.regalloc2_index.proofs.Numbers.{below_or_last}
 use Rattle.regalloc2_names.specs.Operand.{OperandValue, is_def}
 use Rattle.regalloc2_function.specs.FunctionValue.{FunctionValue, block_at, inst_at, op_at, last_of}
 use Rattle.regalloc2_function.specs.Inside.TableLength.{CoversDefinitions}
-use Rattle.regalloc2_semantics.specs.Live.{DefinesNumber}
-use Rattle.regalloc2_analysis.specs.BranchDefs.BranchDefs.{IsSite, MayHaveTables}
+use Rattle.regalloc2_analysis.specs.BranchDefs.BranchDefs.{DefinesNumber, IsSite, MayHaveTables}
 use Rattle.regalloc2_analysis.specs.BranchDefs.Notes.{NotesBranch, NotesSites}
 use Rattle.regalloc2_analysis.specs.BranchDefs.Tables.{AreDefSites}
 use Rattle.regalloc2_analysis.specs.declared.branch_defs.DefSite.{DefSite}

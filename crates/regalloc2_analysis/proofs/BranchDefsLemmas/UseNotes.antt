@@ -5,17 +5,19 @@ use Rattle.std.proofs.lemmas.Bool.{cases_eq}
 use Rattle.std.proofs.lemmas.List.{get_or_default}
 use Rattle.regalloc2_names.specs.declared.OperandPos.{OperandPos}
 use Rattle.regalloc2_names.specs.declared.OperandPos.TheVariants.{Early, Late}
-use Rattle.regalloc2_names.specs.Operand.{OperandValue, is_def, is_reading}
+use Rattle.regalloc2_names.specs.Operand.{OperandValue, is_reading}
 use Rattle.regalloc2_names.specs.Register.{VirtualRegister}
 use Rattle.regalloc2_function.specs.FunctionValue.{FunctionValue, block_at, inst_at, no_operand, last_of, op_at}
-use Rattle.regalloc2_semantics.specs.Debug.{DefinesAt, PassesAt, ReadsAt, UsesAt}
+use Rattle.regalloc2_semantics.specs.Runs.{Location}
+use Rattle.regalloc2_semantics.specs.Debug.{UsesAt}
 use Rattle.regalloc2_carry.proofs.SingleDef.{Made, is_made, made_before, one_made, one_operand, reads_defined, IsDefOperand}
 use Rattle.regalloc2_carry.proofs.SingleDef.Made.{by_operand}
 use Rattle.regalloc2_carry.proofs.Order.{passed_made}
 use Rattle.regalloc2_function.specs.Inside.TableLength.{CoversDefinitions}
 use Rattle.regalloc2_function.specs.Inside.MarkedNumbers.{Marks}
-use Rattle.regalloc2_semantics.specs.Live.{DefinesNumber}
-use Rattle.regalloc2_analysis.specs.BranchDefs.BranchDefs.{IsSite, IsUsedElsewhere, MayHaveTables}
+use Rattle.regalloc2_semantics.specs.Live.{DefinesAt, ReadsAt, PassesAt}
+use Rattle.regalloc2_analysis.specs.BranchDefs.BranchDefs.{DefinesNumber, IsSite, IsUsedElsewhere, MayHaveTables}
+use Rattle.regalloc2_semantics.proofs.Soundness.{edge_within}
 use Rattle.regalloc2_analysis.specs.BranchDefs.Notes.{AreUsed, IsSiteAt, PassesAmong, PassesIn, PassesOut, ReadsAmong, ReadsIn}
 use Rattle.regalloc2_analysis.specs.BranchDefs.Tables.{AreDefSites}
 use Rattle.regalloc2_analysis.specs.declared.branch_defs.DefSite.{DefSite}
@@ -113,30 +115,24 @@ pub reads_here : (f : FunctionValue) (i k : ℕ) → i < length f.insts → k < 
     UsesAt f (op_at (inst_at f i).operands k).vreg i
 reads_here f i k lt few reads =
     let o : OperandValue = op_at (inst_at f i).operands k in
-    used_at f o.vreg i o.position (lt, (k, o, few, get_or_default (inst_at f i).operands k o no_operand few, reads, refl, refl))
+    used_at f o.vreg i o.position (k, (lt, few, refl), reads, refl)
 
 -- a definition of a number at an instruction, as one of a vreg
-defines_there : (f : FunctionValue) (v : VirtualRegister) (i : ℕ) (d : DefinesAt f v i) → DefinesNumber (inst_at f i).operands v.number d.1.0
-defines_there f v i d =
-    let is : op_at (inst_at f i).operands d.1.0 ≡ d.1.1 = get_or_default (inst_at f i).operands d.1.0 no_operand d.1.1 d.1.2 ∙ d.1.3 in
-    record {
-      operand = d.1.2;
-      definition = ap (λ (o : OperandValue). is_def o.kind) is ∙ d.1.4;
-      number = ap (λ (o : OperandValue). o.vreg.number) is ∙ ap (λ (w : VirtualRegister). w.number) d.1.5;
-    }
+defines_there : (f : FunctionValue) (v : VirtualRegister) (i : ℕ) (d : DefinesAt f v i) → DefinesNumber (inst_at f i).operands v.number d.0
+defines_there f v i d = record { operand = d.1.1; definition = d.2; number = ap (λ (w : VirtualRegister). w.number) d.1.2 }
 
 -- where a branch defines v, it is noted as the one that does
 noted_there : (f : FunctionValue) → MayHaveTables f → (sites : List (Option DefSite)) → AreDefSites f sites → (v : VirtualRegister) (i : ℕ) →
     (inst_at f i).is_branch ≡ true → DefinesAt f v i → IsSiteAt sites v.number i
 noted_there f w sites are v i branch d =
-    let s : IsSite f v.number i d.1.0 = record { inst = d.0; is_branch = branch; defines = defines_there f v i d } in
+    let s : IsSite f v.number i d.0 = record { inst = d.1.0; is_branch = branch; defines = defines_there f v i d } in
     by_answer s (slice_index_or sites v.number None) refl
   where
-    by_answer : IsSite f v.number i d.1.0 → (x : Option DefSite) → slice_index_or sites v.number None ≡ x → IsSiteAt sites v.number i
-    by_answer s None e = absurd (are.no_site v.number e i d.1.0 s)
+    by_answer : IsSite f v.number i d.0 → (x : Option DefSite) → slice_index_or sites v.number None ≡ x → IsSiteAt sites v.number i
+    by_answer s None e = absurd (are.no_site v.number e i d.0 s)
     by_answer s (Some t) e =
-        let same = (one_operand f w.1.defined_once v.number t.branch i t.index d.1.0 (site_defines f v.number t.branch t.index (are.site v.number t e))
-        (site_defines f v.number i d.1.0 s)).0 in
+        let same = (one_operand f w.1.defined_once v.number t.branch i t.index d.0 (site_defines f v.number t.branch t.index (are.site v.number t e))
+        (site_defines f v.number i d.0 s)).0 in
         (t.index, e ∙ ap (λ (m : ℕ). Some (record { branch = m; index = t.index })) same)
 
 -- what a branch passes and isn't noted to define is used elsewhere
@@ -145,7 +141,8 @@ passed_used : (f : FunctionValue) → MayHaveTables f → (sites : List (Option 
     (IsSiteAt sites v.number (last_of (block_at f b)) → ⊥) → IsUsedElsewhere f v
 passed_used f w sites are b k lt edge v has free =
     let i : ℕ = last_of (block_at f b) in
-    (i, inr (inr (b, k, lt, refl, edge, has, λ d. free (noted_there f w sites are v i (goes_on_by_branch f w b k lt edge) d))))
+    let some = (w.1.follow b lt).0 in
+    (i, inr (inr (b, k, (omega (arith, some), edge), has, λ d. free (noted_there f w sites are v i (goes_on_by_branch f w b k lt edge) d))))
 
 -- what a branch passes and doesn't define isn't noted as its definition
 not_noted : (f : FunctionValue) → MayHaveTables f → (sites : List (Option DefSite)) → AreDefSites f sites → (b k : ℕ) → b < length f.blocks →
@@ -159,7 +156,7 @@ not_noted f w sites are b k lt edge v has free at =
     let d : IsDefOperand f o.vreg.number i at.0 = record { inst = s.inst; operand = s.defines.operand; definition = s.defines.definition; number = refl } in
     let made : Made f o.vreg = by_operand i at.0 d refl in
     let same : o.vreg ≡ v = one_made f w.1.defined_once o.vreg v made (passed_made f w.1.defined_once b k v w.1.follow w.1.uses_defined lt edge has) number in
-    free (s.inst, (at.0, o, s.defines.operand, get_or_default (inst_at f i).operands at.0 o no_operand s.defines.operand, s.defines.definition, same))
+    free (at.0, (s.inst, s.defines.operand, same), s.defines.definition)
 
 -- what is read has an entry
 read_room : (f : FunctionValue) → MayHaveTables f → (n : ℕ) → CoversDefinitions f n → (i k : ℕ) → i < length f.insts → k < length (inst_at f i).operands →
@@ -168,10 +165,6 @@ read_room f w n room i k lt few reads =
     let some : 0 < length f.blocks = let e = w.1.successors.0 in omega (arith, e) in
     made_room f w.1.defined_once n room (op_at (inst_at f i).operands k).vreg (is_made f (op_at (inst_at f i).operands k).vreg i
     (made_before f (op_at (inst_at f i).operands k).vreg i lt (reads_defined f some w.1.follow w.1.uses_defined i lt k few reads)))
-
--- an operand of an index past the end doesn't read
-pub reads_within : (ops : List OperandValue) (k : ℕ) → k < length ops → (o : OperandValue) → slice_index_or ops k o ≡ o → op_at ops k ≡ o
-reads_within ops k lt o e = get_or_default ops k no_operand o lt ∙ e
 
 module _ (f : FunctionValue) (w : MayHaveTables f) (sites : List (Option DefSite)) (are : AreDefSites f sites) (none mid new : List Bool)
     (room : CoversDefinitions f (length none)) (middle : length mid ≡ length none) (blank : (n : ℕ) → slice_index_or none n false ≡ false)
@@ -196,27 +189,26 @@ module _ (f : FunctionValue) (w : MayHaveTables f) (sites : List (Option DefSite
   -- what is read is marked
   of_read : (v : VirtualRegister) (i : ℕ) (p : OperandPos) → ReadsAt f v p i → slice_index_or new v.number false ≡ true
   of_read v i p r =
-      let is : op_at (inst_at f i).operands r.1.0 ≡ r.1.1 = reads_within (inst_at f i).operands r.1.0 r.1.2 r.1.1 r.1.3 in
-      let read : is_reading (op_at (inst_at f i).operands r.1.0) ≡ true = ap is_reading is ∙ r.1.4 in
-      let number : (op_at (inst_at f i).operands r.1.0).vreg.number ≡ v.number = ap (λ (o : OperandValue). o.vreg.number) is
-      ∙ ap (λ (u : VirtualRegister). u.number) r.1.6 in
-      let small = read_room f w (length none) room i r.1.0 r.0 r.1.2 read in
-      passes.kept v.number (reads.marks v.number (omega (arith, small, number)) (i, r.0, (r.1.0, r.1.2, read, number)))
+      let number : (op_at (inst_at f i).operands r.0).vreg.number ≡ v.number = ap (λ (u : VirtualRegister). u.number) r.1.2 in
+      let small = read_room f w (length none) room i r.0 r.1.0 r.1.1 r.2 in
+      passes.kept v.number (reads.marks v.number (omega (arith, small, number)) (i, r.1.0, (r.0, r.1.1, r.2, number)))
 
   -- what is passed is
-  of_pass : (v : VirtualRegister) (i : ℕ) → PassesAt f v i → slice_index_or new v.number false ≡ true
-  of_pass v i p =
-      let b : ℕ = p.0 in let k : ℕ = p.1 in
-      let made = passed_made f w.1.defined_once b k v w.1.follow w.1.uses_defined p.2 p.4 p.5 in
+  of_pass : (v : VirtualRegister) (l : Location) → PassesAt f v l → slice_index_or new v.number false ≡ true
+  of_pass v l (k, (end, edge), has, other) =
+      let b : ℕ = l.block in
+      let lt : b < length f.blocks = edge_within f b k edge in
+      let at : l.inst ≡ last_of (block_at f b) = omega (arith, end) in
+      let made = passed_made f w.1.defined_once b k v w.1.follow w.1.uses_defined lt edge has in
       let small = made_room f w.1.defined_once (length none) room v made in
-      let free : IsSiteAt sites v.number (last_of (block_at f b)) → ⊥ = not_noted f w sites are b k p.2 p.4 v p.5
-      (subst (λ (m : ℕ). DefinesAt f v m → ⊥) p.3 p.6) in
-      passes.marks v.number (omega (arith, small, middle)) (b, p.2, (k, p.4, (p.5.0, v, p.5.1, p.5.2, refl, free)))
+      let free : IsSiteAt sites v.number (last_of (block_at f b)) → ⊥ = not_noted f w sites are b k lt edge v has
+      (subst (λ (m : ℕ). DefinesAt f v m → ⊥) at other) in
+      passes.marks v.number (omega (arith, small, middle)) (b, lt, (k, edge, (has.0, v, has.1, has.2, refl, free)))
 
   of_use : (v : VirtualRegister) (i : ℕ) → UsesAt f v i → slice_index_or new v.number false ≡ true
   of_use v i (inl r) = of_read v i Early r
   of_use v i (inr (inl r)) = of_read v i Late r
-  of_use v i (inr (inr p)) = of_pass v i p
+  of_use v i (inr (inr p)) = of_pass v (record { block = p.0; inst = i }) p.1
 
   -- what is marked is what is used elsewhere
   pub are_used : AreUsed f new
@@ -234,14 +226,12 @@ used_made f w v u = by_use u.0 u.1
   where
     by_read : (i : ℕ) (p : OperandPos) → ReadsAt f v p i → Made f v
     by_read i p r =
-        let is : op_at (inst_at f i).operands r.1.0 ≡ r.1.1 = reads_within (inst_at f i).operands r.1.0 r.1.2 r.1.1 r.1.3 in
-        let read : is_reading (op_at (inst_at f i).operands r.1.0) ≡ true = ap is_reading is ∙ r.1.4 in
         let some : 0 < length f.blocks = let e = w.1.successors.0 in omega (arith, e) in
-        let same : (op_at (inst_at f i).operands r.1.0).vreg ≡ v = ap (λ (o : OperandValue). o.vreg) is ∙ r.1.6 in
-        subst (Made f) same (is_made f (op_at (inst_at f i).operands r.1.0).vreg i
-        (made_before f (op_at (inst_at f i).operands r.1.0).vreg i r.0 (reads_defined f some w.1.follow w.1.uses_defined i r.0 r.1.0 r.1.2 read)))
+        subst (Made f) r.1.2 (is_made f (op_at (inst_at f i).operands r.0).vreg i
+        (made_before f (op_at (inst_at f i).operands r.0).vreg i r.1.0 (reads_defined f some w.1.follow w.1.uses_defined i r.1.0 r.0 r.1.1 r.2)))
 
     by_use : (i : ℕ) → UsesAt f v i → Made f v
     by_use i (inl r) = by_read i Early r
     by_use i (inr (inl r)) = by_read i Late r
-    by_use i (inr (inr p)) = passed_made f w.1.defined_once p.0 p.1 v w.1.follow w.1.uses_defined p.2 p.4 p.5
+    by_use i (inr (inr (b, k, way, has, other))) =
+        passed_made f w.1.defined_once b k v w.1.follow w.1.uses_defined (edge_within f b k way.1) way.1 has

@@ -2,16 +2,17 @@
 use Rattle.std.proofs.Common.{ℕ, zero, suc, ◌≡◌, ◌<◌, ◌⊎◌, inl, inr, Bool, true, false, [], length, refl, sym, ap, ◌∙◌, subst, arith}
 use Rattle.std.specs.Prelude.{slice_index_or}
 use Rattle.std.proofs.lemmas.Bool.{cases_eq, cases_lt}
-use Rattle.std.proofs.lemmas.List.{get_or_default}
 use Rattle.regalloc2_names.specs.declared.OperandPos.{OperandPos}
 use Rattle.regalloc2_names.specs.declared.OperandPos.TheVariants.{Early, Late}
-use Rattle.regalloc2_names.specs.Operand.{OperandValue, is_def, is_reading}
+use Rattle.regalloc2_names.specs.Operand.{is_def, is_reading}
 use Rattle.regalloc2_names.specs.Register.{VirtualRegister, is_vreg}
-use Rattle.regalloc2_function.specs.FunctionValue.{FunctionValue, block_at, inst_at, no_operand, last_of, op_at}
-use Rattle.regalloc2_semantics.specs.Debug.{DefinesAt, ReadsAt, UsesAt}
+use Rattle.regalloc2_function.specs.FunctionValue.{FunctionValue, block_at, inst_at, last_of, op_at}
+use Rattle.regalloc2_semantics.specs.Live.{DefinesAt, ReadsAt}
+use Rattle.regalloc2_semantics.specs.Debug.{UsesAt}
 use Rattle.regalloc2_semantics.proofs.Cells.{is_vreg-true, is_vreg-same}
+use Rattle.regalloc2_semantics.proofs.Soundness.{edge_within}
 use Rattle.regalloc2_analysis.specs.BranchDefs.BranchDefs.{IsUsedElsewhere}
-use Rattle.regalloc2_analysis.proofs.BranchDefsLemmas.UseNotes.{reads_here, reads_within}
+use Rattle.regalloc2_analysis.proofs.BranchDefsLemmas.UseNotes.{reads_here}
 
 -- a statement holds, or it doesn't
 abbrev pub Decided : Type 0 → Type 0
@@ -73,9 +74,9 @@ PassesOnEdge f v b k = ((j : ℕ) × (j < length (slice_index_or (block_at f b).
     × (slice_index_or (slice_index_or (block_at f b).arguments k []) j v ≡ v))
     × (SomeDefines f v (last_of (block_at f b)) → ⊥)
 
--- at some edge out of a block
+-- at some edge out of a block, which isn't empty
 abbrev pub SomePasses : FunctionValue → VirtualRegister → ℕ → Type 0
-SomePasses f v b = (k : ℕ) × (k < length (block_at f b).succs) × PassesOnEdge f v b k
+SomePasses f v b = (0 < (block_at f b).range.end) × ((k : ℕ) × (k < length (block_at f b).succs) × PassesOnEdge f v b k)
 
 some_reads : (f : FunctionValue) (v : VirtualRegister) (i : ℕ) → Decided (SomeReads f v i)
 some_reads f v i = below (ReadsIt f v i) (λ k. both _ _ (is_so (is_reading (op_at (inst_at f i).operands k)))
@@ -89,26 +90,20 @@ some_defines f v i = both _ _ (is_below i (length f.insts)) (below (DefinesIt f 
     (same_vreg (op_at (inst_at f i).operands k).vreg v)) (length (inst_at f i).operands))
 
 some_passes : (f : FunctionValue) (v : VirtualRegister) (b : ℕ) → Decided (SomePasses f v b)
-some_passes f v b = below (PassesOnEdge f v b) (λ k. both _ _
+some_passes f v b = both _ _ (is_below 0 (block_at f b).range.end) (below (PassesOnEdge f v b) (λ k. both _ _
     (below (λ j. slice_index_or (slice_index_or (block_at f b).arguments k []) j v ≡ v)
     (λ j. same_vreg (slice_index_or (slice_index_or (block_at f b).arguments k []) j v) v) (length (slice_index_or (block_at f b).arguments k [])))
-    (neither _ (some_defines f v (last_of (block_at f b))))) (length (block_at f b).succs)
+    (neither _ (some_defines f v (last_of (block_at f b))))) (length (block_at f b).succs))
 
 -- a definition at an instruction, as one of its operands, and back
 defines_of : (f : FunctionValue) (v : VirtualRegister) (i : ℕ) → DefinesAt f v i → SomeDefines f v i
-defines_of f v i d =
-    let is : op_at (inst_at f i).operands d.1.0 ≡ d.1.1 = reads_within (inst_at f i).operands d.1.0 d.1.2 d.1.1 d.1.3 in
-    (d.0, (d.1.0, d.1.2, (ap (λ (o : OperandValue). is_def o.kind) is ∙ d.1.4, ap (λ (o : OperandValue). o.vreg) is ∙ d.1.5)))
+defines_of f v i d = (d.1.0, (d.0, d.1.1, (d.2, d.1.2)))
 
 defines_at : (f : FunctionValue) (v : VirtualRegister) (i : ℕ) → SomeDefines f v i → DefinesAt f v i
-defines_at f v i s =
-    let o : OperandValue = op_at (inst_at f i).operands s.1.0 in
-    (s.0, (s.1.0, o, s.1.1, get_or_default (inst_at f i).operands s.1.0 o no_operand s.1.1, s.1.2.0, s.1.2.1))
+defines_at f v i s = (s.1.0, (s.0, s.1.1, s.1.2.1), s.1.2.0)
 
 reads_of : (f : FunctionValue) (v : VirtualRegister) (p : OperandPos) (i : ℕ) → ReadsAt f v p i → SomeReads f v i
-reads_of f v p i r =
-    let is : op_at (inst_at f i).operands r.1.0 ≡ r.1.1 = reads_within (inst_at f i).operands r.1.0 r.1.2 r.1.1 r.1.3 in
-    (r.1.0, r.1.2, (ap is_reading is ∙ r.1.4, ap (λ (o : OperandValue). o.vreg) is ∙ r.1.6))
+reads_of f v p i r = (r.0, r.1.1, (r.2, r.1.2))
 
 -- an instruction that reads v uses it
 pub by_read : (f : FunctionValue) (v : VirtualRegister) → ((i : ℕ) × (i < length f.insts) × SomeReads f v i) → IsUsedElsewhere f v
@@ -116,35 +111,19 @@ by_read f v h = (h.0, subst (λ (w : VirtualRegister). UsesAt f w h.0) h.2.2.1 (
 
 -- a branch that passes a vreg and doesn't define it uses it elsewhere
 pub by_pass : (f : FunctionValue) (v : VirtualRegister) → ((b : ℕ) × (b < length f.blocks) × SomePasses f v b) → IsUsedElsewhere f v
-by_pass f v h = (
-  last_of (block_at f h.0),
-  inr (inr (
-    h.0,
-    h.2.0,
-    h.1,
-    refl,
-    h.2.1,
-    h.2.2.0,
-    λ d. h.2.2.1 (defines_of f v (last_of (block_at f h.0)) d),
-  )),
+by_pass f v (b, lt, (some, (k, edge, (has, other)))) = (
+  last_of (block_at f b),
+  inr (inr (b, k, (omega (arith, some), edge), has, λ d. other (defines_of f v (last_of (block_at f b)) d))),
 )
 
 some_use : (f : FunctionValue) (v : VirtualRegister) (i : ℕ) → UsesAt f v i →
     ((j : ℕ) × (j < length f.insts) × SomeReads f v j) ⊎ ((b : ℕ) × (b < length f.blocks) × SomePasses f v b)
-some_use f v i (inl r) = inl (i, r.0, reads_of f v Early i r)
-some_use f v i (inr (inl r)) = inl (i, r.0, reads_of f v Late i r)
-some_use f v i (inr (inr p)) = inr (
-  p.0,
-  p.2,
-  (
-    p.1,
-    p.4,
-    (
-      p.5,
-      λ s. p.6 (subst (DefinesAt f v) (sym p.3) (defines_at f v (last_of (block_at f p.0)) s)),
-    ),
-  ),
-)
+some_use f v i (inl r) = inl (i, r.1.0, reads_of f v Early i r)
+some_use f v i (inr (inl r)) = inl (i, r.1.0, reads_of f v Late i r)
+some_use f v i (inr (inr (b, k, (end, edge), has, other))) =
+    let at : i ≡ last_of (block_at f b) = omega (arith, end) in
+    let some : 0 < (block_at f b).range.end = omega (arith, end) in
+    inr (b, edge_within f b k edge, (some, (k, edge, (has, λ s. other (subst (DefinesAt f v) (sym at) (defines_at f v (last_of (block_at f b)) s))))))
 
 -- a vreg is used elsewhere, or it isn't
 pub used_or_not : (f : FunctionValue) (v : VirtualRegister) → IsUsedElsewhere f v ⊎ (IsUsedElsewhere f v → ⊥)

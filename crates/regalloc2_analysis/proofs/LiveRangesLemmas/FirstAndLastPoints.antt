@@ -8,7 +8,9 @@ use Rattle.regalloc2_names.specs.declared.OperandPos.TheVariants.{Early, Late}
 use Rattle.regalloc2_names.specs.Register.{VirtualRegister}
 use Rattle.regalloc2_names.specs.Place.{before, after}
 use Rattle.regalloc2_function.specs.FunctionValue.{FunctionValue, block_at, inst_at, op_at}
-use Rattle.regalloc2_semantics.specs.Debug.{DefinesAt, IsFirstPoint, IsLastPoint, IsLastUse, PassesAt, ReadsAt, UsesAt}
+use Rattle.regalloc2_semantics.specs.Runs.{Location}
+use Rattle.regalloc2_semantics.specs.Live.{DefinesAt, ReadsAt, PassesAt}
+use Rattle.regalloc2_semantics.specs.Debug.{IsFirstPoint, IsLastPoint, IsLastUse, UsesAt}
 use Rattle.regalloc2_semantics.specs.Debug.IsFirstPoint.{of_definition as begins_at_definition, of_parameter}
 use Rattle.regalloc2_semantics.specs.Debug.IsLastPoint.{of_late_use, of_early_use, of_argument, of_definition as ends_at_definition}
 use Rattle.regalloc2_carry.proofs.SingleDef.{Made, not_both, one_operand, one_param}
@@ -27,20 +29,23 @@ one_last f v i j a b = let x : i ≤ j = b.1 i a.0 in let y : j ≤ i = a.1 j b.
 
 -- the operand whose place shows a vreg is one of the function's; where there is none, the vreg is passed
 pub shown_within : (f : FunctionValue) (v : VirtualRegister) {by : Option InstOperand} → IsShownBy f v by →
-    MatchOption by ((i : ℕ) × PassesAt f v i) (λ o. (o.inst < length f.insts) × (o.index < length (inst_at f o.inst).operands)
+    MatchOption by ((l : Location) × PassesAt f v l) (λ o. (o.inst < length f.insts) × (o.index < length (inst_at f o.inst).operands)
     × ((op_at (inst_at f o.inst).operands o.index).vreg ≡ v))
 shown_within f v (by_late_use o last reader) = (reader.reader.inst, reader.reader.index, reader.reader.vreg)
 shown_within f v (by_early_use o last never reader) = (reader.reader.inst, reader.reader.index, reader.reader.vreg)
-shown_within f v (by_argument i last never nor) = (i, elim last.0 [ inl r ↦ absurd (nor r) | inr rest ↦ elim rest [ inl r ↦ absurd (never r) | inr p ↦ p ] ])
+shown_within f v (by_argument i last never nor) = elim last.0 [
+  | inl r ↦ absurd (nor r)
+  | inr rest ↦ elim rest [ inl r ↦ absurd (never r) | inr p ↦ (record { block = p.0; inst = i }, p.1) ]
+]
 shown_within f v (by_definition o never definer) = (definer.inst, definer.index, definer.vreg)
 
 module _ (f : FunctionValue) (ssa : IsSSA f) where
   -- one instruction defines a vreg
   one_definition : (v : VirtualRegister) (i j : ℕ) → DefinesAt f v i → DefinesAt f v j → i ≡ j
-  one_definition v i j a b = (one_operand f ssa.once v.number i j a.1.0 b.1.0 (IsDefOperand-from_DefinesAt f v i a) (IsDefOperand-from_DefinesAt f v j b)).0
+  one_definition v i j a b = (one_operand f ssa.once v.number i j a.0 b.0 (IsDefOperand-from_DefinesAt f v i a) (IsDefOperand-from_DefinesAt f v j b)).0
 
   no_both : (v : VirtualRegister) (i b : ℕ) → DefinesAt f v i → b < length f.blocks → Contains (block_at f b).params v → ⊥
-  no_both v i b d lt h = not_both f ssa.once v.number i d.1.0 b h.0 (IsDefOperand-from_DefinesAt f v i d) (takes_number f v b lt h)
+  no_both v i b d lt h = not_both f ssa.once v.number i d.0 b h.0 (IsDefOperand-from_DefinesAt f v i d) (takes_number f v b lt h)
 
   -- a vreg has one first point
   pub one_first_point : (v : VirtualRegister) {p q : ℕ} → IsFirstPoint f v p → IsFirstPoint f v q → p ≡ q
@@ -83,7 +88,7 @@ module _ (f : FunctionValue) (ssa : IsSSA f) where
   }
 
   unread : (v : VirtualRegister) (at : OperandPos) (i : ℕ) → Unread f v.number at i → ReadsAt f v at i → ⊥
-  unread v at i never r = never r.1.0 (read_number f v at i r)
+  unread v at i never r = never r.0 (read_number f v at i r)
 
   greatest : (v : VirtualRegister) (j : ℕ) → ((m : ℕ) → j < m → UsesNumber f v.number m → ⊥) → (m : ℕ) → UsesAt f v m → m ≤ j
   greatest v j none m u = elim (cases_lt j m) [ inl lt ↦ absurd (none m lt (used_number f v m u)) | inr le ↦ le ]

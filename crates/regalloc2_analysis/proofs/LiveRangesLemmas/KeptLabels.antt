@@ -17,6 +17,7 @@ use Rattle.regalloc2_semantics.specs.Debug.{AreLocationsOf, IsFirstPoint, IsKept
 use Rattle.regalloc2_semantics.specs.Debug.AreLocationsOf.{none as no_more, kept as located, left_out as omitted}
 use Rattle.regalloc2_semantics.specs.Debug.IsFirstPoint.{of_definition as begins_at_definition, of_parameter}
 use Rattle.regalloc2_semantics.specs.Debug.IsLastPoint.{of_late_use, of_early_use, of_argument, of_definition as ends_at_definition}
+use Rattle.regalloc2_semantics.proofs.Soundness.{edge_within}
 use Rattle.regalloc2_carry.proofs.Order.{ends_within}
 use Rattle.regalloc2_analysis.specs.declared.live_ranges.KeptLabel.{KeptLabel}
 use Rattle.regalloc2_analysis.specs.declared.live_ranges.LiveRange.{LiveRange}
@@ -60,20 +61,21 @@ inst_is p lt = rw (lt-ltb p 2147483648 lt) refl
 
 -- points are small
 first_small : (f : FunctionValue) → IsLimited f → IsSSA f → (v : VirtualRegister) {p : ℕ} → IsFirstPoint f v p → p < 2147483648
-first_small f limited ssa v (begins_at_definition i d) = omega (arith, d.0, limited.insts)
+first_small f limited ssa v (begins_at_definition i d) = omega (arith, d.1.0, limited.insts)
 first_small f limited ssa v (of_parameter b lt h) = let within = ends_within f ssa.follow b lt in let some = (ssa.follow b lt).0 in
     omega (arith, within, some, limited.insts)
 
 use_small : (f : FunctionValue) → IsSSA f → (v : VirtualRegister) (i : ℕ) → UsesAt f v i → i < length f.insts
-use_small f ssa v i (inl r) = r.0
-use_small f ssa v i (inr (inl r)) = r.0
-use_small f ssa v i (inr (inr p)) = let within = ends_within f ssa.follow p.0 p.2 in let some = (ssa.follow p.0 p.2).0 in omega (arith, within, some, p.3)
+use_small f ssa v i (inl r) = r.1.0
+use_small f ssa v i (inr (inl r)) = r.1.0
+use_small f ssa v i (inr (inr (b, k, (end, edge), has, other))) = let within = ends_within f ssa.follow b (edge_within f b k edge) in
+    omega (arith, within, end)
 
 last_small : (f : FunctionValue) → IsLimited f → IsSSA f → (v : VirtualRegister) {p : ℕ} → IsLastPoint f v p → p < 2147483648
 last_small f limited ssa v (of_late_use i a l) = let small = use_small f ssa v i a.0 in omega (arith, small, limited.insts)
 last_small f limited ssa v (of_early_use i a never l) = let small = use_small f ssa v i a.0 in omega (arith, small, limited.insts)
 last_small f limited ssa v (of_argument i a never nor) = let small = use_small f ssa v i a.0 in omega (arith, small, limited.insts)
-last_small f limited ssa v (ends_at_definition i d never) = omega (arith, d.0, limited.insts)
+last_small f limited ssa v (ends_at_definition i d never) = omega (arith, d.1.0, limited.insts)
 
 module _ (f : FunctionValue) (limited : IsLimited f) (ssa : IsSSA f) (t : List (Option LiveRange)) (are : AreLiveRanges f (IsLabelled f) t) (l : Label)
     (named : IsLabelled f l.vreg.number) (r : LiveRange) (is : range_at t l.vreg.number ≡ Some r) where

@@ -12,7 +12,8 @@ use Rattle.regalloc2_function.specs.FunctionValue.{FunctionValue, block_at, inst
 use Rattle.regalloc2_names.specs.Operand.{OperandValue, is_def}
 use Rattle.regalloc2_names.specs.Place.{before, after}
 use Rattle.regalloc2_function.specs.WellFormed.{BlocksFollow}
-use Rattle.regalloc2_semantics.specs.Debug.{DefinesAt, IsFirstPoint, UsesAt}
+use Rattle.regalloc2_semantics.specs.Live.{DefinesAt}
+use Rattle.regalloc2_semantics.specs.Debug.{IsFirstPoint, UsesAt}
 use Rattle.regalloc2_semantics.specs.Debug.IsFirstPoint.{of_definition, of_parameter}
 use Rattle.regalloc2_carry.proofs.SingleDef.{Made, one_made}
 use Rattle.regalloc2_carry.proofs.Order.{ends_within}
@@ -94,12 +95,11 @@ begun_same Asked ops m t o less is never h k lt within def asked = elim (below_o
 pub begun_all : (f : FunctionValue) (Asked : ℕ → Type 0) (i m : ℕ) (ops : List OperandValue) (t : List (Option LiveRange)) → ops ≡ (inst_at f i).operands →
     length ops ≤ m → AreBegun Asked ops m t → (v : VirtualRegister) → Asked v.number → DefinesAt f v i → range_at t v.number ≢ None
 begun_all f Asked i m ops t e all h v asked d =
-    let k : ℕ = d.1.0 in
-    let less : k < length ops = subst (λ (xs : List OperandValue). k < length xs) (sym e) d.1.2 in
-    let at : op_at ops k ≡ d.1.1 = op_is ops k d.1.1 less (subst (λ (xs : List OperandValue). slice_index_or xs k d.1.1 ≡ d.1.1) (sym e) d.1.3) in
-    let vreg : (op_at ops k).vreg ≡ v = ap (λ (p : OperandValue). p.vreg) at ∙ d.1.5 in
+    let k : ℕ = d.0 in
+    let less : k < length ops = subst (λ (xs : List OperandValue). k < length xs) (sym e) d.1.1 in
+    let vreg : (op_at ops k).vreg ≡ v = ap (λ (xs : List OperandValue). (op_at xs k).vreg) e ∙ d.1.2 in
     subst (λ (w : VirtualRegister). range_at t w.number ≢ None) vreg
-    (h k (omega (arith, less, all)) less (ap (λ (p : OperandValue). is_def p.kind) at ∙ d.1.4)
+    (h k (omega (arith, less, all)) less (ap (λ (xs : List OperandValue). is_def (op_at xs k).kind) e ∙ d.2)
     (subst (λ (w : VirtualRegister). Asked w.number) (sym vreg) asked))
 
 -- the first parameters have entries, if they are requested and have ends
@@ -160,7 +160,7 @@ walked_none f ssa Asked indexes m room = record {
   ranges_room = subst (CoversDefinitions f) (sym (spread_length indexes (replicate m None))) room;
   noted = λ n lt asked. subst (EndsFrom f (length f.insts) n) (sym (spread_nothing indexes m n)) (λ j le u. none_past j le n u);
   right = λ n r h. absurd (let e : Some r ≡ None = sym h ∙ spread_nothing indexes m n in cc);
-  defined = λ v j le asked d. absurd (omega (arith, le, d.0));
+  defined = λ v j le asked d. absurd (omega (arith, le, d.1.0));
   taken = λ v c j le lt. absurd (omega (arith, le, lt));
 }
   where

@@ -70,7 +70,7 @@ module _ (f : FunctionValue) (Asked : ℕ → Type 0) (named : List ℕ) where
   -- an instruction that names none adds nothing
   pub adds_nothing : (i : ℕ) → NamesNoAsked f Asked i → AddsNothing f Asked i
   adds_nothing i none = record {
-    defines = λ v asked d. let n = IsDefOperand-from_DefinesAt f v i d in none d.1.0 n.operand (subst Asked (sym n.number) asked);
+    defines = λ v asked d. let n = IsDefOperand-from_DefinesAt f v i d in none d.0 n.operand (subst Asked (sym n.number) asked);
     reads = λ n at k asked r later. none k r.within (subst Asked (sym r.number) asked);
   }
 

@@ -10,7 +10,9 @@ use Rattle.regalloc2_names.specs.Place.{before, after}
 use Rattle.regalloc2_function.specs.FunctionValue.{FunctionValue, block_at, inst_at, no_operand, last_of, op_at}
 use Rattle.regalloc2_function.specs.Machine.{MachineValue}
 use Rattle.regalloc2_function.specs.WellFormed.{IsDefinedUpTo, IsWellFormed}
-use Rattle.regalloc2_semantics.specs.Debug.{DefinesAt, PassesAt, ReadsAt, UsesAt}
+use Rattle.regalloc2_semantics.specs.Debug.{UsesAt}
+use Rattle.regalloc2_semantics.specs.Live.{DefinesAt, ReadsAt, PassesAt}
+use Rattle.regalloc2_semantics.proofs.Soundness.{edge_within}
 use Rattle.regalloc2_function.specs.Inside.TableLength.{CoversDefinitions}
 use Rattle.regalloc2_carry.proofs.SingleDef.{IsDefOperand, Made, TakesAt, is_made, made_before, made_behind, made_small, not_both, one_made, one_param}
 use Rattle.regalloc2_carry.proofs.SingleDef.{reads_defined}
@@ -27,20 +29,13 @@ pub well_formed_ssa : (env : MachineValue) (f : FunctionValue) → IsWellFormed 
 well_formed_ssa env f w = record { some = let first = w.successors.0 in omega (arith, first); follow = w.follow; once = w.defined_once; uses = w.uses_defined }
 
 -- a definition, as an operand of that number
-pub IsDefOperand-from_DefinesAt : (f : FunctionValue) (v : VirtualRegister) (i : ℕ) (d : DefinesAt f v i) → IsDefOperand f v.number i d.1.0
+pub IsDefOperand-from_DefinesAt : (f : FunctionValue) (v : VirtualRegister) (i : ℕ) (d : DefinesAt f v i) → IsDefOperand f v.number i d.0
 IsDefOperand-from_DefinesAt f v i d =
-    let is = op_is (inst_at f i).operands d.1.0 d.1.1 d.1.2 d.1.3 in
-    record {
-      inst = d.0;
-      operand = d.1.2;
-      definition = ap (λ (o : OperandValue). is_def o.kind) is ∙ d.1.4;
-      number = ap (λ (o : OperandValue). o.vreg.number) is ∙ ap (λ (w : VirtualRegister). w.number) d.1.5;
-    }
+    record { inst = d.1.0; operand = d.1.1; definition = d.2; number = ap (λ (w : VirtualRegister). w.number) d.1.2 }
 
 -- a vreg that an instruction defines is defined in the function
 pub made_by_definition : (f : FunctionValue) (v : VirtualRegister) (i : ℕ) → DefinesAt f v i → Made f v
-made_by_definition f v i d = by_operand i d.1.0 (IsDefOperand-from_DefinesAt f v i d)
-    (ap (λ (o : OperandValue). o.vreg) (op_is (inst_at f i).operands d.1.0 d.1.1 d.1.2 d.1.3) ∙ d.1.5)
+made_by_definition f v i d = by_operand i d.0 (IsDefOperand-from_DefinesAt f v i d) d.1.2
 
 -- a parameter, by its number
 pub takes_number : (f : FunctionValue) (v : VirtualRegister) (b : ℕ) → b < length f.blocks → (h : Contains (block_at f b).params v) → TakesAt f v.number b h.0
@@ -56,53 +51,26 @@ made_by_parameter f v b lt h = by_param b h.0 (takes_number f v b lt h) (get_or_
 
 -- what is read is read by its number
 pub read_number : (f : FunctionValue) (v : VirtualRegister) (at : OperandPos) (i : ℕ) (r : ReadsAt f v at i) →
-    ReadsNumber (inst_at f i).operands v.number at r.1.0
-read_number f v at i r =
-    let is = op_is (inst_at f i).operands r.1.0 r.1.1 r.1.2 r.1.3 in
-    record {
-      within = r.1.2;
-      reading = ap is_reading is ∙ r.1.4;
-      position = ap (λ (o : OperandValue). o.position) is ∙ r.1.5;
-      number = ap (λ (o : OperandValue). o.vreg.number) is ∙ ap (λ (w : VirtualRegister). w.number) r.1.6;
-    }
+    ReadsNumber (inst_at f i).operands v.number at r.0
+read_number f v at i r = record { within = r.1.1; reading = r.2; position = r.3; number = ap (λ (w : VirtualRegister). w.number) r.1.2 }
 
 HasNumber-from_Contains : (vs : List VirtualRegister) (v : VirtualRegister) → Contains vs v → HasNumber vs (length vs) v.number
 HasNumber-from_Contains vs v h = (h.0, h.1, h.1, ap (λ (w : VirtualRegister). w.number) (get_or_default vs h.0 no_vreg v h.1 ∙ h.2))
 
 -- an instruction that uses a vreg uses its number
 pub used_number : (f : FunctionValue) (v : VirtualRegister) (i : ℕ) → UsesAt f v i → UsesNumber f v.number i
-used_number f v i (inl r) = reads OperandPos.Early r.1.0 r.0 (read_number f v OperandPos.Early i r)
-used_number f v i (inr (inl r)) = reads OperandPos.Late r.1.0 r.0 (read_number f v OperandPos.Late i r)
-used_number f v i (inr (inr p)) = passes (p.0, p.2, p.3, (p.1, p.4, HasNumber-from_Contains (slice_index_or (block_at f p.0).arguments p.1 []) v p.5))
+used_number f v i (inl r) = reads OperandPos.Early r.0 r.1.0 (read_number f v OperandPos.Early i r)
+used_number f v i (inr (inl r)) = reads OperandPos.Late r.0 r.1.0 (read_number f v OperandPos.Late i r)
+used_number f v i (inr (inr (b, k, (end, edge), has, other))) =
+    passes (b, edge_within f b k edge, omega (arith, end), (k, edge, HasNumber-from_Contains (slice_index_or (block_at f b).arguments k []) v has))
 
 -- a reader reads
 pub reader_reads : (f : FunctionValue) (v : VirtualRegister) (at : OperandPos) (o : InstOperand) → IsReader f v at o → ReadsAt f v at o.inst
-reader_reads f v at o r = (
-  r.inst,
-  (
-    o.index,
-    op_at (inst_at f o.inst).operands o.index,
-    r.index,
-    get_or_default (inst_at f o.inst).operands o.index (op_at (inst_at f o.inst).operands o.index) no_operand r.index,
-    r.reading,
-    r.position,
-    r.vreg,
-  ),
-)
+reader_reads f v at o r = (o.index, (r.inst, r.index, r.vreg), r.reading, r.position)
 
 -- a definer defines its vreg
 pub definer_defines : (f : FunctionValue) (v : VirtualRegister) (o : InstOperand) → IsDefiner f v o → DefinesAt f v o.inst
-definer_defines f v o d = (
-  d.inst,
-  (
-    o.index,
-    op_at (inst_at f o.inst).operands o.index,
-    d.index,
-    get_or_default (inst_at f o.inst).operands o.index (op_at (inst_at f o.inst).operands o.index) no_operand d.index,
-    d.definition,
-    d.vreg,
-  ),
-)
+definer_defines f v o d = (o.index, (d.inst, d.index, d.vreg), d.definition)
 
 -- an operand that is read in turn, and defines
 pub item_defines : (f : FunctionValue) (i k : ℕ) (ops : List OperandValue) (o : OperandValue) → i < length f.insts → ops ≡ (inst_at f i).operands →
@@ -124,12 +92,8 @@ module _ (f : FunctionValue) (ssa : IsSSA f) where
 
   -- as an operand of an instruction
   pub defined_small : (n : ℕ) → CoversDefinitions f n → (v : VirtualRegister) (i : ℕ) → DefinesAt f v i → v.number < n
-  defined_small n room v i d = definer_small n room v (record { inst = i; index = d.1.0 }) (record {
-    inst = d.0;
-    index = d.1.2;
-    definition = (IsDefOperand-from_DefinesAt f v i d).definition;
-    vreg = ap (λ (o : OperandValue). o.vreg) (op_is (inst_at f i).operands d.1.0 d.1.1 d.1.2 d.1.3) ∙ d.1.5;
-  })
+  defined_small n room v i d = definer_small n room v (record { inst = i; index = d.0 })
+      (record { inst = d.1.0; index = d.1.1; definition = d.2; vreg = d.1.2 })
 
   -- a block's parameter has a number within the room
   pub parameter_small : (n : ℕ) → CoversDefinitions f n → (v : VirtualRegister) (b : ℕ) → b < length f.blocks → Contains (block_at f b).params v → v.number < n
@@ -156,7 +120,8 @@ module _ (f : FunctionValue) (ssa : IsSSA f) where
   argument_defined b s k lt edge less = (ssa.uses b lt).1 s edge k no_vreg less
 
   -- an instruction that passes the number passes the vreg, unless it defines the vreg
-  pub passes_it : (v : VirtualRegister) → Made f v → (i : ℕ) → (DefinesAt f v i → ⊥) → PassesNumber f v.number i → PassesAt f v i
+  pub passes_it : (v : VirtualRegister) → Made f v → (i : ℕ) → (DefinesAt f v i → ⊥) → PassesNumber f v.number i →
+      (b : ℕ) × PassesAt f v (record { block = b; inst = i })
   passes_it v made i other p =
       let vs : List VirtualRegister = slice_index_or (block_at f p.0).arguments p.3.0 [] in
       let k : ℕ = p.3.2.0 in
@@ -166,19 +131,19 @@ module _ (f : FunctionValue) (ssa : IsSSA f) where
       let last : ℕ = last_of (block_at f p.0) in
       let here = is_made f w (last + 1) (made_behind f w last (omega (arith, within, some)) (argument_defined p.0 p.3.0 k p.1 p.3.1 p.3.2.2)) in
       let same : w ≡ v = one_made f ssa.once w v here made p.3.2.3 in
-      (p.0, p.3.0, p.1, p.2, p.3.1, (k, p.3.2.2, get_or_default vs k v no_vreg p.3.2.2 ∙ same), other)
+      (p.0, p.3.0, (omega (arith, some, p.2), p.3.1), (k, p.3.2.2, get_or_default vs k v no_vreg p.3.2.2 ∙ same), other)
 
   -- a use comes after the definition
   pub use_after : (v : VirtualRegister) (i j : ℕ) → DefinesAt f v i → UsesAt f v j → i < j
   use_after v i j d (inl r) = let n = read_number f v OperandPos.Early j r in
-      reads_later f ssa.once v.number i d.1.0 j r.1.0 (IsDefOperand-from_DefinesAt f v i d) r.0 (reads_defined f ssa.some ssa.follow ssa.uses j r.0) n.within n.reading
+      reads_later f ssa.once v.number i d.0 j r.0 (IsDefOperand-from_DefinesAt f v i d) r.1.0 (reads_defined f ssa.some ssa.follow ssa.uses j r.1.0) n.within n.reading
       n.number
   use_after v i j d (inr (inl r)) = let n = read_number f v OperandPos.Late j r in
-      reads_later f ssa.once v.number i d.1.0 j r.1.0 (IsDefOperand-from_DefinesAt f v i d) r.0 (reads_defined f ssa.some ssa.follow ssa.uses j r.0) n.within n.reading
+      reads_later f ssa.once v.number i d.0 j r.0 (IsDefOperand-from_DefinesAt f v i d) r.1.0 (reads_defined f ssa.some ssa.follow ssa.uses j r.1.0) n.within n.reading
       n.number
-  use_after v i j d (inr (inr p)) =
-      let h = passes_later f ssa.once v.number i d.1.0 p.0 p.1 v (IsDefOperand-from_DefinesAt f v i d) ssa.follow ssa.uses p.2 p.4 p.5 refl in
-      elim (cases_lt i j) [ inl less ↦ less | inr late ↦ absurd (p.6 (subst (DefinesAt f v) (omega (arith, h, late, p.3)) d)) ]
+  use_after v i j d (inr (inr (b, k, (end, edge), has, other))) =
+      let h = passes_later f ssa.once v.number i d.0 b k v (IsDefOperand-from_DefinesAt f v i d) ssa.follow ssa.uses (edge_within f b k edge) edge has refl in
+      elim (cases_lt i j) [ inl less ↦ less | inr late ↦ absurd (other (subst (DefinesAt f v) (omega (arith, h, late, end)) d)) ]
 
   -- what is defined by a point is so by a later one
   later_point : (v : VirtualRegister) (p q : ℕ) → p ≤ q → IsDefinedUpTo f v p → IsDefinedUpTo f v q
@@ -190,20 +155,19 @@ module _ (f : FunctionValue) (ssa : IsSSA f) where
   used_defined v j (inl r) = read_defined OperandPos.Early r
     where
       read_defined : (at : OperandPos) (r : ReadsAt f v at j) → IsDefinedUpTo f v (after j)
-      read_defined at r = let n = read_number f v at j r in later_point v (before j) (after j) (omega arith) (subst (λ (w : VirtualRegister). IsDefinedUpTo f w
-          (before j)) (ap (λ (o : OperandValue). o.vreg) (op_is (inst_at f j).operands r.1.0 r.1.1 r.1.2 r.1.3) ∙ r.1.6)
-          (reads_defined f ssa.some ssa.follow ssa.uses j r.0 r.1.0 n.within n.reading))
+      read_defined at r = later_point v (before j) (after j) (omega arith) (subst (λ (w : VirtualRegister). IsDefinedUpTo f w (before j)) r.1.2
+          (reads_defined f ssa.some ssa.follow ssa.uses j r.1.0 r.0 r.1.1 r.2))
   used_defined v j (inr (inl r)) = read_defined OperandPos.Late r
     where
       read_defined : (at : OperandPos) (r : ReadsAt f v at j) → IsDefinedUpTo f v (after j)
-      read_defined at r = let n = read_number f v at j r in later_point v (before j) (after j) (omega arith) (subst (λ (w : VirtualRegister). IsDefinedUpTo f w
-          (before j)) (ap (λ (o : OperandValue). o.vreg) (op_is (inst_at f j).operands r.1.0 r.1.1 r.1.2 r.1.3) ∙ r.1.6)
-          (reads_defined f ssa.some ssa.follow ssa.uses j r.0 r.1.0 n.within n.reading))
-  used_defined v j (inr (inr p)) =
-      let vs : List VirtualRegister = slice_index_or (block_at f p.0).arguments p.1 [] in
-      let at : slice_index_or vs p.5.0 no_vreg ≡ v = get_or_default vs p.5.0 no_vreg v p.5.1 ∙ p.5.2 in
-      subst (λ (w : VirtualRegister). IsDefinedUpTo f w (after j)) at (subst (λ (n : ℕ). IsDefinedUpTo f (slice_index_or vs p.5.0 no_vreg) (after n)) (sym p.3)
-      (argument_defined p.0 p.1 p.5.0 p.2 p.4 p.5.1))
+      read_defined at r = later_point v (before j) (after j) (omega arith) (subst (λ (w : VirtualRegister). IsDefinedUpTo f w (before j)) r.1.2
+          (reads_defined f ssa.some ssa.follow ssa.uses j r.1.0 r.0 r.1.1 r.2))
+  used_defined v j (inr (inr (b, k, (end, edge), has, other))) =
+      let vs : List VirtualRegister = slice_index_or (block_at f b).arguments k [] in
+      let at : slice_index_or vs has.0 no_vreg ≡ v = get_or_default vs has.0 no_vreg v has.1 ∙ has.2 in
+      let last : j ≡ last_of (block_at f b) = omega (arith, end) in
+      subst (λ (w : VirtualRegister). IsDefinedUpTo f w (after j)) at (subst (λ (n : ℕ). IsDefinedUpTo f (slice_index_or vs has.0 no_vreg) (after n)) (sym last)
+      (argument_defined b k has.0 (edge_within f b k edge) edge has.1))
 
   -- a block's parameter is used in that block or behind it
   pub use_within : (v : VirtualRegister) (b j : ℕ) → b < length f.blocks → Contains (block_at f b).params v → UsesAt f v j → (block_at f b).range.first ≤ j
@@ -215,20 +179,17 @@ module _ (f : FunctionValue) (ssa : IsSSA f) where
           subst (λ (c : ℕ). (block_at f c).range.first ≤ j) (sym same.0) (let first = p.2 in omega (arith, first))
       by_case (inr o) =
           let used : j < length f.insts = inside v j u in
+          let at : op_at (inst_at f o.0).operands o.1 ≡ slice_index_or (inst_at f o.0).operands o.1 o.2 =
+          get_or_default (inst_at f o.0).operands o.1 no_operand o.2 o.4 in
           let d : DefinesAt f v o.0 = (
-            omega (arith, o.3, used),
-            (
-              o.1,
-              slice_index_or (inst_at f o.0).operands o.1 o.2,
-              o.4,
-              get_or_default (inst_at f o.0).operands o.1 (slice_index_or (inst_at f o.0).operands o.1 o.2) o.2 o.4,
-              o.5,
-              o.6,
-            ),
+            o.1,
+            (omega (arith, o.3, used), o.4, ap (λ (x : OperandValue). x.vreg) at ∙ o.6),
+            ap (λ (x : OperandValue). is_def x.kind) at ∙ o.5,
           ) in
           absurd (not_both f ssa.once v.number o.0 o.1 b h.0 (IsDefOperand-from_DefinesAt f v o.0 d) (takes_number f v b lt h))
         where
           inside : (v : VirtualRegister) (j : ℕ) → UsesAt f v j → j < length f.insts
-          inside v j (inl r) = r.0
-          inside v j (inr (inl r)) = r.0
-          inside v j (inr (inr p)) = let within = ends_within f ssa.follow p.0 p.2 in let some = (ssa.follow p.0 p.2).0 in omega (arith, within, some, p.3)
+          inside v j (inl r) = r.1.0
+          inside v j (inr (inl r)) = r.1.0
+          inside v j (inr (inr (b, k, (end, edge), has, other))) = let within = ends_within f ssa.follow b (edge_within f b k edge) in
+              omega (arith, within, end)

@@ -9,7 +9,7 @@ use Rattle.regalloc2_names.specs.Operand.{OperandValue}
 use Rattle.regalloc2_function.specs.FunctionValue.{FunctionValue, block_at, inst_at}
 use Rattle.regalloc2_semantics.specs.Runs.{Onward, first_of, arguments_at}
 use Rattle.regalloc2_carry.specs.Blocks.{IsUnwritten}
-use Rattle.regalloc2_semantics.specs.Live.{names, Undefined}
+use Rattle.regalloc2_semantics.specs.Sound.{names, Undefined}
 use Rattle.regalloc2_carry.specs.Listing.{defines}
 use Rattle.regalloc2_carry.proofs.UnwrittenPlaces.{defines_none}
 use Rattle.regalloc2_analysis.specs.Liveness.LiveIn.{IsRead, IsNeeded, read, passed_on, later, IsUnwrittenTo}

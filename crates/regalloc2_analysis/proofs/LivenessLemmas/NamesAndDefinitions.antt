@@ -6,7 +6,7 @@ use Rattle.std.proofs.lemmas.List.Folds.{list_any_more}
 use Rattle.std.proofs.Math.Bool.{and-or_distrib_right, or-false}
 use Rattle.regalloc2_names.specs.Register.{VirtualRegister, is_vreg}
 use Rattle.regalloc2_names.specs.Operand.{OperandValue, is_def}
-use Rattle.regalloc2_semantics.specs.Live.{names}
+use Rattle.regalloc2_semantics.specs.Sound.{names}
 use Rattle.regalloc2_carry.specs.Listing.{defines}
 use Rattle.regalloc2_analysis.specs.Liveness.BlockVRegPairs.{BlockSets, holds}
 

@@ -12,7 +12,7 @@ use Rattle.regalloc2_function.specs.FunctionValue.{FunctionValue, block_at, inst
 use Rattle.regalloc2_semantics.specs.Runs.{Location, first_of, arguments_at}
 use Rattle.regalloc2_function.specs.WellFormed.{IsFramed}
 use Rattle.regalloc2_carry.specs.Blocks.{IsUnwritten}
-use Rattle.regalloc2_semantics.specs.Live.{names, target_at, Undefined}
+use Rattle.regalloc2_semantics.specs.Sound.{names, target_at, Undefined}
 use Rattle.regalloc2_analysis.specs.Liveness.LiveIn.{IsReadAt, IsNeeded, read, passed_on, IsUnwrittenTo}
 use Rattle.regalloc2_analysis.specs.Liveness.Search.{LeadsBack}
 use Rattle.regalloc2_analysis.proofs.LivenessLemmas.LiveAtBlockBegin.{needed_first, unwritten_more}

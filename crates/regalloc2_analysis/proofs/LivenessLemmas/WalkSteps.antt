@@ -10,7 +10,7 @@ use Rattle.regalloc2_names.specs.declared.OperandPos.TheVariants.{Early, Late}
 use Rattle.regalloc2_names.specs.Register.{VirtualRegister, is_vreg}
 use Rattle.regalloc2_names.specs.Operand.{OperandValue, is_def, is_position, is_reading, reads_at}
 use Rattle.regalloc2_names.proofs.EqualNames.{is_position-true, is_position-same, is_vreg-true, is_vreg-same}
-use Rattle.regalloc2_semantics.specs.Live.{names, Undefined}
+use Rattle.regalloc2_semantics.specs.Sound.{names, Undefined}
 use Rattle.regalloc2_carry.specs.Listing.{defines}
 use Rattle.regalloc2_carry.proofs.UnwrittenPlaces.{defines_none}
 use Rattle.regalloc2_analysis.specs.Liveness.LiveIn.{IsReadAt, IsRead}

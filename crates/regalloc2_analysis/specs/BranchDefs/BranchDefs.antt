@@ -2,11 +2,29 @@
 use Rattle.std.specs.Prelude.{ℕ, ◌≡◌, ◌<◌, true, List, length, slice_index, if◌then◌else◌, Contains, ◌↔◌, Option, None, Some, IsSome}
 use Rattle.regalloc2_names.specs.Register.{Register, VirtualRegister}
 use Rattle.regalloc2_names.specs.Operand.{OperandValue, is_def, fixed_register}
-use Rattle.regalloc2_function.specs.FunctionValue.{FunctionValue, inst_at, op_at}
+use Rattle.regalloc2_function.specs.FunctionValue.{FunctionValue, block_at, inst_at, op_at, last_of}
 use Rattle.regalloc2_function.specs.Machine.{MachineValue}
 use Rattle.regalloc2_semantics.specs.Debug.{UsesAt}
 use Rattle.regalloc2_function.specs.WellFormed.{IsWellFormed}
-use Rattle.regalloc2_semantics.specs.Live.{DefinesNumber, EndsInDefinitions}
+use Rattle.regalloc2_semantics.specs.Sound.{HasEdge, target_at}
+
+-- the operand of an index defines the number n
+pub record DefinesNumber (operands : List OperandValue) (n k : ℕ) : Type 0 where
+  pub operand : k < length operands
+  pub definition : is_def (op_at operands k).kind ≡ true
+  pub number : (op_at operands k).vreg.number ≡ n
+
+-- a block ends in a branch with a definition
+abbrev pub EndsInDefinitions : FunctionValue → ℕ → Type 0
+EndsInDefinitions f b = ((inst_at f (last_of (block_at f b))).is_branch ≡ true)
+    × ((n k : ℕ) × DefinesNumber (inst_at f (last_of (block_at f b))).operands n k)
+
+-- the block b is entered by the edge at a position out of a block that ends in a branch with a definition
+pub record IsEdgeInto (f : FunctionValue) (b from position : ℕ) : Type 0 where
+  pub block : from < length f.blocks
+  pub edge : HasEdge f from position
+  pub target : target_at f from position ≡ b
+  pub definitions : EndsInDefinitions f from
 
 -- the operand of a branch by which the number n is defined
 pub record IsSite (f : FunctionValue) (n branch index : ℕ) : Type 0 where

@@ -4,8 +4,7 @@ use Rattle.std.specs.Prelude.{Contains}
 use Rattle.regalloc2_names.specs.Register.{VirtualRegister}
 use Rattle.regalloc2_names.specs.Operand.{OperandValue, is_reading}
 use Rattle.regalloc2_function.specs.FunctionValue.{FunctionValue, block_at, inst_at, last_of, op_at}
-use Rattle.regalloc2_semantics.specs.Live.{DefinesNumber}
-use Rattle.regalloc2_analysis.specs.BranchDefs.BranchDefs.{IsUsedElsewhere, fixed_definition}
+use Rattle.regalloc2_analysis.specs.BranchDefs.BranchDefs.{DefinesNumber, IsUsedElsewhere, fixed_definition}
 use Rattle.regalloc2_analysis.specs.declared.branch_defs.DefSite.{DefSite}
 use Rattle.regalloc2_analysis.specs.declared.branch_defs.EdgeInto.{EdgeInto}
 

@@ -2,8 +2,7 @@
 use Rattle.std.specs.Prelude.{ℕ, ◌≡◌, ◌<◌, ◌≤◌, true, List, length, slice_index_or, slice_range, ◌↔◌, Option, None, Some}
 use Rattle.regalloc2_names.specs.Register.{Register, has_register}
 use Rattle.regalloc2_function.specs.FunctionValue.{FunctionValue, block_at, inst_at, last_of}
-use Rattle.regalloc2_analysis.specs.BranchDefs.BranchDefs.{IsSite, IsHeld, AreStoredOperands}
-use Rattle.regalloc2_semantics.specs.Live.{IsEdgeInto}
+use Rattle.regalloc2_analysis.specs.BranchDefs.BranchDefs.{IsSite, IsHeld, AreStoredOperands, IsEdgeInto}
 use Rattle.regalloc2_analysis.specs.declared.branch_defs.DefSite.{DefSite}
 use Rattle.regalloc2_analysis.specs.declared.branch_defs.EdgeInto.{EdgeInto}
 use Rattle.regalloc2_analysis.specs.declared.branch_defs.BranchDefs.{BranchDefs}

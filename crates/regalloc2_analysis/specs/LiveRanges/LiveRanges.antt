@@ -8,7 +8,8 @@ use Rattle.regalloc2_names.specs.Register.{VirtualRegister}
 use Rattle.regalloc2_function.specs.FunctionValue.{FunctionValue, Label, inst_at, op_at}
 use Rattle.regalloc2_names.specs.Operand.{is_def, is_reading}
 use Rattle.regalloc2_function.specs.WellFormed.{BlocksFollow, DefinedOnce, UsesAreDefined}
-use Rattle.regalloc2_semantics.specs.Debug.{IsFirstPoint, IsKept, IsLastPoint, IsLastUse, ReadsAt, UsesAt}
+use Rattle.regalloc2_semantics.specs.Live.{ReadsAt}
+use Rattle.regalloc2_semantics.specs.Debug.{IsFirstPoint, IsKept, IsLastPoint, IsLastUse, UsesAt}
 use Rattle.regalloc2_function.specs.Inside.TableLength.{CoversDefinitions}
 use Rattle.regalloc2_analysis.specs.declared.live_ranges.InstOperand.{InstOperand}
 use Rattle.regalloc2_analysis.specs.declared.live_ranges.LiveRange.{LiveRange}

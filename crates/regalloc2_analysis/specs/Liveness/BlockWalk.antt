@@ -8,7 +8,7 @@ use Rattle.regalloc2_names.specs.Operand.{OperandValue, reads_at}
 use Rattle.regalloc2_function.specs.FunctionValue.{FunctionValue, block_at, inst_at}
 use Rattle.regalloc2_semantics.specs.Runs.{first_of, arguments_at}
 use Rattle.regalloc2_carry.specs.Blocks.{IsUnwritten}
-use Rattle.regalloc2_semantics.specs.Live.{names}
+use Rattle.regalloc2_semantics.specs.Sound.{names}
 use Rattle.regalloc2_carry.specs.Listing.{defines}
 use Rattle.regalloc2_analysis.specs.Liveness.LiveIn.{IsRead, IsNeeded, IsUnwrittenTo}
 use Rattle.regalloc2_analysis.specs.Liveness.BlockVRegPairs.{Pair, lists, BlockSets, holds}

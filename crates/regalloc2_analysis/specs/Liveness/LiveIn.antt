@@ -6,7 +6,7 @@ use Rattle.regalloc2_names.specs.Register.{VirtualRegister}
 use Rattle.regalloc2_names.specs.Operand.{OperandValue, is_reading}
 use Rattle.regalloc2_function.specs.FunctionValue.{FunctionValue, block_at, inst_at, op_at}
 use Rattle.regalloc2_semantics.specs.Runs.{Way, ToSuccessor, Location, next_of, first_of, HasWay, arguments_at}
-use Rattle.regalloc2_semantics.specs.Live.{Undefined, IsAside}
+use Rattle.regalloc2_semantics.specs.Sound.{Undefined, IsAside}
 
 -- an operand reads v at a position
 abbrev pub IsReadAt : OperandPos → VirtualRegister → List OperandValue → Type 0

@@ -2,8 +2,7 @@
 
 ghost use Rattle.std.specs.Prelude.{◌≡◌, ◌<◌, ◌+◌, ◌↔◌, true, false, ℕ, None, All, length, slice_index_or, IsTrue, IfOk, OnOk};
 ghost use Rattle.regalloc2_names.specs.Register.{Register, has_register};
-ghost use Rattle.regalloc2_semantics.specs.Live.{DefinesNumber, EndsInDefinitions};
-ghost use Rattle.regalloc2_analysis.specs.BranchDefs.BranchDefs.{HasDefinitions, IsHeld, MayHaveTables};
+ghost use Rattle.regalloc2_analysis.specs.BranchDefs.BranchDefs.{DefinesNumber, EndsInDefinitions, HasDefinitions, IsHeld, MayHaveTables};
 ghost use Rattle.regalloc2_analysis.specs.BranchDefs.Notes.{AreUsed, IsMarkedDefinition, ListsStored, NotesEdges};
 ghost use Rattle.regalloc2_analysis.specs.BranchDefs.Tables.{AreEdges};
 

@@ -5,7 +5,7 @@ ghost use Rattle.std.specs.Prelude.{◌≡◌, ◌<◌, ◌&&◌, false, [], not
 ghost use Rattle.regalloc2_names.specs.Register.{VirtualRegister};
 ghost use Rattle.regalloc2_function.specs.FunctionValue.{block_at};
 ghost use Rattle.regalloc2_function.specs.WellFormed.{IsFramed};
-ghost use Rattle.regalloc2_semantics.specs.Live.{names};
+ghost use Rattle.regalloc2_semantics.specs.Sound.{names};
 ghost use Rattle.regalloc2_carry.specs.Listing.{defines};
 ghost use Rattle.regalloc2_analysis.specs.Liveness.BlockVRegPairs.{Gains, Grows, holds};
 ghost use Rattle.regalloc2_analysis.specs.Liveness.BlockWalk.{reads, asks_for_vreg, IsBlockWalkedTo, IsBlockWalked, AreWrites, AreAsked, PassesNeeds, AreParameters};

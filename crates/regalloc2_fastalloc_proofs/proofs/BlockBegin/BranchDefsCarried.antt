@@ -12,7 +12,8 @@ use Rattle.regalloc2_function.specs.WellFormed.{DefinedOnce}
 use Rattle.regalloc2_carry.specs.Listing.{Item}
 use Rattle.regalloc2_carry.specs.Carry.{Carries}
 use Rattle.regalloc2_carry.specs.BlockByPoints.{at_point, walked, listed}
-use Rattle.regalloc2_semantics.specs.Live.{target_at, DefinesNumber, IsEdgeInto}
+use Rattle.regalloc2_semantics.specs.Sound.{target_at}
+use Rattle.regalloc2_analysis.specs.BranchDefs.BranchDefs.{DefinesNumber, IsEdgeInto, IsUsedElsewhere, fixed_definition}
 use Rattle.regalloc2_carry.specs.Blocks.{StandsBefore, ComesIn}
 use Rattle.regalloc2_carry.specs.Stores.{Store, store_moves, IsOneOf, Avoids}
 use Rattle.regalloc2_semantics.proofs.Cells.{cases_vreg}
@@ -20,7 +21,6 @@ use Rattle.regalloc2_carry.proofs.CarryRules.{carries_weaken}
 use Rattle.regalloc2_carry.proofs.SingleDef.{IsDefOperand, Made, one_made, one_operand, one_param, not_both}
 use Rattle.regalloc2_carry.proofs.SingleDef.Made.{by_operand}
 use Rattle.regalloc2_carry.proofs.StoresInFront.{carries_stores, in_order}
-use Rattle.regalloc2_analysis.specs.BranchDefs.BranchDefs.{IsUsedElsewhere, fixed_definition}
 use Rattle.regalloc2_analysis.proofs.BranchDefsLemmas.EdgeNotes.{fixed_defines}
 use Rattle.regalloc2_fastalloc_state.specs.StateParts.{slot_name}
 use Rattle.regalloc2_fastalloc_proofs.specs.InstSteps.{StateValue}

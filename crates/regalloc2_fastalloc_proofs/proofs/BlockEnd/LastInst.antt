@@ -7,7 +7,7 @@ use Rattle.regalloc2_names.specs.Place.{Place, NoPlace, InSlot}
 use Rattle.regalloc2_function.specs.FunctionValue.{FunctionValue, block_at, inst_at}
 use Rattle.regalloc2_carry.specs.Carry.{Carries}
 use Rattle.regalloc2_carry.specs.BlockByPoints.{at_point, walked, listed}
-use Rattle.regalloc2_semantics.specs.Live.{names, HasEdge, target_at}
+use Rattle.regalloc2_semantics.specs.Sound.{names, HasEdge, target_at}
 use Rattle.regalloc2_carry.specs.Blocks.{IsUnwritten, IsUsedIn, IsWantedBehind}
 use Rattle.regalloc2_carry.proofs.CarryRules.{carries_weaken}
 use Rattle.regalloc2_carry.proofs.BlockBackward.{Relied}

@@ -8,7 +8,7 @@ use Rattle.regalloc2_names.specs.Place.{Place, NoPlace, InRegister, InSlot}
 use Rattle.regalloc2_function.specs.FunctionValue.{FunctionValue}
 use Rattle.regalloc2_function.specs.OutputValue.{MoveValue}
 use Rattle.regalloc2_semantics.specs.Runs.{arguments_at, Cells, after_moves}
-use Rattle.regalloc2_semantics.specs.Live.{names, HasEdge}
+use Rattle.regalloc2_semantics.specs.Sound.{names, HasEdge}
 use Rattle.regalloc2_semantics.proofs.Cells.{is_vreg-same}
 use Rattle.regalloc2_carry.proofs.Slots.{PassedTo}
 use Rattle.regalloc2_carry.proofs.BlockBackward.{Relied}

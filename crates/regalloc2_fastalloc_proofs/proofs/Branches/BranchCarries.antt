@@ -13,7 +13,7 @@ use Rattle.regalloc2_semantics.specs.Runs.{arguments_at, Cells, after_moves}
 use Rattle.regalloc2_names.specs.Operand.{is_def}
 use Rattle.regalloc2_carry.specs.Listing.{Item, with_moves, writes}
 use Rattle.regalloc2_carry.specs.Carry.{Carries, Spares, Untouched}
-use Rattle.regalloc2_semantics.specs.Live.{Undefined, names, HasEdge}
+use Rattle.regalloc2_semantics.specs.Sound.{Undefined, names, HasEdge}
 use Rattle.regalloc2_carry.specs.BlockByPoints.{at_point, walked, listed}
 use Rattle.regalloc2_carry.specs.Blocks.{IsUnwritten, IsUsedIn, StandsAfter}
 use Rattle.regalloc2_carry.proofs.CarryRules.{carries_weaken}

@@ -16,7 +16,8 @@ use Rattle.regalloc2_function.specs.WellFormed.{IsWellFormed, FixedAvoidClobbers
 use Rattle.regalloc2_carry.specs.Listing.{Item}
 use Rattle.regalloc2_carry.specs.Carry.{Carries, is_clobbered}
 use Rattle.regalloc2_carry.specs.BlockByPoints.{at_point, walked, listed}
-use Rattle.regalloc2_semantics.specs.Live.{names, HasEdge, target_at, DefinesNumber, IsEdgeInto}
+use Rattle.regalloc2_semantics.specs.Sound.{names, HasEdge, target_at}
+use Rattle.regalloc2_analysis.specs.BranchDefs.BranchDefs.{DefinesNumber, IsEdgeInto}
 use Rattle.regalloc2_carry.specs.Blocks.{IsUsed, ExcusedAreSilent, StandsAfter, GoesOut}
 use Rattle.regalloc2_semantics.proofs.Cells.{is_vreg-true}
 use Rattle.regalloc2_carry.proofs.CarryRules.{carries_weaken}

@@ -10,7 +10,7 @@ use Rattle.regalloc2_names.specs.Place.{Place, InRegister, before}
 use Rattle.regalloc2_function.specs.FunctionValue.{FunctionValue, block_at}
 use Rattle.regalloc2_semantics.specs.Runs.{arguments_at}
 use Rattle.regalloc2_carry.specs.Listing.{Item}
-use Rattle.regalloc2_semantics.specs.Live.{target_at}
+use Rattle.regalloc2_semantics.specs.Sound.{target_at}
 use Rattle.regalloc2_carry.specs.Blocks.{Passes}
 use Rattle.regalloc2_fastalloc_state.specs.declared.inst_regs.InstRegs.{InstRegs}
 use Rattle.regalloc2_fastalloc_proofs.specs.InstSteps.{StateValue}

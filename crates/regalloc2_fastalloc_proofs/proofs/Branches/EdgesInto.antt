@@ -4,7 +4,8 @@ use Rattle.std.proofs.lemmas.List.Elements.{All-get_or}
 use Rattle.regalloc2_function.specs.FunctionValue.{FunctionValue, block_at, inst_at, last_of}
 use Rattle.regalloc2_function.specs.Machine.{MachineValue}
 use Rattle.regalloc2_function.specs.WellFormed.{IsWellFormed, ways_into}
-use Rattle.regalloc2_semantics.specs.Live.{HasEdge, target_at, IsEdgeInto}
+use Rattle.regalloc2_semantics.specs.Sound.{HasEdge, target_at}
+use Rattle.regalloc2_analysis.specs.BranchDefs.BranchDefs.{IsEdgeInto}
 use Rattle.regalloc2_semantics.proofs.Soundness.{entered_once}
 use Rattle.regalloc2_fastalloc_proofs.proofs.Branches.WellFormedBranch.{few_or_more}
 use Rattle.regalloc2_fastalloc_proofs.proofs.Branches.WellFormedMayBranch.{one_edge_each}

@@ -5,6 +5,7 @@ use Rattle.std.specs.Prelude.{Option, None, Some, slice_index_or}
 use Rattle.std.proofs.lemmas.Bool.{cases_eq, cases_lt}
 use Rattle.std.proofs.lemmas.List.{get_or_past}
 use Rattle.std.proofs.lemmas.List.Elements.{All-get_or}
+use Rattle.regalloc2_names.specs.declared.OperandPos.TheVariants.{Early, Late}
 use Rattle.regalloc2_names.specs.Register.{VirtualRegister, no_vreg}
 use Rattle.regalloc2_names.specs.Operand.{is_def}
 use Rattle.regalloc2_names.specs.Place.{Place}
@@ -13,9 +14,10 @@ use Rattle.regalloc2_function.specs.Machine.{MachineValue}
 use Rattle.regalloc2_semantics.specs.Runs.{Location, next_of, arguments_at}
 use Rattle.regalloc2_function.specs.WellFormed.{IsWellFormed}
 use Rattle.regalloc2_carry.specs.Blocks.{IsUsed}
-use Rattle.regalloc2_semantics.specs.Live.{target_at, IsLive, read_there, passed_there, later, DefinesNumber, EndsInDefinitions, IsEdgeInto}
+use Rattle.regalloc2_semantics.specs.Live.{IsLive, read_there, passed_there, later}
+use Rattle.regalloc2_semantics.specs.Sound.{target_at}
+use Rattle.regalloc2_analysis.specs.BranchDefs.BranchDefs.{DefinesNumber, EndsInDefinitions, IsEdgeInto, IsUsedElsewhere}
 use Rattle.regalloc2_carry.proofs.SingleDef.{IsDefOperand, not_both, one_operand, one_param}
-use Rattle.regalloc2_analysis.specs.BranchDefs.BranchDefs.{IsUsedElsewhere}
 use Rattle.regalloc2_analysis.proofs.BranchDefsLemmas.UsedOrNot.{Decided, below, both, is_so, same_vreg, by_pass, by_read, used_or_not}
 use Rattle.regalloc2_fastalloc_proofs.specs.BranchSteps.{IsOwnDef}
 use Rattle.regalloc2_fastalloc_proofs.specs.StoreSteps.{branch_operands}
@@ -268,33 +270,10 @@ module _ (env : MachineValue) (f : FunctionValue) (ok : IsWellFormed env f) wher
 
 -- what is live somewhere is used by an instruction that doesn't define it
 pub live_used : (f : FunctionValue) (v : VirtualRegister) (l : Location) → IsLive f v l → IsUsedElsewhere f v
-live_used f v l (read_there m j lt reads is) = elim (cases_lt m.inst (length f.insts)) [
-  | inl inside ↦ by_read f v (m.inst, inside, (j, lt, (reads, is)))
-  | inr past ↦ (let none : (inst_at f m.inst).operands ≡ [] = ap (λ (x : InstValue). x.operands) (get_or_past f.insts m.inst no_inst past) in
-      let few : length (inst_at f m.inst).operands ≡ 0 = ap length none in absurd (omega (arith, few, lt)))
-]
-live_used f v l (passed_there m k way has free) = elim (cases_lt m.block (length f.blocks)) [
-  | inl inside ↦ (
-      let end = way.0 in
-      let last : m.inst ≡ last_of (block_at f m.block) = omega (arith, end) in
-      by_pass f v (
-        m.block,
-        inside,
-        (
-          k,
-          way.1,
-          (
-            has,
-            λ d. free d.1.0 (subst (λ i. d.1.0 < length (inst_at f i).operands) (sym last) d.1.1)
-                (subst (λ i. is_def (op_at (inst_at f i).operands d.1.0).kind ≡ true) (sym last) d.1.2.0)
-                (subst (λ i. (op_at (inst_at f i).operands d.1.0).vreg ≡ v) (sym last) d.1.2.1),
-          ),
-        ),
-      ))
-  | inr past ↦ (let none : (block_at f m.block).succs ≡ [] = ap (λ (x : BlockValue). x.succs) (get_or_past f.blocks m.block no_block past) in
-      let few : length (block_at f m.block).succs ≡ 0 = ap length none in let edge = way.1 in absurd (omega (arith, few, edge)))
-]
-live_used f v l (later m w way free aside on) = live_used f v (next_of f m w) on
+live_used f v l (read_there m Early r) = (m.inst, inl r)
+live_used f v l (read_there m Late r) = (m.inst, inr (inl r))
+live_used f v l (passed_there m p) = (m.inst, inr (inr (m.block, p)))
+live_used f v l (later m w way never on) = live_used f v (next_of f m w) on
 
 -- a live vreg is needed
 pub live_needed : (f : FunctionValue) (v : VirtualRegister) (l : Location) → IsLive f v l → IsUsedBeyondBranch f v

@@ -8,7 +8,7 @@ use Rattle.regalloc2_names.specs.Operand.{OperandValue}
 use Rattle.regalloc2_function.specs.FunctionValue.{FunctionValue, block_at, inst_at, last_of, EachBlock}
 use Rattle.regalloc2_function.specs.WellFormed.{ways_into, ArgumentsFitAt, CountedAt, NoOperandsAt, PredecessorsAt}
 use Rattle.regalloc2_semantics.specs.Runs.{arguments_at}
-use Rattle.regalloc2_semantics.specs.Live.{names, HasEdge, target_at}
+use Rattle.regalloc2_semantics.specs.Sound.{names, HasEdge, target_at}
 use Rattle.regalloc2_carry.specs.Blocks.{ExcusedAreSilent}
 use Rattle.regalloc2_carry.proofs.NotRead.{ReadsOthersOnly}
 use Rattle.regalloc2_semantics.proofs.Soundness.{entered_once}

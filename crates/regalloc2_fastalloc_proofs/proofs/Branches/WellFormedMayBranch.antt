@@ -10,8 +10,7 @@ use Rattle.regalloc2_function.specs.FunctionValue.{FunctionValue, block_at, last
 use Rattle.regalloc2_function.specs.Machine.{MachineValue}
 use Rattle.regalloc2_semantics.specs.Runs.{arguments_at}
 use Rattle.regalloc2_function.specs.WellFormed.{IsWellFormed, times_in, ways_into}
-use Rattle.regalloc2_semantics.specs.Live.{HasEdge, target_at}
-use Rattle.regalloc2_semantics.specs.Sound.{HasSoundBlocks}
+use Rattle.regalloc2_semantics.specs.Sound.{HasEdge, target_at, HasSoundBlocks}
 use Rattle.regalloc2_carry.proofs.SingleDef.{TakesAt, one_param}
 use Rattle.regalloc2_semantics.proofs.Soundness.{count_at, well_formed_are_sound, find}
 use Rattle.regalloc2_fastalloc_proofs.specs.BranchSteps.{MayBranch, ParametersDiffer}

@@ -5,13 +5,13 @@ use Rattle.std.specs.Prelude.{All, filter, ◌&&◌}
 use Rattle.std.proofs.lemmas.Bool.{and_parts, ltb-true, or_cases}
 use Rattle.regalloc2_names.specs.Register.{VirtualRegister}
 use Rattle.regalloc2_names.specs.Place.{Place, InSlot, before}
-use Rattle.regalloc2_function.specs.FunctionValue.{FunctionValue, block_at, inst_at, no_operand, op_at}
+use Rattle.regalloc2_function.specs.FunctionValue.{FunctionValue, block_at, inst_at, op_at}
 use Rattle.regalloc2_function.specs.OutputValue.{OutputValue, MoveValue, allocs_of, is_listed_at}
 use Rattle.regalloc2_semantics.specs.Runs.{Way, Onward, end_of, IsPath}
 use Rattle.regalloc2_function.specs.WellFormed.{BlocksFollow}
 use Rattle.regalloc2_carry.specs.Listing.{with_moves}
 use Rattle.regalloc2_carry.specs.Carry.{Spares, Untouched}
-use Rattle.regalloc2_semantics.specs.Live.{Undefined}
+use Rattle.regalloc2_semantics.specs.Sound.{Undefined}
 use Rattle.regalloc2_semantics.proofs.Cells.{cases_place}
 use Rattle.regalloc2_carry.proofs.Order.{stands_later}
 use Rattle.regalloc2_carry.proofs.UnwrittenPlaces.{NoMoveTo}
@@ -97,7 +97,7 @@ module _ (f : FunctionValue) (out : OutputValue) (v : VirtualRegister) (n : ℕ)
   spares_slot : (i : ℕ) → i < length f.insts → Undefined (inst_at f i).operands v →
       Spares (inst_at f i).operands (allocs_of out i) (inst_at f i).clobbers (InSlot n)
   spares_slot i lt undefined = record {
-    no_definition = λ j less def is. undefined j less def (slot.own (op_at (inst_at f i).operands j).vreg (i, j, no_operand, lt, less, refl, is));
+    no_definition = λ j less def is. undefined j less def (slot.own (op_at (inst_at f i).operands j).vreg i j (lt, less, refl) is);
     no_clobber = refl;
   }
 

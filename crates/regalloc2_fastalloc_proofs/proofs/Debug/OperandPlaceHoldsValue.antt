@@ -38,7 +38,7 @@ use Rattle.regalloc2_fastalloc_proofs.proofs.Debug.InstOnPath.{Fronts, front, on
 use Rattle.regalloc2_fastalloc_proofs.proofs.Debug.SlotHoldsToUses.{StepsArePlain, start_path, goes_live, goes_source}
 use Rattle.regalloc2_fastalloc_proofs.proofs.Debug.InstWithinWalk.{Met, IsStart, IsBeforeInst}
 use Rattle.regalloc2_fastalloc_proofs.proofs.Debug.PlaceKeepsValueOverMoves.{value_kept_over_moves}
-use Rattle.regalloc2_fastalloc_proofs.proofs.Debug.WellFormedPaths.{op_is, inst_in, inst_lt, within, plain_function}
+use Rattle.regalloc2_fastalloc_proofs.proofs.Debug.WellFormedPaths.{inst_in, inst_lt, within, plain_function}
 use Rattle.regalloc2_fastalloc_proofs.proofs.Debug.LocationWithoutSlot.{IsUnslotted, none_before, old_stays, new_stays}
 use Rattle.regalloc2_fastalloc_proofs.proofs.Walk.WholeWalk.{WholeWalk}
 use Rattle.regalloc2_fastalloc_proofs.proofs.Walk.FunctionLaws.{PlacedCode, code_of}
@@ -228,7 +228,7 @@ module _ (walk : WholeWalk) (m : IsOutputOfWalk walk.f walk.env (Made walk.f) (M
   reach given start at here (further (ToSuccessor k) ws g not) path live high = absurd (never_entered (ToSuccessor k ∷ ws) path refl live)
   reach given start at here (further Onward ws g not) path live high =
       let flat = flat_at ws path in
-      let r : Reached ws = reach given start at ws g path.0 (later (end_of f ws) Onward path.1 (plain.undefined ws Onward path not) tt live)
+      let r : Reached ws = reach given start at ws g path.0 (later (end_of f ws) Onward path.1 not live)
       (omega (arith, high)) in
       let low = r.behind_it in
       record {
@@ -245,7 +245,7 @@ module _ (walk : WholeWalk) (m : IsOutputOfWalk walk.f walk.env (Made walk.f) (M
   rises here used there path live = omega arith
   rises here used (further (ToSuccessor k) ws g not) path live = absurd (never_entered (ToSuccessor k ∷ ws) path refl live)
   rises here used (further Onward ws g not) path live =
-      let r = rises here ws g path.0 (later (end_of f ws) Onward path.1 (plain.undefined ws Onward path not) tt live) in omega (arith, r)
+      let r = rises here ws g path.0 (later (end_of f ws) Onward path.1 not live) in omega (arith, r)
 
   by_front : (ws : List Way) (c : Cells) → Fronts f out up ws c → after_moves (moves_on f out up (before (end_of f ws).inst)) c p ≡ source_before f ws v →
       ShowsAt f out v p ws
@@ -259,18 +259,17 @@ module _ (walk : WholeWalk) (m : IsOutputOfWalk walk.f walk.env (Made walk.f) (M
       (goes_live f out v plain here used later_on path (plain.uses used path uses).1) in
       absurd (never_entered (ToSuccessor k ∷ given) (start_path f out v plain (ToSuccessor k ∷ given) here on here_path) refl live)
   register_shows given Onward here used s path (inr none) source on later_on uses no_branch = absurd none
-  register_shows given Onward here used s path (inl (lt, (k, o, less, is, def, same))) source on later_on uses no_branch =
+  register_shows given Onward here used s path (inl (k, (lt, less, same), def)) source on later_on uses no_branch =
       let used_live : IsLive f v (end_of f used) = (plain.uses used path uses).1 in
       let here_path : IsPath f here = start_path f out v plain here used later_on path in
       let live : IsLive f v (end_of f here) = goes_live f out v plain here used later_on path used_live in
       let start : IsPath f (Onward ∷ given) = start_path f out v plain (Onward ∷ given) here on here_path in
       let i : ℕ = (end_of f given).inst in
-      let e : op_at (inst_at f i).operands k ≡ o = op_is (inst_at f i).operands k o less is in
       let here_defined : defined.IsDefOperand f v.number i k = record {
         inst = lt;
         operand = less;
-        definition = ap (λ (x : OperandValue). is_def x.kind) e ∙ def;
-        number = ap (λ (x : OperandValue). x.vreg.number) e ∙ ap (λ (x : VirtualRegister). x.number) same;
+        definition = def;
+        number = ap (λ (x : VirtualRegister). x.number) same;
       } in
       let one = one_operand f ok.defined_once v.number i id k d here_defined defines in
       let upmost : (end_of f used).inst ≤ il = last_use (end_of f used).inst uses in

@@ -6,13 +6,13 @@ use Rattle.regalloc2_names.specs.declared.OperandPos.TheVariants.{Early, Late}
 use Rattle.regalloc2_names.specs.Register.{VirtualRegister}
 use Rattle.regalloc2_names.specs.Operand.{OperandValue}
 use Rattle.regalloc2_names.specs.Place.{Place}
-use Rattle.regalloc2_function.specs.FunctionValue.{FunctionValue, block_at, inst_at, no_operand, op_at}
+use Rattle.regalloc2_function.specs.FunctionValue.{FunctionValue, block_at, inst_at, op_at}
 use Rattle.regalloc2_function.specs.OutputValue.{OutputValue, allocs_of, place_at}
 use Rattle.regalloc2_semantics.specs.Runs.{Way, Onward, ToSuccessor, end_of, Stamp, read_of, arguments_at, source_before, source_after, over_edge, Cells}
 use Rattle.regalloc2_semantics.specs.Runs.{after_moves, moves_at, cells_early, cells_late, cells_before}
 use Rattle.regalloc2_semantics.specs.Faithful.{ReadsAgree}
 use Rattle.regalloc2_carry.specs.Carry.{Spares}
-use Rattle.regalloc2_semantics.specs.Live.{Undefined, target_at, IsAside}
+use Rattle.regalloc2_semantics.specs.Sound.{Undefined, target_at, IsAside}
 use Rattle.regalloc2_carry.proofs.UnwrittenPlaces.{NoMoveTo, moves_kept}
 use Rattle.regalloc2_carry.proofs.ParamsOnEdge.{passed-other}
 use Rattle.regalloc2_semantics.proofs.AfterWrites.{after_defs-other}
@@ -58,7 +58,7 @@ read_shows f out ws v p k agree r undefined spares =
     let a : source_after f ws o.vreg ≡ source_before f ws v = ap (source_after f ws) r.vreg
     ∙ after_defs-other ops (length ws) 0 (source_before f ws) v undefined in
     sym (read_both o.position (early (place_at places k)) (late (place_at places k)) (c p) e l)
-    ∙ (agree k no_operand r.within r.reading).1
+    ∙ (agree k r.within r.reading).1
     ∙ read_both o.position (source_before f ws o.vreg) (source_after f ws o.vreg) (source_before f ws v) b a
 
 -- a place that holds v's last write before the moves holds it after them, if no move writes the place, or the instruction reads v there

@@ -7,14 +7,14 @@ use Rattle.regalloc2_names.specs.declared.OperandPos.TheVariants.{Early, Late}
 use Rattle.regalloc2_names.specs.Register.{VirtualRegister, no_vreg}
 use Rattle.regalloc2_names.specs.Operand.{OperandValue, is_def, is_late, is_reading}
 use Rattle.regalloc2_names.specs.Place.{Place, NoPlace, InRegister, InSlot}
-use Rattle.regalloc2_function.specs.FunctionValue.{FunctionValue, block_at, inst_at, no_operand, op_at, last_of}
+use Rattle.regalloc2_function.specs.FunctionValue.{FunctionValue, block_at, inst_at, op_at, last_of}
 use Rattle.regalloc2_function.specs.Fitting.{MachineFits}
 use Rattle.regalloc2_function.specs.OutputValue.{allocs_of, place_at}
 use Rattle.regalloc2_semantics.specs.Runs.{end_of, IsWrittenFirst, arguments_at}
-use Rattle.regalloc2_semantics.specs.Debug.{ShowsValue, DefinesAt, ReadsAt, UsesAt}
-use Rattle.regalloc2_semantics.specs.Sound.{HasSoundBlocks}
+use Rattle.regalloc2_semantics.specs.Debug.{ShowsValue, UsesAt}
+use Rattle.regalloc2_semantics.specs.Sound.{HasSoundBlocks, target_at}
 use Rattle.regalloc2_carry.specs.Blocks.{IsUnwritten}
-use Rattle.regalloc2_semantics.specs.Live.{target_at}
+use Rattle.regalloc2_semantics.specs.Live.{DefinesAt, ReadsAt}
 use Rattle.regalloc2_semantics.specs.Laws.{ReadsAgreeOnPaths}
 use Rattle.regalloc2_carry.proofs.SingleDef.{Made, by_operand, one_made, one_operand, not_both, reads_defined}
 use Rattle.regalloc2_carry.proofs.SingleDef as defined
@@ -56,9 +56,7 @@ early_is Late h = absurd cc
 reads_by : (f : FunctionValue) (v : VirtualRegister) (at : OperandPos) (i k : ℕ) → i < length f.insts → k < length (inst_at f i).operands →
     is_reading (op_at (inst_at f i).operands k) ≡ true → (op_at (inst_at f i).operands k).position ≡ at →
     (op_at (inst_at f i).operands k).vreg ≡ v → ReadsAt f v at i
-reads_by f v at i k lt less reads position is =
-    let o : OperandValue = op_at (inst_at f i).operands k in
-    (lt, (k, o, less, get_or_default (inst_at f i).operands k o no_operand less, reads, position, is))
+reads_by f v at i k lt less reads position is = (k, (lt, less, is), reads, position)
 
 use_by : (f : FunctionValue) (v : VirtualRegister) (i k : ℕ) → i < length f.insts → k < length (inst_at f i).operands →
     is_reading (op_at (inst_at f i).operands k) ≡ true → (op_at (inst_at f i).operands k).vreg ≡ v → UsesAt f v i
@@ -104,7 +102,7 @@ module _ (walk : WholeWalk) (m : IsOutputOfWalk walk.f walk.env (Made walk.f) (M
       -- a later branch doesn't define it
       other : (b : ℕ) → il < last_of (block_at f b) → DefinesAt f v (last_of (block_at f b)) → ⊥
       other b behind x =
-          let one = one_operand f ok.defined_once v.number id (last_of (block_at f b)) d x.1.0 at (IsDefOperand-from_DefinesAt f v (last_of (block_at f b)) x) in
+          let one = one_operand f ok.defined_once v.number id (last_of (block_at f b)) d x.0 at (IsDefOperand-from_DefinesAt f v (last_of (block_at f b)) x) in
           let early = sooner in
           omega (arith, behind, early, one.0)
 
@@ -126,7 +124,8 @@ module _ (walk : WholeWalk) (m : IsOutputOfWalk walk.f walk.env (Made walk.f) (M
               let inside : j < length xs = (let n = sound.arguments b k edge in omega (arith, few, n)) in
               let has : Contains xs w = (j, inside, get_or_default xs j w no_vreg inside) in
               let same : w ≡ v = one_made f ok.defined_once w v (used_made f ok.defined_once ok.follow ok.uses_defined w b lb (inr (k, edge, has))) known e in
-              let most = greatest (last_of (block_at f b)) (inr (inr (b, k, lb, refl, edge, subst (Contains xs) same has, other b behind))) in
+              let some : (block_at f b).range.first < (block_at f b).range.end = (ok.follow b lb).0 in
+              let most = greatest (last_of (block_at f b)) (inr (inr (b, k, (omega (arith, some), edge), subst (Contains xs) same has, other b behind))) in
               omega (arith, most, behind),
         );
         params = λ b lb k few e. not_both f ok.defined_once v.number id d b k at (record { block = lb; param = few; number = e });
@@ -198,8 +197,7 @@ module _ (walk : WholeWalk) (m : IsOutputOfWalk walk.f walk.env (Made walk.f) (M
         | inl a ↦ nor a
         | inr rest ↦ elim rest [
           | inl b ↦ never b
-          | inr p ↦ passed_slots walk
-              (processes_branch_between f) v i p none
+          | inr p ↦ passed_slots walk (processes_branch_between f) v (record { block = p.0; inst = i }) p.1 none
         ]
       ])
   operand_shows (by_definition o never d) none = λ given w here used s path is_given source on later_on uses no_branch. absurd (never (end_of f used).inst uses)

@@ -6,14 +6,14 @@ use Rattle.regalloc2_names.specs.Register.{VirtualRegister}
 use Rattle.regalloc2_names.specs.Place.{InSlot}
 use Rattle.regalloc2_function.specs.FunctionValue.{FunctionValue, inst_at}
 use Rattle.regalloc2_function.specs.Machine.{MachineValue}
-use Rattle.regalloc2_function.specs.OutputValue.{OutputValue}
-use Rattle.regalloc2_semantics.specs.Places.{StandsInSlot}
+use Rattle.regalloc2_function.specs.OutputValue.{OutputValue, allocs_of, place_at}
 use Rattle.regalloc2_semantics.specs.Runs.{Way, Onward, end_of, IsPath, IsWrittenFirst}
-use Rattle.regalloc2_semantics.specs.Debug.{ShowsValue, DefinesAt}
+use Rattle.regalloc2_semantics.specs.Debug.{ShowsValue}
 use Rattle.regalloc2_function.specs.WellFormed.{DefinedOnce, IsWellFormed}
 use Rattle.regalloc2_semantics.specs.Laws.{ReadsAgreeOnPaths}
 use Rattle.regalloc2_carry.specs.Live.{HasEntered}
-use Rattle.regalloc2_semantics.specs.Live.{IsLive, Undefined}
+use Rattle.regalloc2_semantics.specs.Live.{IsLive, NamesAt, DefinesAt}
+use Rattle.regalloc2_semantics.specs.Sound.{Undefined}
 use Rattle.regalloc2_carry.proofs.SingleDef.{Made, one_made}
 use Rattle.regalloc2_fastalloc_state.specs.StateParts.{SlotsHaveOneOwner, slot_name}
 use Rattle.regalloc2_fastalloc_proofs.specs.InstSteps.{StateValue}
@@ -57,9 +57,10 @@ module _ (env : MachineValue) (f : FunctionValue) (once : DefinedOnce f) (t : St
       (λ k d lt to. may_write (slice_index_or t.edits k d).0 (writes k d lt to)))
 
   -- no other vreg's operand is in it
-  pub only_vreg_in_slot : ((i : ℕ) → i < length f.insts → AreSoundOperands (Made f) (inst_at f i).operands) → (w : VirtualRegister) → StandsInSlot f out w n → w ≡ v
-  only_vreg_in_slot sound_ops w located =
-      let x = owner_known f env (Made f) (MayInBlocks f) t out m owned sound_ops w n located in
+  pub only_vreg_in_slot : ((i : ℕ) → i < length f.insts → AreSoundOperands (Made f) (inst_at f i).operands) → (w : VirtualRegister) (i k : ℕ) →
+      NamesAt f w i k → place_at (allocs_of out i) k ≡ InSlot n → w ≡ v
+  only_vreg_in_slot sound_ops w i k names is =
+      let x = owner_known f env (Made f) (MayInBlocks f) t out m owned sound_ops w n i k names is in
       one_made f once w v x.0 known (owned.own w.number v.number n x.1 mine)
 
 -- after a definition of v, once the moves before the next instruction have run, the slot holds v's value, if v is live there and it is no branch

@@ -4,16 +4,18 @@ use Rattle.std.proofs.Common.{ℕ, ◌≡◌, ◌≢◌, ◌+◌, ◌<◌, ◌�
 use Rattle.std.specs.Prelude.{All, Option, Some, slice_index_or}
 use Rattle.regalloc2_names.specs.Register.{VirtualRegister, no_vreg}
 use Rattle.regalloc2_names.specs.Place.{Place, NoPlace, InRegister, InSlot, is_memory, before}
-use Rattle.regalloc2_function.specs.FunctionValue.{FunctionValue, block_at, inst_at, no_operand, op_at, last_of}
+use Rattle.regalloc2_function.specs.FunctionValue.{FunctionValue, block_at, inst_at, op_at, last_of}
 use Rattle.regalloc2_function.specs.Fitting.{MachineFits}
 use Rattle.regalloc2_function.specs.Machine.{MachineValue}
 use Rattle.regalloc2_function.specs.Listing.{moves_before}
 use Rattle.regalloc2_function.specs.OutputValue.{OutputValue, MoveValue, allocs_of}
 use Rattle.regalloc2_semantics.specs.Runs.{Way, end_of, IsPath, Stamp, IsWrittenFirst, source_before, Cells, after_moves, cells_before}
 use Rattle.regalloc2_carry.specs.BlockByPoints.{at_point, listed}
-use Rattle.regalloc2_semantics.specs.Live.{Undefined, IsLive}
+use Rattle.regalloc2_semantics.specs.Live.{IsLive}
+use Rattle.regalloc2_semantics.specs.Sound.{Undefined}
+use Rattle.regalloc2_carry.specs.Live.{HasEntered, LiveStandInPlaces}
 use Rattle.regalloc2_semantics.specs.Laws.{ReadsAgreeOnPaths}
-use Rattle.regalloc2_carry.specs.Live.{LiveStandInPlaces, HasEntered}
+use Rattle.regalloc2_carry.specs.Live.{HasEntered}
 use Rattle.regalloc2_carry.specs.Stores.{store_moves}
 use Rattle.regalloc2_carry.proofs.LiveIn.{live_is_used}
 use Rattle.regalloc2_carry.proofs.Order.{ends_before}
@@ -246,8 +248,8 @@ module _ (walk : WholeWalk) (fits : MachineFits walk.f walk.env) (m : IsOutputOf
           | inr (k, r) ↦ read_shows f out ws v (InSlot n) k (agree ws path) (subst (λ (i : ℕ). ReadsInPlace f out v (InSlot n) i k) (sym here) r) undefined
               (record {
                 no_definition = λ j less def is. undefined j less def (only_vreg_in_slot env f ok.defined_once last out m owned v known n mine sound_ops
-                    (op_at (inst_at f (end_of f ws).inst).operands j).vreg
-                    ((end_of f ws).inst, j, no_operand, inst_lt env f ok written v ws path, less, refl, is));
+                    (op_at (inst_at f (end_of f ws).inst).operands j).vreg (end_of f ws).inst j
+                    (inst_lt env f ok written v ws path, less, refl) is);
                 no_clobber = refl;
               })
           | inl none ↦ (

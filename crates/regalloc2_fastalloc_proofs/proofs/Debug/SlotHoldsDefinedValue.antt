@@ -17,9 +17,8 @@ use Rattle.regalloc2_carry.proofs.CarryRules.{carries_moves}
 use Rattle.regalloc2_carry.proofs.PushedMoves.{before_part-more, walked-pushed}
 use Rattle.regalloc2_carry.proofs.MoveInFront.{walked-more, with_moves-more, with_moves-none}
 use Rattle.regalloc2_carry.specs.Carry.{Carries}
-use Rattle.regalloc2_semantics.specs.Live.{Undefined, target_at}
+use Rattle.regalloc2_semantics.specs.Sound.{Undefined, target_at, HasSoundBlocks}
 use Rattle.regalloc2_carry.specs.BlockByPoints.{at_point, walked, before_part, Rising, listed}
-use Rattle.regalloc2_semantics.specs.Sound.{HasSoundBlocks}
 use Rattle.regalloc2_semantics.specs.Laws.{ReadsAgreeOnPaths}
 use Rattle.regalloc2_carry.proofs.SingleDef.{Made, one_operand, not_both, reads_defined}
 use Rattle.regalloc2_carry.proofs.SingleDef as defined
@@ -51,7 +50,7 @@ use Rattle.regalloc2_fastalloc_proofs.proofs.Debug.InstOnPath.{Fronts, entered_f
 use Rattle.regalloc2_fastalloc_proofs.proofs.Debug.PathStepLeaves.{read_shows}
 use Rattle.regalloc2_fastalloc_proofs.proofs.Debug.SlotAfterWalk.{DefinedShows, moves_where, only_vreg_in_slot}
 use Rattle.regalloc2_fastalloc_proofs.proofs.Debug.InstWithinWalk.{IsStart, IsBeforeInst, IsUnnamedBefore, Met, walk_reaches}
-use Rattle.regalloc2_fastalloc_proofs.proofs.Debug.WellFormedPaths.{op_is, inst_in, inst_lt, next_inside, within}
+use Rattle.regalloc2_fastalloc_proofs.proofs.Debug.WellFormedPaths.{inst_in, inst_lt, next_inside, within}
 use Rattle.regalloc2_fastalloc_proofs.proofs.Debug.DefWithMovesStores.{stores}
 use Rattle.regalloc2_fastalloc_proofs.proofs.Debug.MovesLeaveSlot.{moves_fine}
 use Rattle.regalloc2_fastalloc_proofs.proofs.Walk.WholeWalk.{WholeWalk}
@@ -211,15 +210,13 @@ module _ (walk : WholeWalk) (m : IsOutputOfWalk walk.f walk.env (Made walk.f) (M
       -- before the moves of the next instruction
       behind_shows : (ws : List Way) → IsPath f (Onward ∷ ws) → DefinesAt f v (end_of f ws).inst →
           behind f out rising ws (InSlot n) ≡ source_before f (Onward ∷ ws) v
-      behind_shows ws path (lt, (k, o, less, is, def, same)) =
+      behind_shows ws path (k, (lt, less, vreg), def) =
           let i : ℕ = (end_of f ws).inst in
-          let e : op_at (inst_at f i).operands k ≡ o = op_is (inst_at f i).operands k o less is in
-          let vreg : (op_at (inst_at f i).operands k).vreg ≡ v = ap (λ (x : OperandValue). x.vreg) e ∙ same in
           let place = inst_in env f ok written v ws path.0 in
           let sooner = path.1 in
           let flat = (ok.end (end_of f ws).block (within env f ok written v ws path.0)).1 i place.0 place.1 (omega (arith, sooner)) in
           let c : Carries (op_at (inst_at f i).operands k).vreg (walked (inst_at f) (at_point out.edits) (allocs_of out) i 1) (λ p. ⊥) (λ p. p ≡ InSlot n) =
-          stored i k n lt flat.0 flat.1 less (ap (λ (x : OperandValue). is_def x.kind) e ∙ def)
+          stored i k n lt flat.0 flat.1 less def
           (ap (λ (w : VirtualRegister). slot_in last w.number) vreg ∙ mine) in
           let fr = front_of ws path.0 in
           carried_on f out rising v (λ p. ⊥) (λ p. p ≡ InSlot n) ws fr.0
@@ -236,14 +233,12 @@ module _ (walk : WholeWalk) (m : IsOutputOfWalk walk.f walk.env (Made walk.f) (M
           let shown : behind f out rising ws p ≡ source_before f (Onward ∷ ws) v = behind_shows ws path defines in
           let lt : next < length f.insts = inst_lt env f ok written v (Onward ∷ ws) path in
           let undefined : Undefined (inst_at f next).operands v = λ j less def is.
-          let o = defines.1 in
-          let e : op_at (inst_at f i).operands o.0 ≡ o.1 = op_is (inst_at f i).operands o.0 o.1 o.2 o.3 in
-          let first : defined.IsDefOperand f v.number i o.0 = record {
-            inst = defines.0;
-            operand = o.2;
-            definition = ap (λ (x : OperandValue). is_def x.kind) e
-                ∙ o.4;
-            number = ap (λ (x : OperandValue). x.vreg.number) e ∙ ap (λ (x : VirtualRegister). x.number) o.5;
+          let names = defines.1 in
+          let first : defined.IsDefOperand f v.number i defines.0 = record {
+            inst = names.0;
+            operand = names.1;
+            definition = defines.2;
+            number = ap (λ (x : VirtualRegister). x.number) names.2;
           } in
           let second : defined.IsDefOperand f v.number next j = record {
             inst = lt;
@@ -251,14 +246,14 @@ module _ (walk : WholeWalk) (m : IsOutputOfWalk walk.f walk.env (Made walk.f) (M
             definition = def;
             number = ap (λ (x : VirtualRegister). x.number) is;
           } in
-          let same = one_operand f ok.defined_once v.number i next o.0 j first second in omega (arith, same.0) in
+          let same = one_operand f ok.defined_once v.number i next defines.0 j first second in omega (arith, same.0) in
           elim (moves_fine f out v p next next plain (next_inside env f ok written v ws path) (λ less. absurd (omega (arith, less))) out.edits
           (moves_where env f ok.defined_once last out m owned v known n mine)) [
             | inl none ↦ by_front ws path shown (subst (NoMoveTo p) (moves_before-first out next) none)
                 (onward_front f out rising ws (inst_in env f ok written v ws path.0).0)
             | inr (k, r) ↦ read_shows f out (Onward ∷ ws) v p k (agree (Onward ∷ ws) path) r undefined (record {
               no_definition = λ j less def is. undefined j less def (only_vreg_in_slot env f ok.defined_once last out m owned v known n mine sound_ops
-                  (op_at (inst_at f next).operands j).vreg (next, j, no_operand, lt, less, refl, is));
+                  (op_at (inst_at f next).operands j).vreg next j (lt, less, refl) is);
               no_clobber = refl;
             })
           ]

@@ -6,7 +6,8 @@ use Rattle.regalloc2_names.specs.Operand.{OperandValue, is_late}
 use Rattle.regalloc2_names.specs.Place.{Place, NoPlace, InRegister}
 use Rattle.regalloc2_function.specs.FunctionValue.{FunctionValue, block_at, inst_at, op_at}
 use Rattle.regalloc2_semantics.specs.Runs.{arguments_at}
-use Rattle.regalloc2_semantics.specs.Live.{target_at, IsEdgeInto}
+use Rattle.regalloc2_semantics.specs.Sound.{target_at}
+use Rattle.regalloc2_analysis.specs.BranchDefs.BranchDefs.{IsEdgeInto}
 use Rattle.regalloc2_carry.specs.OperandsPlaced.{Counts}
 use Rattle.regalloc2_fastalloc_state.specs.StateParts.{VRegAllocsValue, SpillSlotsValue, SetsAlloc, GetsSpillSlot, alloc_of, vreg_of_preg, slot_name}
 use Rattle.regalloc2_fastalloc_state.specs.declared.inst_regs.InstRegs.{InstRegs}

@@ -5,7 +5,7 @@ use Rattle.std.specs.Cmp.Derive.{both_true}
 use Rattle.std.proofs.lemmas.Bool.{eqb-true, and_parts, or_cases, or_left, or_right}
 use Rattle.regalloc2_names.specs.Operand.{OperandValue, is_def}
 use Rattle.regalloc2_function.specs.FunctionValue.{op_at}
-use Rattle.regalloc2_semantics.specs.Live.{DefinesNumber}
+use Rattle.regalloc2_analysis.specs.BranchDefs.BranchDefs.{DefinesNumber}
 
 -- whether an operand defines the number
 unfoldable pub defined_by : List OperandValue → ℕ → Bool

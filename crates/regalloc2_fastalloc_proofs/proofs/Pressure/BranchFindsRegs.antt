@@ -11,7 +11,7 @@ use Rattle.regalloc2_function.specs.FunctionValue.{FunctionValue, block_at}
 use Rattle.regalloc2_function.specs.Machine.{MachineValue, is_allocatable}
 use Rattle.regalloc2_semantics.specs.Runs.{arguments_at}
 use Rattle.regalloc2_function.specs.Fitting.{MachineFits, NamesClass}
-use Rattle.regalloc2_semantics.specs.Live.{target_at}
+use Rattle.regalloc2_semantics.specs.Sound.{target_at}
 use Rattle.regalloc2_fastalloc_state.specs.declared.inst_regs.InstRegs.{InstRegs}
 use Rattle.regalloc2_fastalloc_state.specs.StateParts.{NoneIsFrom}
 use Rattle.regalloc2_fastalloc_proofs.specs.InstSteps.{StateValue, no_register}

@@ -14,7 +14,8 @@ use Rattle.regalloc2_semantics.specs.Fits.{Fits}
 use Rattle.regalloc2_function.specs.Fitting.{MachineFits, NamesClass}
 use Rattle.regalloc2_function.proofs.Following.{end_within}
 use Rattle.regalloc2_function.specs.WellFormed.{IsWellFormed}
-use Rattle.regalloc2_semantics.specs.Live.{target_at, IsEdgeInto}
+use Rattle.regalloc2_semantics.specs.Sound.{target_at}
+use Rattle.regalloc2_analysis.specs.BranchDefs.BranchDefs.{IsEdgeInto}
 use Rattle.regalloc2_carry.proofs.SingleDef.{Made, by_operand}
 use Rattle.regalloc2_fastalloc_state.specs.StateParts.{SpillSlotsValue, no_allocs, no_slots, units_of}
 use Rattle.regalloc2_fastalloc_state.specs.Validate.NoLimits.{AreTaken}

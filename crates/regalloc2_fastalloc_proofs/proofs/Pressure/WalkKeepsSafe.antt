@@ -7,7 +7,8 @@ use Rattle.regalloc2_function.specs.FunctionValue.{FunctionValue, InstValue, blo
 use Rattle.regalloc2_function.specs.Machine.{MachineValue}
 use Rattle.regalloc2_function.specs.WellFormed.{BlocksFollow}
 use Rattle.regalloc2_function.proofs.Following.{end_within}
-use Rattle.regalloc2_semantics.specs.Live.{target_at, IsEdgeInto}
+use Rattle.regalloc2_semantics.specs.Sound.{target_at}
+use Rattle.regalloc2_analysis.specs.BranchDefs.BranchDefs.{IsEdgeInto}
 use Rattle.regalloc2_fastalloc_proofs.specs.InstSteps.{StateValue, AllocsInst}
 use Rattle.regalloc2_fastalloc_proofs.specs.BlockSteps.{AllocsInstInBlock, AllocsBlockInsts, at_end, one_in, AllocsBlocks, all_left, one_block}
 use Rattle.regalloc2_fastalloc_proofs.proofs.Safety.StepsKeepSafe.{AreKindsApart, rules_of}

@@ -9,7 +9,8 @@ use Rattle.regalloc2_function.specs.Machine.{MachineValue}
 use Rattle.regalloc2_names.specs.Operand.{is_def}
 use Rattle.regalloc2_function.specs.WellFormed.{BlocksFollow}
 use Rattle.regalloc2_function.proofs.Following.{end_within}
-use Rattle.regalloc2_semantics.specs.Live.{target_at, IsEdgeInto}
+use Rattle.regalloc2_semantics.specs.Sound.{target_at}
+use Rattle.regalloc2_analysis.specs.BranchDefs.BranchDefs.{IsEdgeInto}
 use Rattle.regalloc2_fastalloc_state.specs.declared.inst_regs.InstRegs.{InstRegs}
 use Rattle.regalloc2_fastalloc_proofs.specs.InstSteps.{StateValue, ends_block}
 use Rattle.regalloc2_fastalloc_state.specs.StateParts.{SpillSlotsValue}

@@ -13,7 +13,7 @@ use Rattle.regalloc2_function.specs.OutputValue.{OutputValue, is_listed_at}
 use Rattle.regalloc2_semantics.specs.Faithful.{EditsAreListed}
 use Rattle.regalloc2_function.specs.Fitting.{MachineFits}
 use Rattle.regalloc2_function.specs.WellFormed.{IsWellFormed, BlocksFollow}
-use Rattle.regalloc2_semantics.specs.Live.{target_at}
+use Rattle.regalloc2_semantics.specs.Sound.{target_at}
 use Rattle.regalloc2_carry.proofs.SingleDef.{Made}
 use Rattle.regalloc2_carry.proofs.Order.{ends_before}
 use Rattle.regalloc2_fastalloc_state.specs.Validate.NoLimits.{AreTaken}

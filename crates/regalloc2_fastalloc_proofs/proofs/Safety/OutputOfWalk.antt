@@ -149,13 +149,11 @@ meets_all env count places (Limit n) p h s = absurd h
 -- in an output made of the final state the place of every operand meets its constraint
 pub made_constraints : (f : FunctionValue) (env : MachineValue) (Known : VirtualRegister → Type 0) (May : ℕ → Type 0) (t : StateValue) (o : OutputValue) →
     IsOutputOfWalk f env Known May t o → (i : ℕ) → i < length f.insts → ConstraintsMet f env o i
-made_constraints f env Known May t o m i lt k d less =
+made_constraints f env Known May t o m i lt k less =
     let ops : List OperandValue = (inst_at f i).operands in
-    let same : op_at ops k ≡ slice_index_or ops k d = get_or_default ops k _ d less in
     let shared = (m.kept.good i k (omega arith) lt less).shared in
-    subst (λ (x : OperandValue). Meets env (length ops) (allocs_of o i) x.constraint (place_at (allocs_of o i) k)) same
-    (meets_all env (length ops) (allocs_of o i) (op_at ops k).constraint (place_at (allocs_of o i) k) (operand_good f env Known May t o m i lt k less).meets
-    (λ n is. let s = shared n is in (s.0, place_is f env Known May t o m i lt k less ∙ s.1 ∙ sym (place_is f env Known May t o m i lt n s.0))))
+    meets_all env (length ops) (allocs_of o i) (op_at ops k).constraint (place_at (allocs_of o i) k) (operand_good f env Known May t o m i lt k less).meets
+    (λ n is. let s = shared n is in (s.0, place_is f env Known May t o m i lt k less ∙ s.1 ∙ sym (place_is f env Known May t o m i lt n s.0)))
 
 -- the slots below a count
 abbrev pub AreBelow : SpillSlotsValue → ℕ → Type 0

@@ -15,11 +15,11 @@ use Rattle.regalloc2_function.specs.Machine.{MachineValue}
 use Rattle.regalloc2_semantics.specs.Runs.{arguments_at}
 use Rattle.regalloc2_function.proofs.Following.{end_within}
 use Rattle.regalloc2_function.specs.WellFormed.{IsWellFormed, SuccessorsAreBlocks, BlocksFollow}
-use Rattle.regalloc2_semantics.specs.Live.{HasEdge, target_at, IsEdgeInto, DefinesNumber}
+use Rattle.regalloc2_semantics.specs.Sound.{HasEdge, target_at}
+use Rattle.regalloc2_analysis.specs.BranchDefs.BranchDefs.{IsEdgeInto, DefinesNumber, fixed_definition}
 use Rattle.regalloc2_carry.proofs.SingleDef.{Made, one_made, made_behind, is_made}
 use Rattle.regalloc2_semantics.proofs.Soundness.{well_formed_are_sound}
 use Rattle.regalloc2_carry.proofs.SingleDef.Made.{by_operand}
-use Rattle.regalloc2_analysis.specs.BranchDefs.BranchDefs.{fixed_definition}
 use Rattle.regalloc2_fastalloc_state.specs.Validate.NoLimits.{AreTaken}
 use Rattle.regalloc2_fastalloc_state.specs.StateParts.{SpillSlotsValue}
 use Rattle.regalloc2_fastalloc_proofs.specs.StoreSteps.{branch_operands, IsConcerned, IsStoredFor, its_own, given}

@@ -10,8 +10,7 @@ use Rattle.regalloc2_function.specs.Machine.{MachineValue, IsStackPlace, scratch
 use Rattle.regalloc2_function.specs.OutputValue.{MoveValue}
 use Rattle.regalloc2_carry.specs.Stores.{Store, moves_by, store_moves, IsOneOf, AreInOrder}
 use Rattle.regalloc2_carry.specs.Stores.IsOneOf.{first, later}
-use Rattle.regalloc2_semantics.specs.Live.{IsEdgeInto, DefinesNumber}
-use Rattle.regalloc2_analysis.specs.BranchDefs.BranchDefs.{fixed_definition}
+use Rattle.regalloc2_analysis.specs.BranchDefs.BranchDefs.{IsEdgeInto, DefinesNumber, fixed_definition}
 use Rattle.regalloc2_analysis.proofs.BranchDefsLemmas.EdgeNotes.{fixed_defines}
 use Rattle.regalloc2_fastalloc_state.specs.StateParts.{VRegAllocsValue, SpillSlotsValue, IsSlotOrNone, alloc_of, vreg_of_preg, slot_name}
 use Rattle.regalloc2_fastalloc_proofs.specs.InstSteps.{StateValue, MayHold}

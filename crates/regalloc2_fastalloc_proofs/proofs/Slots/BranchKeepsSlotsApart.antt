@@ -11,7 +11,7 @@ use Rattle.regalloc2_names.specs.Place.{Place, NoPlace, before}
 use Rattle.regalloc2_function.specs.FunctionValue.{FunctionValue, block_at}
 use Rattle.regalloc2_semantics.specs.Runs.{arguments_at}
 use Rattle.regalloc2_semantics.specs.Places.{OfBranch}
-use Rattle.regalloc2_semantics.specs.Live.{target_at}
+use Rattle.regalloc2_semantics.specs.Sound.{target_at}
 use Rattle.regalloc2_fastalloc_state.specs.declared.inst_regs.InstRegs.{InstRegs}
 use Rattle.regalloc2_fastalloc_state.specs.StateParts.{VRegAllocsValue, SpillSlotsValue, AddsTempSlots, IsSlotOrNone, alloc_of, vreg_of_preg, slot_name}
 use Rattle.regalloc2_fastalloc_state.specs.StateParts.{units_of, later_slot, later_end}

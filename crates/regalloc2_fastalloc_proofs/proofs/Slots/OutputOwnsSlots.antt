@@ -9,7 +9,7 @@ use Rattle.std.proofs.lemmas.List.Sums.{sum_by-cons}
 use Rattle.regalloc2_names.specs.declared.RegClass.{RegClass}
 use Rattle.regalloc2_names.specs.Register.{Register, VirtualRegister}
 use Rattle.regalloc2_names.specs.Place.{Place, NoPlace, InRegister, InSlot}
-use Rattle.regalloc2_function.specs.FunctionValue.{FunctionValue, InstValue, slot_size, inst_at, op_at}
+use Rattle.regalloc2_function.specs.FunctionValue.{FunctionValue, InstValue, slot_size, inst_at, no_operand, op_at}
 use Rattle.regalloc2_function.specs.Machine.{MachineValue, scratch_of}
 use Rattle.regalloc2_function.specs.OutputValue.{OutputValue, allocs_of, place_at}
 use Rattle.regalloc2_function.specs.Fitting.{MachineFits}
@@ -59,15 +59,7 @@ module _ (f : FunctionValue) (env : MachineValue) (Known : VirtualRegister → T
       let place : place_at (allocs_of o r.0) r.1 ≡ InSlot n = place_is f env Known May t o m r.0 r.2 r.1 r.3 ∙ ap (λ x. slice_index_or o.allocs x NoPlace) r.4
       ∙ get_or_default o.allocs j NoPlace d lt ∙ at in
       let v : VirtualRegister = (op_at (inst_at f r.0).operands r.1).vreg in
-      let k = owner_known f env Known May t o m owned sound_ops v n (
-        r.0,
-        r.1,
-        op_at (inst_at f r.0).operands r.1,
-        r.2,
-        r.3,
-        ap (λ x. x.vreg) (get_or_default (inst_at f r.0).operands r.1 _ _ r.3),
-        place,
-      ) in
+      let k = owner_known f env Known May t o m owned sound_ops v n r.0 r.1 (r.2, r.3, refl) place in
       (v, k.0, k.1)
 
   moves_keep : All (IsOfOneClass h.made) o.edits
@@ -88,7 +80,8 @@ module _ (f : FunctionValue) (env : MachineValue) (Known : VirtualRegister → T
       ((i : ℕ) (c : RegClass) → Met i c → (i < length f.insts) × ((inst_at f i).is_branch ≡ true)) → OwnsSlots Known f t.slots o
   made_slots_owned sizes by_last branches =
       slots_owned Known f t.slots h.made h.laid o m.count sizes (by_last ∙ sym h.by_last)
-      (λ i lt k d less n at. owner_known f env Known May t o m owned sound_ops _ n (i, k, d, lt, less, refl, at)) places_own moves_keep
+      (λ i lt k d less n at. owner_known f env Known May t o m owned sound_ops _ n i k
+      (lt, less, ap (λ x. x.vreg) (get_or_default (inst_at f i).operands k no_operand d less)) at) places_own moves_keep
       locations_own (λ c there i class time e. let met = All-contains (IsOfMet Met) h.made c h.met there i class time e in (branches i class met.0, met.1))
 
 -- on a machine that fits, the registers reserved for moves are of their classes

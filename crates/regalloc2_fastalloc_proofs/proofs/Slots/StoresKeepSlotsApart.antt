@@ -11,8 +11,7 @@ use Rattle.regalloc2_function.specs.OutputValue.{MoveValue}
 use Rattle.regalloc2_fastalloc_proofs.specs.SlotLayout.{OwnedSlot}
 use Rattle.regalloc2_carry.specs.Stores.{Store, moves_by, store_moves, IsOneOf}
 use Rattle.regalloc2_carry.specs.Stores.IsOneOf.{first, later}
-use Rattle.regalloc2_semantics.specs.Live.{IsEdgeInto}
-use Rattle.regalloc2_analysis.specs.BranchDefs.BranchDefs.{fixed_definition}
+use Rattle.regalloc2_analysis.specs.BranchDefs.BranchDefs.{IsEdgeInto, fixed_definition}
 use Rattle.regalloc2_fastalloc_state.specs.StateParts.{VRegAllocsValue, SpillSlotsValue, IsSlotOrNone, alloc_of, vreg_of_preg, slot_name}
 use Rattle.regalloc2_fastalloc_proofs.specs.InstSteps.{StateValue, MayHold}
 use Rattle.regalloc2_fastalloc_proofs.specs.StoreSteps.{branch_operands, fixed_or_slot, IsStoredFor, IsConcerned, GetsSlots, no_slot, one_slot, StoresFor}

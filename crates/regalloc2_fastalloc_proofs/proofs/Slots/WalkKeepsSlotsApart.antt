@@ -10,7 +10,8 @@ use Rattle.regalloc2_function.specs.Machine.{MachineValue}
 use Rattle.regalloc2_function.proofs.Following.{end_within}
 use Rattle.regalloc2_semantics.specs.Runs.{arguments_at}
 use Rattle.regalloc2_function.specs.WellFormed.{IsWellFormed, BlocksFollow}
-use Rattle.regalloc2_semantics.specs.Live.{HasEdge, target_at, IsEdgeInto}
+use Rattle.regalloc2_semantics.specs.Sound.{HasEdge, target_at}
+use Rattle.regalloc2_analysis.specs.BranchDefs.BranchDefs.{IsEdgeInto}
 use Rattle.regalloc2_carry.proofs.SingleDef.{Made, one_made}
 use Rattle.regalloc2_fastalloc_state.specs.StateParts.{SpillSlotsValue, IsSlotOrNone, no_allocs, no_slots, slot_name, units_of}
 use Rattle.regalloc2_fastalloc_state.specs.Validate.NoLimits.{AreTaken}

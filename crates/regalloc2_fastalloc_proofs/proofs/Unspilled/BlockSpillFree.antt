@@ -17,10 +17,10 @@ use Rattle.regalloc2_function.specs.FunctionValue.{FunctionValue, InstValue, blo
 use Rattle.regalloc2_function.specs.Machine.{MachineValue}
 use Rattle.regalloc2_semantics.specs.Runs.{arguments_at}
 use Rattle.regalloc2_function.specs.WellFormed.{IsWellFormed}
-use Rattle.regalloc2_semantics.specs.Live.{HasEdge, target_at, IsEdgeInto}
+use Rattle.regalloc2_semantics.specs.Sound.{HasEdge, target_at}
+use Rattle.regalloc2_analysis.specs.BranchDefs.BranchDefs.{IsEdgeInto, fixed_definition}
 use Rattle.regalloc2_carry.proofs.SingleDef.{IsDefOperand, MadeBefore, by_earlier, by_param, made_before, one_operand, reads_defined}
 use Rattle.regalloc2_semantics.proofs.Soundness.{well_formed_are_sound}
-use Rattle.regalloc2_analysis.specs.BranchDefs.BranchDefs.{fixed_definition}
 use Rattle.regalloc2_analysis.proofs.BranchDefsLemmas.BlockEnds.{last_within}
 use Rattle.regalloc2_fastalloc_state.specs.declared.inst_regs.InstRegs.{InstRegs}
 use Rattle.regalloc2_fastalloc_state.specs.ScratchPool.{Moves}

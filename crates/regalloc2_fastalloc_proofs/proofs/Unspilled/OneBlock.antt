@@ -10,7 +10,7 @@ use Rattle.regalloc2_function.specs.FunctionValue.{FunctionValue, block_at, inst
 use Rattle.regalloc2_function.specs.Machine.{MachineValue}
 use Rattle.regalloc2_function.specs.OutputValue.{MoveValue}
 use Rattle.regalloc2_function.specs.WellFormed.{IsWellFormed}
-use Rattle.regalloc2_semantics.specs.Live.{HasEdge, target_at}
+use Rattle.regalloc2_semantics.specs.Sound.{HasEdge, target_at}
 use Rattle.regalloc2_carry.specs.Stores.{Store, IsOneOf, first, store_moves}
 use Rattle.regalloc2_fastalloc_state.specs.declared.inst_regs.InstRegs.{InstRegs}
 use Rattle.regalloc2_fastalloc_state.specs.ScratchPool.{Moves, pushed}

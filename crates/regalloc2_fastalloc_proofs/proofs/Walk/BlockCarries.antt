@@ -3,11 +3,12 @@ use Rattle.std.proofs.Common.{ℕ, suc, ◌≡◌, ◌≢◌, ◌+◌, ◌-◌, 
 use Rattle.std.specs.Prelude.{Option, None, Some, slice_index_or}
 use Rattle.regalloc2_names.specs.Register.{Register, VirtualRegister, no_vreg}
 use Rattle.regalloc2_names.specs.Place.{Place, NoPlace, InRegister, InSlot, before}
-use Rattle.regalloc2_function.specs.FunctionValue.{FunctionValue, InstValue, block_at, inst_at, no_inst, no_operand, op_at, last_of}
+use Rattle.regalloc2_function.specs.FunctionValue.{FunctionValue, InstValue, block_at, inst_at, no_inst, op_at, last_of}
 use Rattle.regalloc2_function.specs.OutputValue.{place_at}
 use Rattle.regalloc2_carry.specs.Carry.{Carries}
 use Rattle.regalloc2_carry.specs.BlockByPoints.{at_point, walked, listed}
-use Rattle.regalloc2_semantics.specs.Live.{target_at, IsEdgeInto}
+use Rattle.regalloc2_semantics.specs.Sound.{target_at}
+use Rattle.regalloc2_analysis.specs.BranchDefs.BranchDefs.{IsEdgeInto, IsUsedElsewhere}
 use Rattle.regalloc2_carry.specs.Blocks.{IsUsed, IsUsedIn, IsUnwritten, IsExcused, ExcusedAreSilent, StandsBefore, ComesIn, GoesOut}
 use Rattle.regalloc2_carry.proofs.BlockBackward.{Relied}
 use Rattle.regalloc2_carry.proofs.SingleDef.{Made, ReadsDefined, reads_defined, one_made, not_both}
@@ -18,10 +19,9 @@ use Rattle.regalloc2_carry.specs.Listing.{Item}
 use Rattle.regalloc2_carry.specs.Stores.{store_moves}
 use Rattle.regalloc2_semantics.specs.Debug.{UsesAt}
 use Rattle.regalloc2_semantics.specs.Runs.{arguments_at}
-use Rattle.regalloc2_names.specs.Operand.{OperandValue, is_def}
+use Rattle.regalloc2_names.specs.Operand.{is_def}
 use Rattle.regalloc2_names.specs.declared.OperandPos.{OperandPos}
 use Rattle.regalloc2_names.specs.declared.OperandPos.TheVariants.{Early, Late}
-use Rattle.regalloc2_analysis.specs.BranchDefs.BranchDefs.{IsUsedElsewhere}
 use Rattle.std.proofs.lemmas.List.{get_or_default, get_or_past, nil_from_length}
 use Rattle.std.proofs.lemmas.Bool.{cases_Bool, cases_lt}
 use Rattle.regalloc2_carry.proofs.Order.{ends_within}
@@ -298,19 +298,8 @@ module _ (carrying : CarryingContext) where
         unread i lt j less reads is = un.5 (i, by_position (op_at (inst_at f i).operands j).position refl)
           where
             by_position : (q : OperandPos) → (op_at (inst_at f i).operands j).position ≡ q → UsesAt f v i
-            by_position Early e = inl (lt, (j, op_at (inst_at f i).operands j, less, get_or_default (inst_at f i).operands j _ no_operand less, reads, e, is))
-            by_position Late e = inr (inl (
-              lt,
-              (
-                j,
-                op_at (inst_at f i).operands j,
-                less,
-                get_or_default (inst_at f i).operands j _ no_operand less,
-                reads,
-                e,
-                is,
-              ),
-            ))
+            by_position Early e = inl (j, (lt, less, is), reads, e)
+            by_position Late e = inr (inl (j, (lt, less, is), reads, e))
 
         no_way : {p : Place} → defined_by (branch_operands f b) v.number ≡ false → GoesOut f stand b v p → ⊥
         no_way {p} none (inl h) = (let x : None ≡ Some p = sym (arrive.unused (target_at f b h.0) un.0 un.1 un.2 v un.3 un.4 un.5) ∙ h.4 in cc)
@@ -323,18 +312,12 @@ module _ (carrying : CarryingContext) where
               inr (inr (
                 b,
                 h.0,
-                lb,
-                refl,
-                h.2,
+                (let e = ended in omega (arith, e, some), h.2),
                 (j.0, inside, get_or_default (arguments_at f b h.0) j.0 v no_vreg inside ∙ j.3),
                 λ d.
-                    let o : (op_at (branch_operands f b) d.1.0).vreg.number ≡ v.number =
-                    ap (λ (x : OperandValue). x.vreg.number) (get_or_default (branch_operands f b) d.1.0 no_operand d.1.1 d.1.2 ∙ d.1.3)
-                    ∙ ap (λ (x : VirtualRegister). x.number) d.1.5 in
-                    let def : is_def (op_at (branch_operands f b) d.1.0).kind ≡ true =
-                    ap (λ (x : OperandValue). is_def x.kind) (get_or_default (branch_operands f b) d.1.0 no_operand d.1.1 d.1.2 ∙ d.1.3) ∙ d.1.4 in
-                    let is : defined_by (branch_operands f b) v.number ≡ true = defined_by-number (branch_operands f b) v.number d.1.0
-                    (record { operand = d.1.2; definition = def; number = o }) in cc,
+                    let o : (op_at (branch_operands f b) d.0).vreg.number ≡ v.number = ap (λ (x : VirtualRegister). x.number) d.1.2 in
+                    let is : defined_by (branch_operands f b) v.number ≡ true = defined_by-number (branch_operands f b) v.number d.0
+                    (record { operand = d.1.1; definition = d.2; number = o }) in cc,
               )),
             )
 

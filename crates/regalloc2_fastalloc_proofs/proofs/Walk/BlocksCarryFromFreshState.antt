@@ -2,15 +2,15 @@
 -- a vreg that is used in a block that doesn't write it, or passed as an argument, has a slot.
 use Rattle.std.proofs.Common.{ℕ, ◌≡◌, ◌≢◌, ◌<◌, ◌≤◌, ◌+◌, true, List, length, subst, refl, sym, inr, arith}
 use Rattle.std.specs.Prelude.{Contains, Option}
-use Rattle.std.proofs.lemmas.List.{get_or_default}
 use Rattle.regalloc2_names.specs.Register.{VirtualRegister}
 use Rattle.regalloc2_names.specs.Operand.{OperandValue}
 use Rattle.regalloc2_names.specs.Place.{Place, NoPlace}
-use Rattle.regalloc2_semantics.specs.Debug.{DefinesAt, PassesAt}
-use Rattle.regalloc2_function.specs.FunctionValue.{FunctionValue, IsLimited, block_at, inst_at, no_operand, op_at, last_of}
+use Rattle.regalloc2_semantics.specs.Live.{DefinesAt, PassesAt}
+use Rattle.regalloc2_semantics.proofs.Soundness.{edge_within}
+use Rattle.regalloc2_function.specs.FunctionValue.{FunctionValue, IsLimited, block_at, inst_at, op_at, last_of}
 use Rattle.regalloc2_function.specs.Machine.{MachineValue}
 use Rattle.regalloc2_function.specs.OutputValue.{allocs_of}
-use Rattle.regalloc2_semantics.specs.Runs.{arguments_at}
+use Rattle.regalloc2_semantics.specs.Runs.{Location, arguments_at}
 use Rattle.regalloc2_function.specs.WellFormed.{IsWellFormed, BranchDefinesInPlace}
 use Rattle.regalloc2_carry.specs.BlockByPoints.{listed, block_walked}
 use Rattle.regalloc2_carry.specs.Blocks.{BlockCarriesOn}
@@ -142,26 +142,19 @@ module _ (walk : WholeWalk)
       handed_has_slot laws b lb k edge v has foreign blank begin 0 out.allocs last walks
       (omega arith)
 
+  -- what a branch defines by its number, it defines
+  pub own_defines : (v : VirtualRegister) (b : ℕ) → b < length f.blocks → Made f v → IsOwnDef f b v → DefinesAt f v (last_of (block_at f b))
+  own_defines v b lb made (j, d) =
+      let within : last_of (block_at f b) < length f.insts = last_within f ok.follow b lb in
+      let o : OperandValue = op_at (inst_at f (last_of (block_at f b))).operands j in
+      let own : Made f o.vreg = by_operand (last_of (block_at f b)) j
+      (record { inst = within; operand = d.operand; definition = d.definition; number = refl }) refl in
+      (j, (within, d.operand, one_made f ok.defined_once o.vreg v own made d.number), d.definition)
+
   -- a vreg that an instruction passes, and therefore doesn't define, has a slot too
-  pub passed_slots : (v : VirtualRegister) (i : ℕ) → PassesAt f v i → slot_in last v.number ≢ NoPlace
-  passed_slots v i p = handed_slots v p.0 p.1 p.2 p.4 p.5 (λ own.
-      let within : last_of (block_at f p.0) < length f.insts = last_within f ok.follow p.0 p.2 in
-      let made : Made f v = used_made f ok.defined_once ok.follow ok.uses_defined v p.0 p.2 (inr (p.1, p.4, p.5)) in
-      let o : OperandValue = op_at (inst_at f (last_of (block_at f p.0))).operands own.0 in
-      let is : o.vreg ≡ v = one_made f ok.defined_once o.vreg v (by_operand (last_of (block_at f p.0)) own.0 (record {
-        inst = within;
-        operand = own.1.operand;
-        definition = own.1.definition;
-        number = refl;
-      }) refl) made own.1.number in
-      p.6 (subst (DefinesAt f v) (sym p.3) (
-        within,
-        (
-          own.0,
-          o,
-          own.1.operand,
-          get_or_default (inst_at f (last_of (block_at f p.0))).operands own.0 o no_operand own.1.operand,
-          own.1.definition,
-          is,
-        ),
-      )))
+  pub passed_slots : (v : VirtualRegister) (l : Location) → PassesAt f v l → slot_in last v.number ≢ NoPlace
+  passed_slots v l (k, (end, edge), has, other) =
+      let lb : l.block < length f.blocks = edge_within f l.block k edge in
+      let at : l.inst ≡ last_of (block_at f l.block) = omega (arith, end) in
+      let made : Made f v = used_made f ok.defined_once ok.follow ok.uses_defined v l.block lb (inr (k, edge, has)) in
+      handed_slots v l.block k lb edge has (λ own. other (subst (DefinesAt f v) (sym at) (own_defines v l.block lb made own)))

@@ -6,7 +6,7 @@ use Rattle.regalloc2_names.specs.Place.{Place, before, after}
 use Rattle.regalloc2_function.specs.FunctionValue.{FunctionValue, inst_at}
 use Rattle.regalloc2_carry.specs.Listing.{Item}
 use Rattle.regalloc2_carry.specs.Carry.{Carries}
-use Rattle.regalloc2_semantics.specs.Live.{Undefined}
+use Rattle.regalloc2_semantics.specs.Sound.{Undefined}
 use Rattle.regalloc2_carry.specs.BlockByPoints.{at_point, walked, listed}
 use Rattle.regalloc2_carry.specs.OperandsPlaced.{located, in_slot, made}
 use Rattle.regalloc2_carry.proofs.CarryRules.{carries_weaken}

@@ -6,10 +6,10 @@ use Rattle.regalloc2_function.specs.FunctionValue.{FunctionValue, inst_at, op_at
 use Rattle.regalloc2_function.specs.OutputValue.{OutputValue, allocs_of, place_at}
 use Rattle.regalloc2_semantics.specs.Runs.{Way, Onward, end_of, IsPath, source_before, after_moves, moves_at, cells_before}
 use Rattle.regalloc2_names.specs.Operand.{is_reading}
-use Rattle.regalloc2_semantics.specs.Debug.{DefinesAt}
 use Rattle.regalloc2_carry.specs.Carry.{Spares}
 use Rattle.regalloc2_carry.specs.Live.{HasEntered}
-use Rattle.regalloc2_semantics.specs.Live.{Undefined, IsLive}
+use Rattle.regalloc2_semantics.specs.Live.{IsLive, DefinesAt}
+use Rattle.regalloc2_semantics.specs.Sound.{Undefined}
 use Rattle.regalloc2_carry.proofs.UnwrittenPlaces.{NoMoveTo}
 
 -- an operand of an instruction reads v in a place

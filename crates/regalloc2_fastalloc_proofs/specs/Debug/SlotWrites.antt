@@ -3,12 +3,11 @@ use Rattle.std.specs.Prelude.{ℕ, ◌≡◌, ◌<◌, ◌+◌, true, false, All
 use Rattle.regalloc2_names.specs.Register.{VirtualRegister}
 use Rattle.regalloc2_names.specs.Place.{Place, InSlot, before, after}
 use Rattle.regalloc2_function.specs.FunctionValue.{FunctionValue, block_at, inst_at, op_at}
-use Rattle.regalloc2_function.specs.OutputValue.{OutputValue}
+use Rattle.regalloc2_function.specs.OutputValue.{OutputValue, allocs_of, place_at}
 use Rattle.regalloc2_semantics.specs.Runs.{Way, Onward, end_of, IsPath}
-use Rattle.regalloc2_semantics.specs.Debug.{DefinesAt}
-use Rattle.regalloc2_semantics.specs.Places.{StandsInSlot}
 use Rattle.regalloc2_carry.specs.Live.{HasEntered}
-use Rattle.regalloc2_semantics.specs.Live.{Undefined, IsLive}
+use Rattle.regalloc2_semantics.specs.Live.{IsLive, NamesAt, DefinesAt}
+use Rattle.regalloc2_semantics.specs.Sound.{Undefined}
 use Rattle.regalloc2_names.specs.Operand.{is_def}
 use Rattle.regalloc2_fastalloc_proofs.specs.StoreSteps.{IsStoredAt}
 use Rattle.regalloc2_fastalloc_proofs.specs.Debug.SlotHoldsValue.{ReadsInPlace, ShowsAt}
@@ -34,4 +33,4 @@ pub record IsSlotOfValue (f : FunctionValue) (out : OutputValue) (v : VirtualReg
   pub defined : (ws : List Way) → IsPath f (Onward ∷ ws) → DefinesAt f v (end_of f ws).inst → IsLive f v (end_of f (Onward ∷ ws)) →
       (inst_at f ((end_of f ws).inst + 1)).is_branch ≡ false → ShowsAt f out v (InSlot n) (Onward ∷ ws)
   pub moves : All (λ e. e.1.to ≡ InSlot n → MayWrite f out v (InSlot n) e.0) out.edits
-  pub own : (w : VirtualRegister) → StandsInSlot f out w n → w ≡ v
+  pub own : (w : VirtualRegister) (i k : ℕ) → NamesAt f w i k → place_at (allocs_of out i) k ≡ InSlot n → w ≡ v

@@ -1,14 +1,14 @@
 -- Both interpreters, step by step along one path.
 use Rattle.std.proofs.Common.{ℕ, zero, suc, ◌≡◌, ◌+◌, ◌<◌, Bool, true, false, cond, None, Some, List, [], ◌∷◌, length, refl, sym, ap, arith, nat_eq, subst}
 use Rattle.std.proofs.Common.{◌∙◌, eqb-true}
-use Rattle.std.specs.Prelude.{Option, nat_lt, slice_index_or, option_map, option_and_then}
+use Rattle.std.specs.Prelude.{Option, nat_lt, option_map, option_and_then}
 use Rattle.std.proofs.lemmas.Bool.{ltb-true, and_parts}
 use Rattle.regalloc2_names.specs.Register.{VirtualRegister}
 use Rattle.regalloc2_names.specs.declared.OperandPos.{OperandPos}
 use Rattle.regalloc2_names.specs.declared.OperandPos.TheVariants.{Early, Late}
 use Rattle.regalloc2_names.specs.Operand.{OperandValue, is_late, is_reading}
 use Rattle.regalloc2_names.specs.Place.{Place}
-use Rattle.regalloc2_function.specs.FunctionValue.{FunctionValue, block_at, inst_at}
+use Rattle.regalloc2_function.specs.FunctionValue.{FunctionValue, block_at, inst_at, op_at}
 use Rattle.regalloc2_function.specs.OutputValue.{OutputValue, allocs_of, place_at}
 use Rattle.regalloc2_semantics.specs.Runs.{Way, Onward, ToSuccessor, Location, end_of, next_of, last_inst, IsPath, HasWay, Stamp, read_of, source_before}
 use Rattle.regalloc2_semantics.specs.Runs.{source_after, source_read, Cells, after_moves, after_writes, moves_at, cells_early, cells_late, cells_before}
@@ -23,15 +23,14 @@ use Rattle.regalloc2_semantics.proofs.ValuesLemmas.Standing.{edge_holds, Made, m
 
 -- if two assignments of numbers agree at each operand that is read, the lists of the numbers read are equal
 same_reads : (is_read : OperandValue → Bool) (a b : ℕ → OperandValue → ℕ) (n : ℕ) (os : List OperandValue) →
-    ((k : ℕ) (d : OperandValue) → k < length os → is_read (slice_index_or os k d) ≡ true →
-    a (k + n) (slice_index_or os k d) ≡ b (k + n) (slice_index_or os k d)) →
+    ((k : ℕ) → k < length os → is_read (op_at os k) ≡ true → a (k + n) (op_at os k) ≡ b (k + n) (op_at os k)) →
     read_by is_read a n os ≡ read_by is_read b n os
 unfolding read_by
 same_reads is_read a b n [] h = refl
 same_reads is_read a b n (o ∷ os) h =
     let z : 0 + n ≡ n = omega arith in
-    pick (is_read o) (λ yes. rw z at (h 0 o (omega arith) yes))
-    (same_reads is_read a b (n + 1) os (λ k d less yes. let s : suc k + n ≡ k + (n + 1) = omega arith in rw s at (h (suc k) d (omega arith) yes)))
+    pick (is_read o) (λ yes. rw z at (h 0 (omega arith) yes))
+    (same_reads is_read a b (n + 1) os (λ k less yes. let s : suc k + n ≡ k + (n + 1) = omega arith in rw s at (h (suc k) (omega arith) yes)))
   where
     pick : (q : Bool) → (q ≡ true → a n o ≡ b n o) → read_by is_read a (n + 1) os ≡ read_by is_read b (n + 1) os →
         cond q (a n o ∷ read_by is_read a (n + 1) os) (read_by is_read a (n + 1) os)
@@ -109,14 +108,14 @@ module _ (f : FunctionValue) (out : OutputValue) (meaning : InstMeaning) (noise 
 
   -- the writes that the uses at the end of a path read
   abbrev AllFound : List Way → Type 0
-  AllFound ws = (k : ℕ) (d : OperandValue) → k < length (last_inst f ws).operands → is_reading (slice_index_or (last_inst f ws).operands k d) ≡ true →
-      Found f out ws (slice_index_or (last_inst f ws).operands k d) (place_at (allocs_of out (end_of f ws).inst) k)
+  AllFound ws = (k : ℕ) → k < length (last_inst f ws).operands → is_reading (op_at (last_inst f ws).operands k) ≡ true →
+      Found f out ws (op_at (last_inst f ws).operands k) (place_at (allocs_of out (end_of f ws).inst) k)
 
   all_found : (ws : List Way) → ReadsEarlier f → IsPath f ws → ReadsAgree f out ws → AllFound ws
-  all_found ws early p r k d less reads =
-      let h = early ws p k d less reads in
-      let o : OperandValue = slice_index_or (last_inst f ws).operands k d in
-      found f out ws o (place_at (allocs_of out (end_of f ws).inst) k) o.position h.0 refl h.2 h.1 ((r k d less reads).1 ∙ h.1)
+  all_found ws early p r k less reads =
+      let h = early ws p k less reads in
+      let o : OperandValue = op_at (last_inst f ws).operands k in
+      found f out ws o (place_at (allocs_of out (end_of f ws).inst) k) o.position h.0 refl h.2 h.1 ((r k less reads).1 ∙ h.1)
 
   module _ (ws : List Way) (h : History) (e : VirtualRegister → ℕ) (m : Place → ℕ) (t : Told f out ws e m) (fs : AllFound ws) where
     abbrev ops : List OperandValue
@@ -132,8 +131,8 @@ module _ (f : FunctionValue) (out : OutputValue) (meaning : InstMeaning) (noise 
         (moves_stand (Made (length ws) t.number) (moves_at f out (end_of f ws)) (cells_before f out ws) m t.stands)
 
     reads_alike : place_reads f out meaning noise (place_at_end ws h m) ≡ vreg_reads f meaning (source_at ws h e)
-    reads_alike = same_reads is_reading _ _ 0 ops (λ k d less yes.
-        let u = fs k d less yes in
+    reads_alike = same_reads is_reading _ _ 0 ops (λ k less yes.
+        let u = fs k less yes in
         let z : k + 0 ≡ k = omega arith in
         rw z (one_number (length ws) t.number u.stamp _ _ (found_stand _ _ u.cell) (t.holds _ _ u.source)))
 
@@ -170,16 +169,16 @@ module _ (f : FunctionValue) (out : OutputValue) (meaning : InstMeaning) (noise 
 
     late_at : read_by is_late_use (λ k o. written_at told (place_at places k)) 0 ops
         ≡ read_by is_late_use (λ k o. vreg_written f meaning (source_at ws h e) o.vreg) 0 ops
-    late_at = same_reads is_late_use _ _ 0 ops (λ k d less yes.
+    late_at = same_reads is_late_use _ _ 0 ops (λ k less yes.
         let both = and_parts _ _ yes in
-        let u = fs k d less both.0 in
+        let u = fs k less both.0 in
         let z : k + 0 ≡ k = omega arith in
         rw z (one_number (length ws + 1) numbered u.stamp _ _ (later_stand _ _ (u.cell_late both.1)) (later_hold _ _ (u.source_late both.1))))
 
     still_at : read_by is_late_use (λ k o. vreg_written f meaning (source_at ws h e) o.vreg) 0 ops ≡ read_by is_late_use (λ k o. e o.vreg) 0 ops
-    still_at = same_reads is_late_use _ _ 0 ops (λ k d less yes.
+    still_at = same_reads is_late_use _ _ 0 ops (λ k less yes.
         let both = and_parts _ _ yes in
-        let u = fs k d less both.0 in
+        let u = fs k less both.0 in
         one_number (length ws + 1) numbered u.stamp _ _ (later_hold _ _ (u.source_late both.1))
         (still (length ws) (meaning.writes told) t.number u.stamp _ (t.holds _ _ u.source)))
 

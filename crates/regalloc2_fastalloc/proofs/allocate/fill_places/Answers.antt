@@ -9,7 +9,7 @@ use Rattle.regalloc2_names.specs.Register.{VirtualRegister}
 use Rattle.regalloc2_function.specs.FunctionValue.{FunctionValue, IsLimited, inst_at, slot_size}
 use Rattle.regalloc2_function.specs.Machine.{MachineValue}
 use Rattle.regalloc2_function.specs.OutputValue.{OutputValue}
-use Rattle.regalloc2_semantics.specs.Runs.{IsWrittenFirst}
+use Rattle.regalloc2_semantics.specs.Runs.{Location, IsWrittenFirst}
 use Rattle.regalloc2_semantics.specs.Faithful.{IsFaithful}
 use Rattle.regalloc2_semantics.specs.Debug.{PassesAt}
 use Rattle.regalloc2_function.specs.Stored.{location_of}
@@ -228,11 +228,11 @@ safe_is : (g : Over) (c : goal.After-reads_the_same_numbers g) →
 safe_is g c = walk_safe_through (fresh_is g c) (blank_is g c) (fit_is g c)
 
 -- a vreg that is passed as an argument has a slot
-handed_is : (g : Over) (c : goal.After-reads_the_same_numbers g) → (v : VirtualRegister) (i : ℕ) → PassesAt (g.F.Function.function c.args.f.now) v i →
+handed_is : (g : Over) (c : goal.After-reads_the_same_numbers g) → (v : VirtualRegister) (l : Location) → PassesAt (g.F.Function.function c.args.f.now) v l →
     slot_name (left g c).slots v.number ≢ NoPlace
-handed_is g c v i p =
+handed_is g c v l p =
     let f : FunctionValue = g.F.Function.function c.args.f.now in
-    passed_slots (whole_is g c) (processes_branch_between f) v i p
+    passed_slots (whole_is g c) (processes_branch_between f) v l p
 
 made : (g : Over) (c : goal.After-reads_the_same_numbers g) →
     IsOutputOfWalk (g.F.Function.function c.args.f.now) (machine_of c.args.env.now) (Made (g.F.Function.function c.args.f.now))

@@ -4,7 +4,7 @@ use Rattle.std.proofs.lemmas.Bool.{cases_lt, eqb-true, false≢true}
 use Rattle.regalloc2_names.specs.Register.{VirtualRegister}
 use Rattle.std.proofs.lemmas.List.{get_or_read}
 use Rattle.regalloc2_function.specs.FunctionValue.{block_at}
-use Rattle.regalloc2_semantics.specs.Live.{target_at}
+use Rattle.regalloc2_semantics.specs.Sound.{target_at}
 use Rattle.regalloc2_fastalloc_walk.proofs.branch.passes_nothing.Goals as goal
 
 pub block_params-requires : goal.block_params-requires

@@ -1,6 +1,6 @@
 use Rattle.std.proofs.Common.{ℕ, ◌≡◌, ◌<◌, []}
 use Rattle.regalloc2_function.specs.FunctionValue.{block_at}
-use Rattle.regalloc2_semantics.specs.Live.{target_at}
+use Rattle.regalloc2_semantics.specs.Sound.{target_at}
 use Rattle.regalloc2_fastalloc_walk.proofs.branch.passes_nothing.Given as goal
 
 abbrev pub invariant-loop-k : goal.invariant-loop-k

@@ -3,7 +3,7 @@ use Rattle.regalloc2_index.specs.Range.{Span}
 use Rattle.regalloc2_function.specs.FunctionValue.{FunctionValue, block_at, inst_at, last_of}
 use Rattle.regalloc2_analysis.proofs.BranchDefsLemmas.BlockEnds.{ends_otherwise, last_within, within_function}
 use Rattle.regalloc2_names.specs.Operand.{OperandValue}
-use Rattle.regalloc2_semantics.specs.Live.{DefinesNumber}
+use Rattle.regalloc2_analysis.specs.BranchDefs.BranchDefs.{DefinesNumber}
 use Rattle.regalloc2_analysis.proofs.branch_defs.edges.ends_in_definitions.Goals as goal
 
 pub last-last-requires : goal.last-last-requires

@@ -6,8 +6,7 @@ use Rattle.regalloc2_index.specs.Range.{Span}
 use Rattle.regalloc2_names.specs.Operand.{OperandValue}
 use Rattle.regalloc2_names.specs.Register.{Register, has_register}
 use Rattle.regalloc2_function.specs.FunctionValue.{FunctionValue, block_at, inst_at, last_of}
-use Rattle.regalloc2_semantics.specs.Live.{EndsInDefinitions}
-use Rattle.regalloc2_analysis.specs.BranchDefs.BranchDefs.{IsHeld}
+use Rattle.regalloc2_analysis.specs.BranchDefs.BranchDefs.{EndsInDefinitions, IsHeld}
 use Rattle.regalloc2_analysis.specs.BranchDefs.Notes.{ListsStored}
 use Rattle.regalloc2_analysis.specs.declared.branch_defs.EdgeInto.{EdgeInto}
 use Rattle.regalloc2_analysis.proofs.BranchDefsLemmas.BlockEnds.{last_within, within_function}

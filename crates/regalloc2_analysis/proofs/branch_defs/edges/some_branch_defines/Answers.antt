@@ -1,6 +1,6 @@
 use Rattle.std.proofs.Common.{refl, subst, arith, below_more}
 use Rattle.regalloc2_function.specs.FunctionValue.{FunctionValue}
-use Rattle.regalloc2_semantics.specs.Live.{EndsInDefinitions}
+use Rattle.regalloc2_analysis.specs.BranchDefs.BranchDefs.{EndsInDefinitions}
 use Rattle.std.proofs.lemmas.Bool.{false≢true}
 use Rattle.regalloc2_analysis.proofs.branch_defs.edges.some_branch_defines.Goals as goal
 

@@ -1,5 +1,5 @@
 use Rattle.std.proofs.Common.{ℕ, ◌≡◌, ◌<◌, length}
-use Rattle.regalloc2_semantics.specs.Live.{EndsInDefinitions}
+use Rattle.regalloc2_analysis.specs.BranchDefs.BranchDefs.{EndsInDefinitions}
 use Rattle.regalloc2_analysis.proofs.branch_defs.edges.some_branch_defines.Given as goal
 
 -- the blocks so far don't end in definitions

@@ -2,7 +2,7 @@ use Rattle.std.proofs.Common.{◌+◌, [], take, refl, List, length, ◌≤◌, 
 use Rattle.std.proofs.lemmas.List.{take_all}
 use Rattle.std.specs.Prelude.{◌&&◌, not}
 use Rattle.regalloc2_names.specs.Register.{VirtualRegister, is_vreg}
-use Rattle.regalloc2_semantics.specs.Live.{names}
+use Rattle.regalloc2_semantics.specs.Sound.{names}
 use Rattle.regalloc2_analysis.specs.Liveness.BlockVRegPairs.{Grows, holds}
 use Rattle.regalloc2_analysis.proofs.LivenessLemmas.PairLists.{grows_more, grows_none}
 use Rattle.regalloc2_analysis.proofs.LivenessLemmas.NamesAndDefinitions.{names_asked, names_nothing}

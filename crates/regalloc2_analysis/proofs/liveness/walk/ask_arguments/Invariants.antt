@@ -1,6 +1,6 @@
 use Rattle.std.proofs.Common.{take}
 use Rattle.std.specs.Prelude.{◌&&◌, not}
-use Rattle.regalloc2_semantics.specs.Live.{names}
+use Rattle.regalloc2_semantics.specs.Sound.{names}
 use Rattle.regalloc2_analysis.specs.Liveness.BlockVRegPairs.{Grows, holds}
 use Rattle.regalloc2_analysis.proofs.liveness.walk.ask_arguments.Given as goal
 

@@ -1,7 +1,7 @@
 use Rattle.std.proofs.Common.{◌+◌, [], take, List, length, ◌≤◌, subst, arith}
 use Rattle.std.proofs.lemmas.List.{take_all}
 use Rattle.regalloc2_names.specs.Register.{VirtualRegister, is_vreg}
-use Rattle.regalloc2_semantics.specs.Live.{names}
+use Rattle.regalloc2_semantics.specs.Sound.{names}
 use Rattle.regalloc2_analysis.specs.Liveness.BlockVRegPairs.{Gains, holds}
 use Rattle.regalloc2_analysis.proofs.LivenessLemmas.PairLists.{gains_more, gains_none}
 use Rattle.regalloc2_analysis.proofs.LivenessLemmas.NamesAndDefinitions.{names_more, names_nothing}
