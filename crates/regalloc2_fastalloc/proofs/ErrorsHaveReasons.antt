@@ -80,10 +80,10 @@ fault_is_reason f env asked p on (unsound shape h) = soundness_reason f env aske
 fault_is_reason f env asked {e} p on (clashing shape sound h) = fixed_reason f env asked e p on shape sound h
 
 -- what the walk lacks, where it says when registers and slots do
-pub lacks_where : (R P Q : Type 0) → (P → Q) → (e : RegAllocError) → IsResourceError P e → (e ≡ TooManyLiveRegs → R) → Lacks R Q e
-lacks_where R P Q more TooManyLiveRegs h where_it = where_it refl
-lacks_where R P Q more TooManySpillSlots h where_it = more h
-lacks_where R P Q more e h where_it = h
+pub lacks_of_resource_error : (R P Q : Type 0) → (P → Q) → (e : RegAllocError) → IsResourceError P e → (e ≡ TooManyLiveRegs → R) → Lacks R Q e
+lacks_of_resource_error R P Q more TooManyLiveRegs h where_it = where_it refl
+lacks_of_resource_error R P Q more TooManySpillSlots h where_it = more h
+lacks_of_resource_error R P Q more e h where_it = h
 
 -- what may be lacking is a reason, after all tests
 pub lack_is_a_reason : (f : FunctionValue) (env : MachineValue) (asked : Bool) → PassesAllChecks f env asked → (e : RegAllocError) →

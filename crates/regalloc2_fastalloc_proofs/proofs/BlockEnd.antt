@@ -8,7 +8,7 @@
 -- `NoMoveInPasses` one step of a pass (`processes_operand_no_move`), `NoMoveInLastInst` both passes (`no_move_pushed_at_end`);
 -- `Safety/BlocksKeepSafe` uses it too, since no edit may be after a block. `BranchAlone` (`branch_moves_uses_only`) is a branch alone:
 -- its moves are before it, each to a register or to the place of a use. `BranchEndsBlock` imports it. `LastInst` is
--- apart from these: what is needed after a block (`owed_there`).
+-- apart from these: what is needed after a block (`owed_is_relied`).
 pub mod BranchAlone
 pub mod BranchEndsBlock
 pub mod DefsInSlots

@@ -5,7 +5,7 @@
 -- is a branch, carries each used vreg to where it is needed after the block: in its own slot, or in the slot of a
 -- parameter to which it is passed.
 -- `branch_carries` has two halves. Arguments are spilled: `ArgsSpilled` (`argument_spilled`, one argument), `EdgeArgsGathered`
--- (`arguments_gathered`), `BranchInParts` (`settled_carries`). They are moved: `ArgMovesPushed` (`after_made`),
+-- (`arguments_gathered`), `BranchInParts` (`carries_after_spills`). They are moved: `ArgMovesPushed` (`after_made`),
 -- `ArgMovesByClass` (`class_moves_done`), `ArgMovesEffect` (`relied_kept`, `passed_moved`).
 -- `Arrivals` says where vregs are at a block's start, with what the branch into it defines, and `PlacesOnArrival`
 -- has a function that gives this location (`vregs_arrive`). `DefinitionsCarry` is what a branch defines, `EdgesInto` that

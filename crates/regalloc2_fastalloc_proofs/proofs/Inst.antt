@@ -8,7 +8,7 @@
 -- evicted, clobbers evicted. Then `Operands/AllOperands` (`laid_both`). `LastOperandToBoundary` (`listing_carries`): across the
 -- instruction itself, and the moves of its uses.
 -- `InstLaw` puts the three together (`each_exactly`, `each_ended`), and `OneInstCarries` is `InstLaw` with nothing
--- after it. `AcrossInst` has what the parts share: which vregs are live when an instruction begins (`lives_in`, `begin_stands`), and
+-- after it. `AcrossInst` has what the parts share: which vregs are live when an instruction begins (`lives_in`, `located_at_begin`), and
 -- the step across it. `ProperInsts` is what all of them require of a function's instructions.
 pub mod AcrossInst
 pub mod BoundaryToFirstOperand

@@ -89,7 +89,7 @@ pub record MayHold (t : StateValue) (class : RegClass) (r : Register) : Type 0 w
 
 -- an allocatable register is emptied: its vreg's current location becomes its slot, and the vreg is reloaded from there at the point
 pub data EvictsVReg (point : ℕ) (r : Register) (old new : StateValue) : Type 0 where
-  nobody : vreg_of_preg old.places r ≡ None → new ≡ old → EvictsVReg point r old new
+  none_held : vreg_of_preg old.places r ≡ None → new ≡ old → EvictsVReg point r old new
   moved : (v : VirtualRegister) (s : Place) → r.number < 64 → vreg_of_preg old.places r ≡ Some v → GetsSpillSlot old.slots new.slots v s →
       SetsAlloc old.places new.places v s
       → new.edits ≡ old.edits ++ a_move point s (InRegister r) ∷ [] → SameMachine old new → new.lrus ≡ old.lrus → EvictsVReg point r old new
@@ -262,7 +262,7 @@ pub record FreesAlloc (point : ℕ) (v : VirtualRegister) (ends_block : Bool) (p
   pub left : StateValue
   pub inst_regs : InstRegs
   pub middle : StateValue
-  pub settles : SetsAlloc old.places left.places v NoPlace
+  pub sets_alloc : SetsAlloc old.places left.places v NoPlace
   pub slots : left.slots ≡ old.slots
   pub edits : left.edits ≡ old.edits
   pub machine : SameMachine old left

@@ -6,7 +6,7 @@
 -- `RegsReserved` (`reserves_all`) is the loop over fixed registers, `OperandOutOfRegs` says where an operand stops,
 -- `Steps` chains steps, and `StepsFail` has the steps that do nothing or fail.
 -- `InstPlaced`: an instruction is allocated once its operands are placed.
--- `NothingPassed`: a branch to blocks without parameters does nothing to the tables. `FilledClobbers`: only the clobbers
+-- `NoMovesPassed`: a branch to blocks without parameters does nothing to the tables. `FilledClobbers`: only the clobbers
 -- that hold vregs have to be emptied.
 -- `OperandsSorted` is the pass that counts operands, and finds whether any is fixed.
 -- `SlotUses` (`slot_use`): a use under `Any` stays in its vreg's slot.
@@ -22,7 +22,7 @@ pub mod InstPlaced
 pub mod RegOperands
 pub mod RegsReserved
 pub mod LrusOfClasses
-pub mod NothingPassed
+pub mod NoMovesPassed
 pub mod OperandsProcessed
 pub mod OperandOutOfRegs
 pub mod OperandsSorted

@@ -17,7 +17,7 @@ use Rattle.regalloc2_fastalloc_state.specs.declared.inst_regs.InstRegs.{InstRegs
 use Rattle.regalloc2_fastalloc_state.specs.StateParts.{slot_name, units_of}
 use Rattle.regalloc2_fastalloc_proofs.specs.Safety.{IsWhole}
 use Rattle.regalloc2_fastalloc_proofs.proofs.Safety.StepsKeepState.{slot_in, slot_no_register}
-use Rattle.regalloc2_fastalloc_proofs.proofs.Operands.RecordOverState.{opt_from, opt_real, opt_none, stands_at, slots_at, slot_below, grown_slots}
+use Rattle.regalloc2_fastalloc_proofs.proofs.Operands.RecordOverState.{opt_from, opt_real, opt_none, location_at, slots_at, slot_below, grown_slots}
 use Rattle.regalloc2_fastalloc_proofs.proofs.Slots.StepsKeepSlots.{Grown, IsAt, changes_grow}
 use Rattle.regalloc2_fastalloc_proofs.proofs.Operands.DefinedNumbers.{defined_by, defined_by-at}
 use Rattle.regalloc2_fastalloc_proofs.proofs.Inst.OneInstCarries.{IsBetweenInsts, Needed, carries_by_itself}
@@ -35,10 +35,10 @@ pub record ToCome (F : ℕ → Option Place) (t : StateValue) : Type 0 where
   pub fresh : (x n : ℕ) → F x ≡ Some (InSlot n) → slots_at t x ≡ None → t.slots.count ≤ n
 
 -- a slot is one below the count
-pub slot_there : (t : StateValue) → IsWhole t → (x : ℕ) (p : Place) → slots_at t x ≡ Some p → (n : ℕ) × (p ≡ InSlot n) × (n < t.slots.count)
-slot_there t w x NoPlace at = absurd (opt_real (slot_in t x) NoPlace at refl)
-slot_there t w x (InRegister r) at = absurd (slot_no_register t.slots.count (slot_in t x) r (w.below x) (opt_from (slot_in t x) (InRegister r) at))
-slot_there t w x (InSlot n) at = (n, refl, slot_below t.slots.count (slot_in t x) n (w.below x) (opt_from (slot_in t x) (InSlot n) at))
+pub slot_is_below_count : (t : StateValue) → IsWhole t → (x : ℕ) (p : Place) → slots_at t x ≡ Some p → (n : ℕ) × (p ≡ InSlot n) × (n < t.slots.count)
+slot_is_below_count t w x NoPlace at = absurd (opt_real (slot_in t x) NoPlace at refl)
+slot_is_below_count t w x (InRegister r) at = absurd (slot_no_register t.slots.count (slot_in t x) r (w.below x) (opt_from (slot_in t x) (InRegister r) at))
+slot_is_below_count t w x (InSlot n) at = (n, refl, slot_below t.slots.count (slot_in t x) n (w.below x) (opt_from (slot_in t x) (InSlot n) at))
 
 -- a place or none
 pub cases_opt : (x : Option Place) → (x ≡ None) ⊎ ((p : Place) × (x ≡ Some p))
@@ -137,7 +137,7 @@ module _ (at_end : LastBranch) where
     L = walked (inst_at f) (at_point (listed middle.edits)) placesf last 1
 
     abbrev On : Place → Type 0
-    On = Relied false block (stands_at middle v.number) (slots_at middle v.number) (F v.number)
+    On = Relied false block (location_at middle v.number) (slots_at middle v.number) (F v.number)
 
     abbrev Has : Place → Type 0
     Has = Needed (defined_by (inst_at f last).operands) middle v

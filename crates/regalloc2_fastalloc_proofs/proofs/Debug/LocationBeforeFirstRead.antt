@@ -92,7 +92,7 @@ module _ (i : ℕ) (ends_block : Bool) (ops : List OperandValue) (orderly : Orde
       used : LocatesUse (use_request (op_at ops k) (slice_index_or here k NoPlace)).vreg p d.middle new → place_in new x ≡ p
       used (use_stays there_it en) = absurd (there_it (ap (alloc_of d.middle.places) number
           ∙ (changes_absent x (allocs_operand_changes (λ q r. tt) tt d.gets) absent).nowhere))
-      used (located none settles slots edits machine order) = ap (alloc_of new.places) (sym number) ∙ settles.here
+      used (located none sets_alloc slots edits machine order) = ap (alloc_of new.places) (sym number) ∙ sets_alloc.here
 
   -- one operand more keeps the location
   hold_one : (j : ℕ) (here there : List Place) (t u : InstRegs) (old new : StateValue) → j < length ops → ProcessesOperand i ends_block ops j here there t u old new →

@@ -122,7 +122,7 @@ module _ (walk : WholeWalk) (m : IsOutputOfWalk walk.f walk.env (Made walk.f) (M
       omega (arith, e, is, first, low)
 
   begins : Absent v.number begin
-  begins = record { nowhere = empty.nowhere v.number; unheld = λ r u small held. absurd (let y : None ≡ Some u = sym (empty.nobody r small) ∙ held in cc) }
+  begins = record { nowhere = empty.nowhere v.number; unheld = λ r u small held. absurd (let y : None ≡ Some u = sym (empty.none_held r small) ∙ held in cc) }
 
   old_at : (j : ℕ) (w : MetAt j) → id ≤ j → j < il → place_in w.old v.number ≡ p
   old_at j w low high =

@@ -42,7 +42,7 @@ use Rattle.regalloc2_fastalloc_proofs.proofs.Debug.InstWithinWalk.{Met}
 use Rattle.regalloc2_fastalloc_proofs.proofs.Debug.LocationBeforeFirstRead.{ComesFirst, late_first, early_first}
 use Rattle.regalloc2_fastalloc_proofs.proofs.Debug.LocationWithoutSlot.{IsUnslotted}
 use Rattle.regalloc2_fastalloc_proofs.proofs.Walk.WholeWalk.{WholeWalk}
-use Rattle.regalloc2_fastalloc_proofs.proofs.Safety.StepsKeepSafe.{stand_there}
+use Rattle.regalloc2_fastalloc_proofs.proofs.Safety.StepsKeepSafe.{may_be_located_is_place}
 
 late_is : (q : OperandPos) → is_late q ≡ true → q ≡ Late
 late_is Early h = absurd cc
@@ -131,7 +131,7 @@ module _ (walk : WholeWalk) (m : IsOutputOfWalk walk.f walk.env (Made walk.f) (M
         );
         params = λ b lb k few e. not_both f ok.defined_once v.number id d b k at (record { block = lb; param = few; number = e });
         undefined = λ j low jl k less def e. never_defined j k low jl less def (sym e);
-        real = stand_there env last.slots (op_at (inst_at f il).operands ko).vreg (place_at (allocs_of out il) ko)
+        real = may_be_located_is_place env last.slots (op_at (inst_at f il).operands ko).vreg (place_at (allocs_of out il) ko)
             ((operand_good f env (Made f) (MayInBlocks f) last out m il lt ko within).place (reads_allocated (op_at (inst_at f il).operands ko) reads));
         unslotted = none;
       }

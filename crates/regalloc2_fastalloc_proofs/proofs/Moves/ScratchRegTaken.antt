@@ -70,8 +70,8 @@ less_same t u e = record {
 }
 
 -- if no register becomes available in either of two steps, none does over both
-pub less_then : (t u w : InstRegs) → Less t u → Less u w → Less t w
-less_then t u w a b = record { early = λ q h. b.early q (a.early q h); late = λ q h. b.late q (a.late q h) }
+pub less_trans : (t u w : InstRegs) → Less t u → Less u w → Less t w
+less_trans t u w a b = record { early = λ q h. b.early q (a.early q h); late = λ q h. b.late q (a.late q h) }
 
 and_false : (a b c : Bool) → c ≡ (a && b) → b ≡ false → c ≡ false
 and_false true b c e h = e ∙ h

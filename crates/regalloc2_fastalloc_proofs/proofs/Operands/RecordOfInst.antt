@@ -11,7 +11,7 @@ use Rattle.regalloc2_carry.specs.OperandsPlaced.{what_of, Progress, Held, Once, 
 use Rattle.regalloc2_fastalloc_state.specs.declared.inst_regs.InstRegs.{InstRegs}
 use Rattle.regalloc2_function.specs.FunctionValue.{op_at}
 use Rattle.regalloc2_fastalloc_proofs.specs.InstSteps.{StateValue}
-use Rattle.regalloc2_fastalloc_proofs.proofs.Operands.RecordOverState.{stands_at, slots_at, Located, OwesPlaces, located_used}
+use Rattle.regalloc2_fastalloc_proofs.proofs.Operands.RecordOverState.{location_at, slots_at, Located, OwesPlaces, located_used}
 use Rattle.regalloc2_fastalloc_proofs.proofs.Evictions.EvictVReg.{held_early, held_late}
 use Rattle.regalloc2_fastalloc_proofs.proofs.Moves.ScratchRegTaken.{Fit, Spare, fit_used, spare_used}
 use Rattle.regalloc2_fastalloc_proofs.proofs.Operands.BlockTail.{BlockTail}
@@ -52,7 +52,7 @@ module _ (tail : BlockTail) where
   -- ends_block: the instruction is the last of its block, after which nothing is needed.
   pub record Ready (ops : List OperandValue) (far : Progress) (ends_block : Bool) (u : InstRegs) (t : StateValue) : Type 0 where
     pub located : Located (what_of ops) far t
-    pub owes : OwesPlaces tail far.lived far.out far.made_at (stands_at t) (slots_at t) t.edits
+    pub owes : OwesPlaces tail far.lived far.out far.made_at (location_at t) (slots_at t) t.edits
     pub nowhere_needed : ends_block ≡ true → Claims Known (after_part insts (listed t.edits) placesf i n) (λ x p. ⊥) E
     pub held : Held (what_of ops) far.here far.claimed (held_early u) (held_late u)
     pub scratch_reserve : Spare far.here far.claimed far.made_at u t

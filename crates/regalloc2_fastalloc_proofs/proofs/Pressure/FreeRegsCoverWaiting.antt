@@ -50,9 +50,9 @@ unfree_kept old new t u r same less h = elim (cases_Bool (has_register old r)) [
 ]
 
 -- the register of an operand that was placed is no longer free
-pub allocs_operand_settled : (point : ℕ) (o : OperandRequest) (p : Place) (t u : InstRegs) (old new : StateValue) → AllocsOperand point o p t u old new →
+pub placed_register_is_not_free : (point : ℕ) (o : OperandRequest) (p : Place) (t u : InstRegs) (old new : StateValue) → AllocsOperand point o p t u old new →
     (o.positions.early ≡ true) ⊎ (o.positions.late ≡ true) → (set : PRegSet) (r : Register) → p ≡ InRegister r → is_free set u r ≡ false
-allocs_operand_settled point o p t u old new g some set r is = by_case g.takes.occupies
+placed_register_is_not_free point o p t u old new g some set r is = by_case g.takes.occupies
   where
     held : (b c y x : Bool) → x ≡ (not (b && c) && y) → b ≡ true → c ≡ true → x ≡ false
     held b c y x e f h = (let n : x ≡ (not (true && true) && y) = rw (f, h) at e in n)

@@ -182,7 +182,7 @@ pub record AreFresh (env : MachineValue) (old : StateValue) : Type 0 where
   pub sizes : List ℕ
   pub by_last : Bool
   pub watched : List Bool
-  pub nobody : old.places ≡ no_allocs vregs watched
+  pub none_held : old.places ≡ no_allocs vregs watched
   pub slots : old.slots ≡ no_slots owners sizes by_last
   pub none : old.edits ≡ []
   pub units : (c : RegClass) → 0 < units_of (no_slots owners sizes by_last) c
@@ -206,7 +206,7 @@ walk_stops {f} {env} fits limited ok taken {blank} {old} fresh stops =
               allocatable = fresh.allocatable;
               dedicated_scratch = fresh.dedicated_scratch;
             };
-            safe = begun_safe env (Made f) AllWrite AllMay old fresh.vregs fresh.owners fresh.sizes fresh.by_last fresh.nobody fresh.slots fresh.none
+            safe = begun_safe env (Made f) AllWrite AllMay old fresh.vregs fresh.owners fresh.sizes fresh.by_last fresh.none_held fresh.slots fresh.none
                 fresh.units fresh.machine;
           }) stops
     ]

@@ -21,7 +21,7 @@ use Rattle.regalloc2_fastalloc_proofs.proofs.Slots.LocatedStaysLocated.{changes_
 use Rattle.regalloc2_fastalloc_proofs.proofs.Safety.StepsKeepSafe.{AreKindsApart, rules_of}
 use Rattle.regalloc2_fastalloc_proofs.proofs.Safety.OperandKeepsSafe.{allocs_def_op_kept, allocs_use_kept}
 use Rattle.regalloc2_fastalloc_proofs.proofs.Operands.AllocsSoFar.{at_place, IsInRegister, MeetsByItself, IsGood, FillingContext, reads_allocated}
-use Rattle.regalloc2_fastalloc_proofs.proofs.Operands.AllocsSoFar.{answer_meets, answer_named, reuse_meets, fixed_meets, asked_fixed, asked_as_fixed}
+use Rattle.regalloc2_fastalloc_proofs.proofs.Operands.AllocsSoFar.{answer_meets, answer_named, reuse_meets, fixed_meets, requires_fixed_reg, reuse_requires_fixed_reg}
 use Rattle.regalloc2_fastalloc_proofs.proofs.Operands.AllocsSoFar.{fixed_class, FixedAreKnown, Filled, DefsAreWritten, reuse_register, no_place_register}
 use Rattle.regalloc2_fastalloc_proofs.proofs.Operands.AllocsSoFar.{OneMore, filled_same, filled_on, written, written_twice}
 
@@ -83,7 +83,7 @@ module _ (passes : PassesContext) where
       let allocated : is_fixed_nonallocatable o ≡ false = reads_allocated o reads in
       let w = allocs_use_kept (rules_of env apart Known Writes May (after i) can) sound_ops.same (use_request o NoPlace) p t u old new places
       (sound_ops.known k less allocated)
-      (λ r asks. (let e : o.constraint ≡ FixedReg r = asked_fixed o.constraint r asks in
+      (λ r asks. (let e : o.constraint ≡ FixedReg r = requires_fixed_reg o.constraint r asks in
       (fixed k r less allocated e, fixed_class o.vreg.class o.constraint r (sound_ops.constraint k less) e))) h.safe h.inst_regs in
       let f = filled_on filling D here t u old new w.given.kept.safe w.given.kept.inst_regs (changes_stay (allocs_use_changes (λ q s. tt) tt tt places))
       (λ j within r there. changes_last (op_at ops j).vreg.number (allocs_use_changes (λ q s. tt) tt tt places) there) h in
@@ -134,7 +134,7 @@ module _ (passes : PassesContext) where
       let w = allocs_def_op_kept (rules_of env apart Known Writes May (after i) can) sound_ops.same (def_request o) ends_block p t u old new places
       (sound_ops.known k less allocated)
       (λ n. writes k n less def)
-      (λ r asks. (let e : o.constraint ≡ FixedReg r = asked_fixed o.constraint r asks in
+      (λ r asks. (let e : o.constraint ≡ FixedReg r = requires_fixed_reg o.constraint r asks in
       (fixed k r less allocated e, fixed_class o.vreg.class o.constraint r (sound_ops.constraint k less) e))) h.safe h.inst_regs in
       let f = filled_on filling D here t u old new w.kept.safe w.kept.inst_regs (changes_stay (allocs_def_op_changes (λ q s. tt) tt tt places))
       (λ j within r there. changes_last (op_at ops j).vreg.number (allocs_def_op_changes (λ q s. tt) tt (sound_ops.unread k j less within def r) places) there) h in
@@ -156,7 +156,7 @@ module _ (passes : PassesContext) where
       let named = sound_ops.named k n less reuses in
       let w = allocs_def_op_kept (rules_of env apart Known Writes May (after i) can) sound_ops.same (reuse_request o m) ends_block p t u old new places
       (sound_ops.known k less (sound_ops.allocated k less def)) (λ x. writes k x less def)
-      (λ r asks. (let e : m.constraint ≡ FixedReg r = asked_as_fixed m.constraint r asks in
+      (λ r asks. (let e : m.constraint ≡ FixedReg r = reuse_requires_fixed_reg m.constraint r asks in
       (fixed n r named.0 (reads_allocated m named.2) e, fixed_class m.vreg.class m.constraint r (sound_ops.constraint n named.0) e ∙ named.3))) h.safe
       h.inst_regs in
       let f = filled_on filling D here t u old new w.kept.safe w.kept.inst_regs (changes_stay (allocs_def_op_changes (λ q s. tt) tt tt places))

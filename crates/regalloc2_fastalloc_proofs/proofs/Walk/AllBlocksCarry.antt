@@ -23,7 +23,7 @@ use Rattle.regalloc2_fastalloc_proofs.proofs.Slots.StepsKeepSlots.{Grown, grown_
 use Rattle.regalloc2_fastalloc_proofs.proofs.Inst.OneInstCarries.{IsBetweenInsts}
 use Rattle.regalloc2_fastalloc_proofs.proofs.Walk.InstBoundaries.{IsEdge, IsWithin, grown_weaken, walk_grown, edge_next, kept_code_of}
 use Rattle.regalloc2_fastalloc_proofs.proofs.Walk.LastInstAndRest.{walk_listed}
-use Rattle.regalloc2_fastalloc_proofs.proofs.Walk.BlockCarries.{CarryingContext, ComesBefore, nothing_goes, block_carries}
+use Rattle.regalloc2_fastalloc_proofs.proofs.Walk.BlockCarries.{CarryingContext, ComesBefore, no_vreg_out_of_last_block, block_carries}
 use Rattle.regalloc2_fastalloc_proofs.proofs.Walk.FunctionLaws.{code_of}
 use Rattle.regalloc2_fastalloc_proofs.proofs.Changes.WalkChanges.{begins_block_changes, any_begin}
 
@@ -74,7 +74,7 @@ past_carries f out placesf stand b le = λ silent v used excused.
     let empty_listing : walked (inst_at f) (at_point out.edits) placesf first ((block_at f b).range.end - first) ≡ [] =
     ap (walked (inst_at f) (at_point out.edits) placesf first) many ∙ walked-none (inst_at f) (at_point out.edits) placesf first in
     subst (λ l. Carries v l (ComesIn f stand b v) (GoesOut f stand b v)) (sym empty_listing)
-    (carries_nil v (ComesIn f stand b v) (GoesOut f stand b v) (λ p e. absurd (nothing_goes f stand b v p (ap (λ (x : BlockValue). x.succs) none) e)))
+    (carries_nil v (ComesIn f stand b v) (GoesOut f stand b v) (λ p e. absurd (no_vreg_out_of_last_block f stand b v p (ap (λ (x : BlockValue). x.succs) none) e)))
 
 -- The state before the walk, with fresh tables.
 pub begin_between : (f : FunctionValue) (begin : StateValue) → Blank begin → Fit begin → IsBetweenInsts (length f.insts) begin

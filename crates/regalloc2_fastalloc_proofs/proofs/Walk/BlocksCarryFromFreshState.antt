@@ -88,7 +88,7 @@ module _ (walk : WholeWalk)
       places b lb is_branch
       (last_allocated code blank begin
       (allocs_blocks_outside (kept_code_of (Made f) f (all_proper env f limited ok) branch) ok.follow blank begin (begin_between f begin empty fit)
-      (record { nowhere = empty.nowhere; nobody = empty.nobody })) 0 out.allocs last walks 0 (first_edge f ok.follow (some_block env f limited ok)) are_listed
+      (record { nowhere = empty.nowhere; none_held = empty.none_held })) 0 out.allocs last walks 0 (first_edge f ok.follow (some_block env f limited ok)) are_listed
       b (omega arith)
       lb)
 
@@ -123,7 +123,7 @@ module _ (walk : WholeWalk)
         blank = blank;
         begin = begin;
         start = begin_between f begin empty fit;
-        empty = record { nowhere = empty.nowhere; nobody = empty.nobody };
+        empty = record { nowhere = empty.nowhere; none_held = empty.none_held };
         safe = safe;
       } in
       all_blocks_carry carrying out (some_block env f limited ok) walks edits are_listed

@@ -12,7 +12,7 @@ use Rattle.regalloc2_carry.proofs.ListingParts.{walked_split}
 use Rattle.regalloc2_carry.proofs.NotRead.{ReadsOthersOnly}
 use Rattle.regalloc2_carry.proofs.BlockBackward.{Relied, step_carried}
 use Rattle.regalloc2_fastalloc_proofs.specs.InstSteps.{StateValue, AllocsInst, ends_block}
-use Rattle.regalloc2_fastalloc_proofs.proofs.Operands.RecordOverState.{stands_at, slots_at}
+use Rattle.regalloc2_fastalloc_proofs.proofs.Operands.RecordOverState.{location_at, slots_at}
 use Rattle.regalloc2_fastalloc_proofs.proofs.Operands.DefinedNumbers.{defined_by}
 use Rattle.regalloc2_fastalloc_proofs.proofs.Inst.OneInstCarries.{IsBetweenInsts, CarriesByItself, carries_by_itself}
 use Rattle.regalloc2_fastalloc_proofs.proofs.Walk.InstForOneVReg.{step_at, LeavesOwnSlot, step_of}
@@ -73,7 +73,7 @@ module _ (code : ProperCode) (L : ℕ → StateValue → StateValue → Type 0) 
     -- what is carried from a boundary on
     abbrev pub CarriedFrom : ℕ → ℕ → StateValue → Type 0
     CarriedFrom i n t = Carries v (walked (inst_at f) (at_point (listed t.edits)) placesf i n)
-        (Relied (defined_from f v.number i n) block (stands_at t v.number) (slots_at t v.number) (F v.number)) E
+        (Relied (defined_from f v.number i n) block (location_at t v.number) (slots_at t v.number) (F v.number)) E
 
     one_carried : (i n : ℕ) (t u : StateValue) (blank here : List Place) → first ≤ i → (lt : i < stop) → i + 1 + n ≡ stop + m →
         (prev : Goes f placesf L begin first stop (i + 1) t)
@@ -86,11 +86,11 @@ module _ (code : ProperCode) (L : ℕ → StateValue → StateValue → Type 0) 
         walked_split (inst_at f) (at_point (listed u.edits)) placesf i n ∙ ap (λ r. step_at f placesf F i u ++ r) (x.same n) in
         let k = step_of f placesf F v i t u (defined_from f v.number (i + 1) n) (x.carries (returns i ge lt) v known) (x.ends.gone v.number)
         (leaves i t u ge lt l) (unread i n ge lt count) in
-        subst (λ l. Carries v l (Relied (defined_from f v.number i (suc n)) block (stands_at u v.number) (slots_at u v.number) (F v.number)) E) (sym whole)
-        (subst (λ b. Carries v (step_at f placesf F i u ++ rest) (Relied b block (stands_at u v.number) (slots_at u v.number) (F v.number)) E)
+        subst (λ l. Carries v l (Relied (defined_from f v.number i (suc n)) block (location_at u v.number) (slots_at u v.number) (F v.number)) E) (sym whole)
+        (subst (λ b. Carries v (step_at f placesf F i u ++ rest) (Relied b block (location_at u v.number) (slots_at u v.number) (F v.number)) E)
         (sym (defined_from-more f v.number i n))
         (step_carried v (step_at f placesf F i u) rest (defined_by (inst_at f i).operands v.number) (defined_from f v.number (i + 1) n) block
-        (stands_at u v.number) (slots_at u v.number) (stands_at t v.number) (slots_at t v.number) (F v.number) E
+        (location_at u v.number) (slots_at u v.number) (location_at t v.number) (slots_at t v.number) (F v.number) E
         (writes i ge lt) k c))
 
     -- if each instruction carries what its lemma says, the listing from any of them to the block's last one does
