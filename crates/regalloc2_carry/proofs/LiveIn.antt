@@ -1,4 +1,5 @@
--- In a well-formed function, if v is live where a path enters a block, some block from there on reads or passes v, and no block up to it writes v.
+-- In a well-formed function, if v is live where a path enters a block, some block from there on reads or passes v, and
+-- no block up to it writes v.
 use Rattle.std.proofs.Common.{ℕ, ◌≡◌, ◌+◌, ◌<◌, ◌≤◌, inl, inr, [], List, length, refl, ap, subst, arith}
 use Rattle.std.specs.Prelude.{Contains, slice_index_or}
 use Rattle.std.proofs.lemmas.Bool.{cases_lt}
@@ -93,7 +94,8 @@ live_is_used env f ok written ws path entered v live =
     let lb : (end_of f ws).block < length f.blocks = block_within f sound written ws path in
     live_used_in_some_block f sound v (end_of f ws).block lb (live_entered env f ok v ws entered lb live)
 
--- if every vreg is definitely assigned, and reachable blocks meet their obligations, the places of vregs live at a block's beginning hold their values
+-- if every vreg is definitely assigned, and reachable blocks meet their obligations, the places of vregs live at a
+-- block's beginning hold their values
 pub live_stand_in_places : LiveStandWhereBlocksCarryOn
 live_stand_in_places env f out stand ok written rising quiet carries ws path entered v p live is =
     let sound : HasSoundBlocks f = well_formed_are_sound env f ok in

@@ -250,8 +250,8 @@ module _ (f : FunctionValue) (ok : HasSoundBlocks f) (written : IsWrittenFirst f
 
   module _ (out : OutputValue) (stand : ℕ → VirtualRegister → Option Place) (carries : (b : ℕ) → IsReached f (first_of f b) →
       BlockCarriesOn f stand b (block_items f out b)) where
-    -- what is known at a path's last step: what is left of the block's listing carries each vreg that is live at the block's
-    -- beginning or written in the block
+    -- what is known at a path's last step: what is left of the block's listing carries each vreg that is live at the
+    -- block's beginning or written in the block
     record Rest (ws : List Way) : Type 0 where
       start : List Way
       entered : Entered f (end_of f ws).block start

@@ -61,8 +61,8 @@ targets_after_stores (s ∷ ss) are c x (later m) =
     ∙ targets_after_stores ss are.3 then x m
     ∙ others_after_store s.from s.to s.by c x.from avoids.0 avoids.1
 
--- A listing behind stores that carries v from the places of P does so with the stores in front from the places of R: each place of P is one to
--- which a store brings what is in a place of R, or a place of R that all stores avoid.
+-- A listing behind stores that carries v from the places of P does so with the stores in front from the places of R:
+-- each place of P is one to which a store brings what is in a place of R, or a place of R that all stores avoid.
 pub carries_stores : (v : VirtualRegister) (ss : List Store) (L : List Item) (P R E : Place → Type 0) → AreStores ss →
     ((p : Place) → P p → ((x : Store) × IsOneOf x ss × (x.to ≡ p) × R x.from) ⊎ (R p × ((t : Store) → IsOneOf t ss → Avoids t p))) →
     Carries v L P E → Carries v (with_moves (store_moves ss) L) R E
@@ -82,8 +82,8 @@ ways M [] h t m q by = elim m [ ]
 ways M (s ∷ ss) h t (first is) q by = (h.1 q (ap (λ (x : Store). x.by) is ∙ by)).0
 ways M (s ∷ ss) h t (later m) q by = ways M ss h.3 t m q by
 
--- Stores to stack places don't disturb one another if the stores that start in registers are before all stores that go through a register, no place is the target of two, and no
--- later store starts from an earlier one's target.
+-- Stores to stack places don't disturb one another if the stores that start in registers are before all stores that go
+-- through a register, no place is the target of two, and no later store starts from an earlier one's target.
 pub in_order : (M : Place → Bool) → M NoPlace ≡ false → (ss : List Store) → AreInOrder M ss → AreStores ss
 unfolding AreInOrder AreStores
 in_order M none [] h = tt

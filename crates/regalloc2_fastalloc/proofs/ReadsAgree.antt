@@ -1,5 +1,6 @@
--- The walk over the blocks of a well-formed function that the allocator takes, from a fresh state to the output: reads agree on every path,
--- and a vreg that is live where a path comes to a block is in its slot, or where the branch into the block left it.
+-- The walk over the blocks of a well-formed function that the allocator takes, from a fresh state to the output: reads
+-- agree on every path, and a vreg that is live where a path comes to a block is in its slot, or where the branch into
+-- the block left it.
 use Rattle.std.proofs.Common.{ℕ, ◌≡◌, ◌≢◌, ◌-◌, ◌<◌, suc, List, [], ◌∷◌, length, map, nat_eq, refl, sym, ap, ◌∙◌, ◌+◌, subst, arith}
 use Rattle.std.specs.Prelude.{All, filter, Option, Some}
 use Rattle.std.proofs.lemmas.Bool.{ne_eqb}

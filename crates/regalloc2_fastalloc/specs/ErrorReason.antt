@@ -34,9 +34,10 @@ FailsValidation f env asked e = HasFewOperands f × (asked ≡ true) × (IsWellF
 abbrev pub SomeDoesNotFit : FunctionValue → MachineValue → Type 0
 SomeDoesNotFit f env = (i : ℕ) × (i < length f.insts) × (Fits f env (inst_at f i) → ⊥)
 
--- The reason that an error gives. A well-formed function is refused only for too many operands, an operand or a branch that the allocator rejects, a lack
--- of registers or slots, or of memory. Not guaranteed: that `Memory` is returned only if memory ran out (it says which tests pass); nor that
--- `TooManyLiveRegs` is returned wherever an instruction doesn't fit.
+-- The reason that an error gives. A well-formed function is refused only for too many operands, an operand or a branch
+-- that the allocator rejects, a lack of registers or slots, or of memory. Not guaranteed: that `Memory` is returned
+-- only if memory ran out (it says which tests pass); nor that `TooManyLiveRegs` is returned wherever an instruction
+-- doesn't fit.
 abbrev pub IsReason : FunctionValue → MachineValue → Bool → RegAllocError → Type 0
 IsReason f env asked (CritEdge p b) = FailsValidation f env asked (CritEdge p b)
 IsReason f env asked (SSA v i) = FailsValidation f env asked (SSA v i)

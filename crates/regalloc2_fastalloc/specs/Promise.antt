@@ -1,5 +1,6 @@
 -- What `run` guarantees of its outputs: the main theorem's conclusion. Its terms are in regalloc2_semantics/specs,
--- in reading order: `Runs`, `Faithful`, `Values`, `Places`, `Live`, `Debug`; values of functions, machines and outputs in regalloc2_function/specs.
+-- in reading order: `Runs`, `Faithful`, `Values`, `Places`, `Live`, `Debug`; values of functions, machines and outputs
+-- in regalloc2_function/specs.
 use Rattle.std.specs.Prelude.{ℕ, ◌≡◌, ◌<◌, ◌≤◌, ◌^◌, ◌⊎◌, List, All, IsSome, length, slice_index_or, Bool, false, [], nat_eq, ◌≢◌}
 use Rattle.regalloc2_names.specs.Register.{VirtualRegister, Register, no_vreg, has_register}
 use Rattle.regalloc2_names.specs.Operand.{OperandValue}
@@ -21,9 +22,9 @@ use Rattle.regalloc2_semantics.specs.Live.{DefinesNumber, IsEdgeInto, IsLive, Ha
 abbrev pub ReadsNumbers : FunctionValue → Type 0
 ReadsNumbers f = (meaning : Meaning) (ws : List Way) → IsPath f ws → All (All IsSome) (numbers f meaning (source_reads f) ws).history
 
--- The allocated program runs as the function does, along every path from the entry: at each step each use finds in its place the function's own
--- write, each place meets its constraint, and no move is stack-to-stack; and so each use reads the function's own number, whatever the instructions
--- compute.
+-- The allocated program runs as the function does, along every path from the entry: at each step each use finds in its
+-- place the function's own write, each place meets its constraint, and no move is stack-to-stack; and so each use reads
+-- the function's own number, whatever the instructions compute.
 pub record RunsAsTheFunction (f : FunctionValue) (env : MachineValue) (out : OutputValue) : Type 0 where
   pub faithful : IsFaithful f env out
   pub reads_numbers : ReadsNumbers f
@@ -37,8 +38,8 @@ last_operands f e = (inst_at f (last_of (block_at f e))).operands
 abbrev pub argument_for : FunctionValue → ℕ → ℕ → ℕ → VirtualRegister
 argument_for f e k n = slice_index_or (arguments_at f e k) n no_vreg
 
--- The place of v where a path comes to the block b. If the branch into b defines v, that is the place of the operand that does; and so if v is a parameter
--- of b that is given what the branch defines. Else it is v's slot.
+-- The place of v where a path comes to the block b. If the branch into b defines v, that is the place of the operand
+-- that does; and so if v is a parameter of b that is given what the branch defines. Else it is v's slot.
 pub data ArrivesAt (f : FunctionValue) (out : OutputValue) (slot : VirtualRegister → ℕ) (b : ℕ) (v : VirtualRegister) : Place → Type 0 where
   defined : (e k j : ℕ) → IsEdgeInto f b e k → DefinesNumber (last_operands f e) v.number j →
       ArrivesAt f out slot b v (place_at (allocs_of out (last_of (block_at f e))) j)
@@ -48,8 +49,9 @@ pub data ArrivesAt (f : FunctionValue) (out : OutputValue) (slot : VirtualRegist
       ((e k n j : ℕ) → IsEdgeInto f b e k → n < length (block_at f b).params → slice_index_or (block_at f b).params n no_vreg ≡ v →
       DefinesNumber (last_operands f e) (argument_for f e k n).number j → ⊥) → ArrivesAt f out slot b v (InSlot (slot v))
 
--- Between blocks values are on the stack, but for what the branch between them defines: each vreg has one slot, which is that of its operands in slots;
--- on every path, where it comes to a block, each vreg that is live there owns its slot, and its place holds its value; so do the block's parameters.
+-- Between blocks values are on the stack, but for what the branch between them defines: each vreg has one slot, which
+-- is that of its operands in slots; on every path, where it comes to a block, each vreg that is live there owns its
+-- slot, and its place holds its value; so do the block's parameters.
 pub record LiveInSlots (f : FunctionValue) (out : OutputValue) (owner : ℕ → Owner) : Type 0 where
   pub slot : VirtualRegister → ℕ
   pub operands : (v : VirtualRegister) (n : ℕ) → StandsInSlot f out v n → slot v ≡ n
@@ -62,7 +64,8 @@ pub record SlotsAreBounded (f : FunctionValue) (out : OutputValue) : Type 0 wher
   pub limit : out.num_spillslots ≤ 2 ^ 24
   pub needed : out.num_spillslots ≤ units_at_most f
 
--- The slot n of a branch i: it is the branch's first or second one for its class, and only moves name it, each at the point before the branch.
+-- The slot n of a branch i: it is the branch's first or second one for its class, and only moves name it, each at the
+-- point before the branch.
 pub record ServesBranch (out : OutputValue) (n i time : ℕ) : Type 0 where
   pub of_two : time < 2
   pub moves : All (λ e. (e.1.from ≡ InSlot n) ⊎ (e.1.to ≡ InSlot n) → e.0 ≡ before i) out.edits
@@ -82,9 +85,9 @@ IsPlaceOfOperand f out v p = (i k : ℕ) × (d : OperandValue) × (i < length f.
 abbrev pub IsPlaceOf : FunctionValue → OutputValue → (ℕ → Owner) → VirtualRegister → Place → Type 0
 IsPlaceOf f out owner v p = IsPlaceOfOperand f out v p ⊎ ((n : ℕ) × (p ≡ InSlot n) × (owner n ≡ OfVReg v))
 
--- There is a debug location for each label that is kept, each from its vreg's first point to its last one, by rising label, and as listed where
--- labels are equal. Each place is valid, and one of that vreg; and if no path from the entry reads or passes a vreg before writing it, it holds that
--- vreg's value.
+-- There is a debug location for each label that is kept, each from its vreg's first point to its last one, by rising
+-- label, and as listed where labels are equal. Each place is valid, and one of that vreg; and if no path from the entry
+-- reads or passes a vreg before writing it, it holds that vreg's value.
 abbrev pub ShowsLabels : FunctionValue → MachineValue → OutputValue → (ℕ → Owner) → Type 0
 ShowsLabels f env out owner = AreDebugLocations f (λ l d. IsProperPlace env out l.vreg.class d.place × IsPlaceOf f out owner l.vreg d.place
     × (IsWrittenFirst f → ShowsValue f out l.vreg d.place)) out
@@ -93,11 +96,12 @@ ShowsLabels f env out owner = AreDebugLocations f (λ l d. IsProperPlace env out
 abbrev pub IsNamed : FunctionValue → VirtualRegister → Type 0
 IsNamed f v = (i k : ℕ) × (i < length f.insts) × (k < length (inst_at f i).operands) × ((op_at (inst_at f i).operands k).vreg ≡ v)
 
+-- whether two vregs have one number
 abbrev pub have_same_number : VirtualRegister → VirtualRegister → Bool
 have_same_number v w = nat_eq v.number w.number
 
--- A function of one block, all of whose operands are under `Reg`, without clobbers, which names no more vregs of a class than
--- registers of it may be allocated.
+-- A function of one block, all of whose operands are under `Reg`, without clobbers, which names no more vregs of a
+-- class than registers of it may be allocated.
 pub record HasRegistersForAll (f : FunctionValue) (env : MachineValue) : Type 0 where
   pub one_block : length f.blocks ≡ 1
   pub under_reg : (i k : ℕ) → i < length f.insts → k < length (inst_at f i).operands → (op_at (inst_at f i).operands k).constraint ≡ Reg
@@ -105,21 +109,25 @@ pub record HasRegistersForAll (f : FunctionValue) (env : MachineValue) : Type 0 
   pub enough : (class : RegClass) (vs : List VirtualRegister) → IsDistinct have_same_number vs → All (λ v. (v.class ≡ class) × IsNamed f v) vs →
       length vs ≤ allocatable_count env class
 
--- The whole guarantee about an output. Only `faithful`, `live` and the last part of `labels` have a premise: that no path from the entry reads or
--- passes a vreg before writing it.
+-- The whole guarantee about an output. Only `faithful`, `live` and the last part of `labels` have a premise: that no
+-- path from the entry reads or passes a vreg before writing it.
 --     in_order            offsets and moves are well-ordered, and no move names a missing place
 --     constraints         each operand's place meets its constraint, whether a path reaches it or not
---     proper              each operand's place, and each end of a move, is one of the machine's or a slot below the count; an operand that names a register
---                         and no vreg is in that register, which may be none of the machine's
+--     proper              each operand's place, and each end of a move, is one of the machine's or a slot below the
+--                         count; an operand that names a register and no vreg is in that register, which may be none of
+--                         the machine's
 --     no_stack_to_stack   no move is stack-to-stack
 --     listed              each move is listed, none after the last instruction of a block
 --     faithful            the output runs as the function does
---     owners              each slot that is named has one owner, a vreg or a branch, and units of its own, of its owner's class
---     live                values that are live between blocks are in the slots that their vregs own, or where the branch between them defined them
+--     owners              each slot that is named has one owner, a vreg or a branch, and units of its own, of its
+--                         owner's class
+--     live                values that are live between blocks are in the slots that their vregs own, or where the
+--                         branch between them defined them
 --     slots               slots take few units
 --     unspilled           where each vreg can have a register of its own, there are no moves and no slots
 --     branch_slots        a branch owns two slots for a class at most, and only moves at the point before it name them
---     labels              there is a debug location for each label that is kept; it names a place of its vreg, which holds the vreg's value
+--     labels              there is a debug location for each label that is kept; it names a place of its vreg, which
+--                         holds the vreg's value
 pub record IsAllocation (f : FunctionValue) (env : MachineValue) (out : OutputValue) : Type 0 where
   pub in_order : IsInOrder f out
   pub constraints : (i : ℕ) → i < length f.insts → ConstraintsMet f env out i

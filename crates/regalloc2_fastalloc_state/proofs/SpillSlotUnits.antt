@@ -274,7 +274,8 @@ pub slots_of_fault : (P : Type 0) (fault : MoveFault) → (fault ≡ NoSlot → 
 slots_of_fault P NoSlot h = h refl
 slots_of_fault P MemoryFault h = tt
 
--- an error for slots or memory alone is one for registers, slots or memory, also under a weaker claim that slots ran out
+-- an error for slots or memory alone is one for registers, slots or memory, also under a weaker claim that slots ran
+-- out
 pub lacks_slots : (P Q : Type 0) → (P → Q) → (e : RegAllocError) → LacksSlots P e → IsResourceError Q e
 lacks_slots P Q more TooManyLiveRegs h = tt
 lacks_slots P Q more TooManySpillSlots h = more h

@@ -46,7 +46,8 @@ after_settling t u v w p r lt i s h =
     o)
     (chosen (is_place p (InRegister r)) (is_place (alloc_of t v.number) (InRegister r)) (Some v) None (vreg_of_preg t r) (Some w) e)
 
--- `vreg_allocs` and `vreg_in_preg` stay inverse if a vreg gets a location that is no preg, or a preg that is empty or its own
+-- `vreg_allocs` and `vreg_in_preg` stay inverse if a vreg gets a location that is no preg, or a preg that is empty or
+-- its own
 pub inverse_kept : (t u : VRegAllocsValue) (v : VirtualRegister) (p : Place) → v.number < length t.vreg_allocs → length u.vreg_in_preg ≡ 256
     → ((r : Register) → p ≡ InRegister r → r.number < 64)
     → ((r : Register) → p ≡ InRegister r → (vreg_of_preg t r ≡ None) ⊎ (vreg_of_preg t r ≡ Some v))
@@ -119,8 +120,8 @@ inverse_kept t u v p known long small alone i s = record {
         q (sym e ∙ ap (λ (z : VirtualRegister). z.number) (sym y) ∙ x.1)) in
         s.holders r lt ∙ rw (a, b) h
 
--- The tables as code writes them where the location of a vreg is set: the old register is emptied, the new one filled, the list updated, and the
--- location set.
+-- The tables as code writes them where the location of a vreg is set: the old register is emptied, the new one filled,
+-- the list updated, and the location set.
 pub record OneLocationSet : Type 0 where
   pub vreg_allocs : List Place
   pub held : List (Option VirtualRegister)

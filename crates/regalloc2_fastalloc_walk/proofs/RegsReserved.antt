@@ -59,7 +59,8 @@ taken_one t u q s r was now = elim (cases_Bool (is_register q r)) [
       ∙ now in cc)
 ]
 
--- where at most one register is taken, and an operand is fixed to it, only registers that operands are fixed to are taken
+-- where at most one register is taken, and an operand is fixed to it, only registers that operands are fixed to are
+-- taken
 pub fixed_one : (ops : List OperandValue) (t u : InstRegs) (q : Register) → IsFixedIn ops q → TakesOnly q t u → TakesFixed ops t u
 fixed_one ops t u q fixed s r was now = subst (IsFixedIn ops) (taken_one t u q s r was now) fixed
 
@@ -217,7 +218,8 @@ module _ (ops : List OperandValue) (k : ℕ) (t u w : InstRegs) (c d : ReservedR
     ];
   }
 
--- where operand k can't reserve its register, the reservation of the instruction's registers fails for a reason that is named
+-- where operand k can't reserve its register, the reservation of the instruction's registers fails for a reason that is
+-- named
 pub stops_reserve : (ops : List OperandValue) (k : ℕ) (t u : InstRegs) (c : ReservedRegs) (old : StateValue) → k < length ops → Reserving ops k t u c old →
     RegIsNotReserved ops k c old → RegsAreNotReserved ops old
 stops_reserve ops k t u c old lt h s = elim s.stops [
@@ -236,7 +238,8 @@ stops_reserve ops k t u c old lt h s = elim s.stops [
   ]
 ]
 
--- once all operands have reserved what they need, the instruction's registers are reserved, as soon as operands are counted
+-- once all operands have reserved what they need, the instruction's registers are reserved, as soon as operands are
+-- counted
 pub reserves_all : (ops : List OperandValue) (k : ℕ) (t u : InstRegs) (c : ReservedRegs) (old : StateValue) → k ≡ length ops →
     Reserving ops k t u c old → ReservesClaims ops t u old
 reserves_all ops k t u c old e h began same counted = record {

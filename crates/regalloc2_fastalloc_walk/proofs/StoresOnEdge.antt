@@ -1,4 +1,5 @@
--- What a block's beginning stores: the values that are listed, moved as they are found and pushed, the ones from the stack first, are the stores on the edge.
+-- What a block's beginning stores: the values that are listed, moved as they are found and pushed, the ones from the
+-- stack first, are the stores on the edge.
 use Rattle.std.proofs.Common.{ℕ, zero, suc, ◌≡◌, ◌≢◌, ◌+◌, ◌<◌, ◌≤◌, ◌⊎◌, Bool, true, false, List, [], ◌∷◌, ◌++◌, length, inl, inr, refl, sym, ap, ◌∙◌, subst}
 use Rattle.std.proofs.Common.{arith, eq-eqb}
 use Rattle.std.specs.Prelude.{Option, None, Some, IsSome, not, sum_by, slice_index_or, if◌then◌else◌}
@@ -106,7 +107,8 @@ store_moves_append [] ts = refl
 store_moves_append (s ∷ ss) ts = ap (λ l. moves_by s.from s.by s.to ++ l) (store_moves_append ss ts)
     ∙ sym (append_assoc (moves_by s.from s.by s.to) (store_moves ss) (store_moves ts))
 
--- The move of the store i is from where the branch leaves the value, to the slot of the vreg, as the tables have them at the end.
+-- The move of the store i is from where the branch leaves the value, to the slot of the vreg, as the tables have them
+-- at the end.
 record MovesValue (operands : List OperandValue) (slots : SpillSlotsValue) (d : StoredDef) (m : StoreMove) : Type 0 where
   from : m.from ≡ defined_place slots (op_at operands d.index)
   there : m.from ≢ NoPlace
@@ -289,8 +291,8 @@ module _ (t : StateValue) (apart : RegsAvoidStack t) where
         | inr none ↦ (let x : None ≡ Some q = sym (made.direct none) ∙ by in absurd cc)
       ]
 
--- The edge k of the block e into the block b, and what is stored on it: the definitions that are listed from the tables t, the moves that are made of
--- them, and the slots then, each of one number.
+-- The edge k of the block e into the block b, and what is stored on it: the definitions that are listed from the tables
+-- t, the moves that are made of them, and the slots then, each of one number.
 pub record EdgeStores : Type 0 where
   pub f : FunctionValue
   pub may : MayBeAllocated f

@@ -1,4 +1,5 @@
--- The start of a block, for one vreg: its listing carries the vreg from its slot at the end of the whole walk, unless the block writes the vreg.
+-- The start of a block, for one vreg: its listing carries the vreg from its slot at the end of the whole walk, unless
+-- the block writes the vreg.
 use Rattle.std.proofs.Common.{ℕ, suc, ◌≡◌, ◌⊎◌, inl, inr, Bool, true, false, List, [], ◌∷◌, ◌++◌, nat_eq, refl, sym, ap, ◌∙◌, subst, eq-eqb}
 use Rattle.std.specs.Prelude.{Option, None, Some, ◌&&◌, is_some}
 use Rattle.std.proofs.lemmas.Bool.{and_right, and_from, and_parts}
@@ -101,7 +102,8 @@ module _ (insts : ℕ → InstValue) (placesf : ℕ → List Place) (i n : ℕ) 
         by_place p (inl none) at = (let x : None ≡ Some p = ap opt (sym none) ∙ at in absurd cc)
         by_place p (inr k) at = ap opt k.2 ∙ ap opt (sym k.1) ∙ at
 
-    -- with the block's start in front, its listing carries v from its final slot, or from nowhere if the block writes it
+    -- with the block's start in front, its listing carries v from its final slot, or from nowhere if the block writes
+    -- it
     pub entered_carried : Carries v (from_first old) (Relied block block (location_at old v.number) (slots_at old v.number) F) E →
         Carries v (from_first new) (λ p. (block ≡ false) × (F ≡ Some p)) E
     entered_carried = by_test block refl

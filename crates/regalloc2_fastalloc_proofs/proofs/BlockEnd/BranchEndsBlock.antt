@@ -27,7 +27,8 @@ use Rattle.regalloc2_fastalloc_proofs.proofs.BlockEnd.BranchAlone.{IsUseMove, Br
 use Rattle.regalloc2_fastalloc_proofs.proofs.Inst.ProperInsts.{ProperCode}
 use Rattle.regalloc2_fastalloc_proofs.proofs.Changes.InstChanges.{allocs_inst_changes, any_operand}
 
--- what is known of the slots at the end of the whole walk: each has one owner, and the slots made after t are at or above its count
+-- what is known of the slots at the end of the whole walk: each has one owner, and the slots made after t are at or
+-- above its count
 pub record ToCome (F : ℕ → Option Place) (t : StateValue) : Type 0 where
   pub only : (x : ℕ) (p : Place) → F x ≡ Some p → (n : ℕ) × (p ≡ InSlot n)
   pub own : (x y n : ℕ) → F x ≡ Some (InSlot n) → F y ≡ Some (InSlot n) → x ≡ y
@@ -60,8 +61,9 @@ to_come-back At F a b units g h = record {
   ];
 }
 
--- A branch at the end of its block, the only writer of the slots of its definitions: the function and the places of its operands; F: the slots at the
--- walk's end; the branch, allocated between the tables old and middle; u: the registers of the instruction after it.
+-- A branch at the end of its block, the only writer of the slots of its definitions: the function and the places of its
+-- operands; F: the slots at the walk's end; the branch, allocated between the tables old and middle; u: the registers
+-- of the instruction after it.
 pub record LastBranch : Type 1 where
   pub code : ProperCode
   open code use {Known, f, placesf, proper}
@@ -130,7 +132,8 @@ module _ (at_end : LastBranch) where
             (none_below (InSlot n.0) (before last) (before (last + 1)) old.edits (omega arith) between.later) br.pushes;
       })
 
-  -- what it carries with its own moves, of a vreg that it doesn't define: from any place that must hold the vreg before it to the vreg's slot
+  -- what it carries with its own moves, of a vreg that it doesn't define: from any place that must hold the vreg before
+  -- it to the vreg's slot
   module _ (h : ToCome F middle) (v : VirtualRegister) (known : Known v) (undefined : defined_by (inst_at f last).operands v.number ≡ false) (block : Bool)
       (E : Place → Type 0) (mine : (p : Place) → E p → F v.number ≡ Some p) (there : block ≡ true → (p : Place) → E p → slots_at old v.number ≡ Some p) where
     abbrev L : List Item

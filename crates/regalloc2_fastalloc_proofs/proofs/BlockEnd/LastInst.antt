@@ -58,8 +58,8 @@ module _ (code : ProperCode) (F : ℕ → Option Place) where
 abbrev pub OwedOwn : FunctionValue → (ℕ → Option Place) → ℕ → VirtualRegister → Place → Type 0
 OwedOwn f F b v p = ((k : ℕ) → HasEdge f b k → names v (block_at f (target_at f b k)).params ≡ false) × IsWantedBehind f b v × (F v.number ≡ Some p)
 
--- at a block's end, where each vreg is in its slot or nowhere: what is needed in v's own slot is there, if v has a location
--- if another block uses what this one writes
+-- at a block's end, where each vreg is in its slot or nowhere: what is needed in v's own slot is there, if v has a
+-- location if another block uses what this one writes
 pub owed_is_relied : (f : FunctionValue) (F : ℕ → Option Place) (b : ℕ) (v : VirtualRegister) (block : Bool) (t : StateValue) →
     ((p : Place) → slots_at t v.number ≡ Some p → F v.number ≡ Some p)
     → (place_in t v.number ≡ NoPlace) ⊎ ((k : ℕ) × (place_in t v.number ≡ InSlot k) × (slot_in t v.number ≡ InSlot k))

@@ -1,4 +1,5 @@
--- At a block's last instruction, where no vreg is in a register, placing operands pushes no move: what one operand does.
+-- At a block's last instruction, where no vreg is in a register, placing operands pushes no move: what one operand
+-- does.
 -- The fold in `Changes` doesn't apply: what the listing carries, or the operands' record, differs from step to step.
 use Rattle.std.proofs.Common.{ℕ, ◌≡◌, ◌≢◌, ◌<◌, List, Bool, true, false, cond, refl, sym, ap, ◌∙◌, inl, inr, length}
 use Rattle.std.specs.Prelude.{Option, None, Some, not, ◌&&◌, ◌||◌}
@@ -50,7 +51,8 @@ pub data Asks (ops : List OperandValue) (there : List Place) (k : ℕ) (r : Regi
   claims : NeedsFixedReg ops k r p → Asks ops there k r p
   chosen : at_place there k ≡ InRegister r → p ≡ positions_of (op_at ops k) → Asks ops there k r p
 
--- no move was pushed; registers of vregs are held, in the pass over late operands at both positions; a vreg that is defined is in none
+-- no move was pushed; registers of vregs are held, in the pass over late operands at both positions; a vreg that is
+-- defined is in none
 pub record NoMovePushed (ops : List OperandValue) (pass : Bool) (edits : List (ℕ × MoveValue)) (u : InstRegs) (t : StateValue) : Type 0 where
   pub edits_are : t.edits ≡ edits
   pub early : (r : Register) (v : VirtualRegister) → r.number < 64 → vreg_of_preg t.places r ≡ Some v → has_register u.early r ≡ false
@@ -60,7 +62,8 @@ pub record NoMovePushed (ops : List OperandValue) (pass : Bool) (edits : List (�
       × ((v : VirtualRegister) × (v.number ≡ n) × (vreg_of_preg t.places r ≡ Some v))
   pub away : (k : ℕ) (r : Register) → k < length ops → is_def (op_at ops k).kind ≡ true → alloc_of t.places (op_at ops k).vreg.number ≡ InRegister r → ⊥
 
--- the registers of the operands that aren't done are held, and have no vreg; two such operands that overlap have two registers
+-- the registers of the operands that aren't done are held, and have no vreg; two such operands that overlap have two
+-- registers
 pub record Awaiting (ops : List OperandValue) (done : ℕ → Type 0) (there : List Place) (u : InstRegs) (t : StateValue) : Type 0 where
   pub held_early : (k : ℕ) (r : Register) (p : Positions) → k < length ops → (done k → ⊥) → Asks ops there k r p → p.early ≡ true →
       has_register u.early r ≡ false

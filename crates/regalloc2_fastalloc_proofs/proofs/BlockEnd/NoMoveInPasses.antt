@@ -106,7 +106,8 @@ asks_back : (ops : List OperandValue) (here there : List Place) (k : ℕ) (r : R
 asks_back ops here there k r p e (claims c) = claims c
 asks_back ops here there k r p e (chosen at is) = chosen (sym e ∙ at) is
 
--- operands that wait for their registers go on waiting, if fewer are left, no register becomes available, and their registers stay empty
+-- operands that wait for their registers go on waiting, if fewer are left, no register becomes available, and their
+-- registers stay empty
 pub awaiting_on : (ops : List OperandValue) (D E : ℕ → Type 0) (here there : List Place) (t u : InstRegs) (old new : StateValue) →
     ((j : ℕ) → j < length ops → (E j → ⊥) → D j → ⊥)
     → ((j : ℕ) → j < length ops → (E j → ⊥) → at_place there j ≡ at_place here j) → Less t u
@@ -240,7 +241,8 @@ module _ (Known : VirtualRegister → Type 0) (ops : List OperandValue) (sound_o
   not_free t old p (inl early) no_move q v small held is_free = both_ways (has_register t.early q) (no_move.early q v small held) (is_free.early early)
   not_free t old p (inr late) no_move q v small held is_free = both_ways (has_register t.late q) (no_move.late late.0 q v small held) (is_free.late late.1)
 
-  -- no edit was added in the pass, operands that wait still have their registers, and the list of places is as long as before
+  -- no edit was added in the pass, operands that wait still have their registers, and the list of places is as long as
+  -- before
   abbrev pub NoMoveSoFar : (ℕ → Type 0) → List Place → InstRegs → StateValue → Type 0
   NoMoveSoFar D there u t = NoMovePushed ops pass edits u t × Awaiting ops D there u t × (length there ≡ length ops)
 

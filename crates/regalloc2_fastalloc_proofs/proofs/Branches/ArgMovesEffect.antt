@@ -1,4 +1,5 @@
--- The moves of a branch's arguments: which places of a vreg they leave alone, and which values they bring to the parameters.
+-- The moves of a branch's arguments: which places of a vreg they leave alone, and which values they bring to the
+-- parameters.
 use Rattle.std.proofs.Common.{ℕ, zero, suc, ◌≡◌, ◌≢◌, ◌<◌, ◌≤◌, inl, inr, Bool, true, false, List, [], ◌∷◌, length, refl, sym, ap, ◌∙◌, subst, arith}
 use Rattle.std.specs.Prelude.{Option, None, Some, Contains, slice_index_or}
 use Rattle.std.proofs.lemmas.Bool.{or_left, or_right}
@@ -31,9 +32,10 @@ names_at (p ∷ ps) (suc j) v lt e = or_right (is_vreg p v) (names v ps) (names_
 pub in_slot_injective : (m n : ℕ) → InSlot m ≡ InSlot n → m ≡ n
 in_slot_injective m n e = cc
 
--- The moves of the arguments of the block b's branch, class after class. F: the slots at the walk's end, each of one vreg; the parameters of the block's
--- successors are known, of the classes of their arguments; the tables before the moves are whole, with no vreg in a register reserved for moves; and
--- each given move is of an argument that the branch doesn't define itself.
+-- The moves of the arguments of the block b's branch, class after class. F: the slots at the walk's end, each of one
+-- vreg; the parameters of the block's successors are known, of the classes of their arguments; the tables before the
+-- moves are whole, with no vreg in a register reserved for moves; and each given move is of an argument that the branch
+-- doesn't define itself.
 pub record ArgMoves : Type 1 where
   pub Known : VirtualRegister → Type 0
   pub same : (v w : VirtualRegister) → Known v → Known w → v.number ≡ w.number → v ≡ w

@@ -100,9 +100,10 @@ param_cases f b v (suc k) = elim (param_cases f b v k) [
   ]
 ]
 
--- A branch at the end of the block b, in a function with the places of its operands. F: the slots at the walk's end, in which the branch's definitions are
--- placed accordingly; old, middle and new: the tables after it, before its arguments are passed, and once they are. It neither defines nor
--- reads the parameters of the block's successors, which are known, of the classes of their arguments.
+-- A branch at the end of the block b, in a function with the places of its operands. F: the slots at the walk's end, in
+-- which the branch's definitions are placed accordingly; old, middle and new: the tables after it, before its arguments
+-- are passed, and once they are. It neither defines nor reads the parameters of the block's successors, which are
+-- known, of the classes of their arguments.
 pub record BlockBranch : Type 1 where
   pub code : ProperCode
   open code use {Known, f, placesf}

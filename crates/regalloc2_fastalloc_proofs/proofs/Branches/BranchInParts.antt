@@ -99,7 +99,8 @@ Parted f b last k t u old new given = MovesByClass (tail_of (λ v. ⊥) (inst_at
     (λ r x. refl)
     f b k t u old new given
 
--- once the arguments of k edges are gathered, each has a location, and the gathered moves go from their slots to the parameters' slots
+-- once the arguments of k edges are gathered, each has a location, and the gathered moves go from their slots to the
+-- parameters' slots
 pub branch_in_parts : (f : FunctionValue) (b last : ℕ) (t u : InstRegs) (old new : StateValue) (k : ℕ) (given : List ClassMove) →
     GathersMoves f b (before last) t old k u new given → IsBetweenInsts last old → SpareHere t old → Parted f b last k t u old new given
 branch_in_parts f b last t u old new k given gathers between scratch_reserve =

@@ -99,7 +99,8 @@ passes_at (p ∷ ps) (x ∷ xs) v a (inr h) = (0, omega arith, h.0, h.1)
 abbrev pub argument_at : List VirtualRegister → ℕ → VirtualRegister
 argument_at xs j = slice_index_or xs j no_vreg
 
--- a gathered move goes from the slot of the edge's argument j to that of its parameter j, and is of the argument's class
+-- a gathered move goes from the slot of the edge's argument j to that of its parameter j, and is of the argument's
+-- class
 abbrev pub IsArgued : List VirtualRegister → List VirtualRegister → ℕ → StateValue → ClassMove → Type 0
 IsArgued params arguments j t g =
     (j < length params) × (g.class ≡ (argument_at arguments j).class) × (slots_at t (argument_at arguments j).number ≡ Some g.from)
@@ -126,7 +127,8 @@ module _ (tail : BlockTail) (item : Item) (X : Place → ℕ → Bool) (clear : 
     pub origin : (g : ClassMove) → Contains given g → Contains before_it g ⊎ ((j : ℕ) × IsArgued params arguments j new g)
     pub all : (j : ℕ) → j < k → (Own (argument_at arguments j) → ⊥) → (g : ClassMove) × Contains given g × IsArgued params arguments j new g
 
-  -- gathering the first k arguments of an edge keeps the state at the branch, and its moves go from the arguments' slots to the parameters'
+  -- gathering the first k arguments of an edge keeps the state at the branch, and its moves go from the arguments'
+  -- slots to the parameters'
   pub gathers_edge_moves_done : {Own : VirtualRegister → Type 0} (params arguments : List VirtualRegister) (t : InstRegs) (old : StateValue)
       (before_it : List ClassMove) →
       Stage tail item X clear t old
@@ -198,7 +200,8 @@ module _ (tail : BlockTail) (item : Item) (X : Place → ℕ → Bool) (clear : 
     pub all : (e j : ℕ) → e < k → j < length (params_on f b e) → (IsOwnDef f b (argument_at (arguments_at f b e) j) → ⊥) → (g : ClassMove) × Contains given g
         × IsArgued (params_on f b e) (arguments_at f b e) j new g
 
-  -- gathering the arguments of the first k edges keeps the state at the branch, and gives the moves of all their arguments
+  -- gathering the arguments of the first k edges keeps the state at the branch, and gives the moves of all their
+  -- arguments
   pub arguments_gathered : (f : FunctionValue) (b : ℕ) (t : InstRegs) (old : StateValue) → Stage tail item X clear t old
       → (k : ℕ) (u : InstRegs) (new : StateValue) (given : List ClassMove) → GathersMoves f b (before i) t old k u new given
       → MovesByClass f b k t u old new given

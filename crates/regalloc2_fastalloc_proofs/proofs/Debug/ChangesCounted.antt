@@ -1,4 +1,5 @@
--- What an instruction doesn't count: it defines no watched vreg, and the watched vregs that it reads had a location before.
+-- What an instruction doesn't count: it defines no watched vreg, and the watched vregs that it reads had a location
+-- before.
 use Rattle.std.proofs.Common.{ℕ, ◌≡◌, ◌≢◌, ◌+◌, ◌-◌, ◌^◌, ◌<◌, ◌≤◌, ◌⊎◌, ◌&&◌, ◌||◌, inl, inr, Bool, true, false, List, length, refl, sym, ap, ◌∙◌, subst, arith, cond}
 use Rattle.std.specs.Prelude.{min, slice_index_or}
 use Rattle.std.proofs.lemmas.Bool.{cases_Bool, cases_eq}

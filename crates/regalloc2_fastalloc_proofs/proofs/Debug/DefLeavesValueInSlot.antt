@@ -1,5 +1,6 @@
 -- An instruction that defines a vreg leaves what it writes in its slot, once the moves after it have run.
--- The fold in `Changes` of regalloc2_fastalloc_proofs doesn't apply: an operand's place is passed from its selection to the steps that follow.
+-- The fold in `Changes` of regalloc2_fastalloc_proofs doesn't apply: an operand's place is passed from its selection to
+-- the steps that follow.
 use Rattle.std.proofs.Common.{ℕ, ◌≡◌, ◌≢◌, ◌+◌, ◌<◌, ◌≤◌, inl, inr, Bool, true, false, List, length, refl, sym, ap, ◌∙◌, subst, arith}
 use Rattle.std.specs.Prelude.{slice_index_or, slice_set}
 use Rattle.std.proofs.lemmas.Bool.{cases_eq}
@@ -37,9 +38,9 @@ use Rattle.regalloc2_fastalloc_proofs.proofs.Debug.DefStoresIntoSlot.{Off, alloc
 use Rattle.regalloc2_fastalloc_proofs.proofs.Debug.DefStoresIntoSlot.{frees_alloc_into, off_none, moves_of}
 use Rattle.regalloc2_fastalloc_proofs.proofs.Operands.BlockTail.{tail_of}
 
--- A definition of an instruction that doesn't end its block, and its vreg's slot: the known vregs; the instructions and the places of their
--- operands; the instruction i; its operands, which are orderly, with the numbers that had a location and the clobbered places; the
--- operand d; and the slot's number n.
+-- A definition of an instruction that doesn't end its block, and its vreg's slot: the known vregs; the instructions and
+-- the places of their operands; the instruction i; its operands, which are orderly, with the numbers that had a
+-- location and the clobbered places; the operand d; and the slot's number n.
 pub record DefSlot : Type 1 where
   pub Known : VirtualRegister → Type 0
   pub insts : ℕ → InstValue

@@ -1,5 +1,7 @@
--- A vreg with no location after an instruction that reads it is, before it, in the place of the operand that is allocated first, or has a slot.
--- The fold in `Changes` of regalloc2_fastalloc_proofs doesn't apply: an operand's place is passed from its selection to the steps that follow.
+-- A vreg with no location after an instruction that reads it is, before it, in the place of the operand that is
+-- allocated first, or has a slot.
+-- The fold in `Changes` of regalloc2_fastalloc_proofs doesn't apply: an operand's place is passed from its selection to
+-- the steps that follow.
 use Rattle.std.proofs.Common.{ℕ, ◌≡◌, ◌≢◌, ◌<◌, ◌≤◌, ◌⊎◌, inl, inr, Bool, true, false, List, length, refl, sym, ap, ◌∙◌, subst, arith}
 use Rattle.std.specs.Prelude.{slice_index_or, slice_set}
 use Rattle.std.proofs.lemmas.Bool.{cases_eq}

@@ -1,4 +1,5 @@
--- If a vreg has no slot, the place of the operand that reads it last holds its value on every path from its definition to each use.
+-- If a vreg has no slot, the place of the operand that reads it last holds its value on every path from its definition
+-- to each use.
 use Rattle.std.proofs.Common.{ℕ, ◌≡◌, ◌<◌, ◌≤◌, inl, inr, true, false, List, ◌∷◌, length, refl, sym, ap, ◌∙◌, subst, arith}
 use Rattle.std.specs.Prelude.{None, Some}
 use Rattle.std.proofs.lemmas.Bool.{cases_lt}

@@ -1,4 +1,5 @@
--- The place that debug locations name for a vreg holds its value: its slot, or the place of the operand that reads it last.
+-- The place that debug locations name for a vreg holds its value: its slot, or the place of the operand that reads it
+-- last.
 use Rattle.std.proofs.Common.{ℕ, ◌≡◌, ◌<◌, ◌≤◌, inl, inr, true, false, List, length, refl, sym, ap, subst, arith}
 use Rattle.std.specs.Prelude.{Option, Contains, slice_index_or}
 use Rattle.std.proofs.lemmas.List.{get_or_default}

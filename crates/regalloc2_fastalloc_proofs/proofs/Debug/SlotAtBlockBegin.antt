@@ -1,4 +1,5 @@
--- A path enters a block: once the moves before its first instruction have run, the slot of a vreg that is live there holds its value.
+-- A path enters a block: once the moves before its first instruction have run, the slot of a vreg that is live there
+-- holds its value.
 use Rattle.regalloc2_parts.proofs.Resolving.{All-reversed}
 use Rattle.std.proofs.Common.{ℕ, ◌≡◌, ◌≢◌, ◌+◌, ◌<◌, ◌⊎◌, inl, inr, true, false, List, length, refl, sym, ap, ◌∙◌, subst, arith}
 use Rattle.std.specs.Prelude.{All, Option, Some, slice_index_or}
@@ -63,7 +64,8 @@ use Rattle.regalloc2_fastalloc_proofs.proofs.Safety.StepsKeepSafe.{rules_of}
 use Rattle.regalloc2_fastalloc_proofs.proofs.Walk.WholeWalk.{WholeWalk}
 use Rattle.regalloc2_fastalloc_proofs.proofs.Walk.FunctionLaws.{laws_of, code_of}
 
--- What is known at block starts: the places that hold vregs, on every path, and that the tables are safe along the whole walk.
+-- What is known at block starts: the places that hold vregs, on every path, and that the tables are safe along the
+-- whole walk.
 pub record AreAtBegin (env : MachineValue) (f : FunctionValue) (blank : List Place) (begin last : StateValue) (out : OutputValue)
     (stand : ℕ → VirtualRegister → Option Place) : Type 0 where
   pub arrive : Arrive f (allocs_of out) (slots_at last) stand

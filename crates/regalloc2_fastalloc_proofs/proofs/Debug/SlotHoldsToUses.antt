@@ -11,8 +11,9 @@ use Rattle.regalloc2_semantics.specs.Laws.{ReadsAgreeOnPaths}
 use Rattle.regalloc2_fastalloc_proofs.specs.Debug.SlotHoldsValue.{IsKeptInSlot, ShowsAt}
 use Rattle.regalloc2_fastalloc_proofs.proofs.Debug.PathStepLeaves.{source_on, cells_on, shows_after}
 
--- Requirements on the function, which each well-formed one meets: a step that doesn't write v neither defines it nor enters a block
--- that has it as a parameter; a branch has no next instruction in its block; and an instruction that uses v doesn't define it, and v is live there.
+-- Requirements on the function, which each well-formed one meets: a step that doesn't write v neither defines it nor
+-- enters a block that has it as a parameter; a branch has no next instruction in its block; and an instruction that
+-- uses v doesn't define it, and v is live there.
 pub record StepsArePlain (f : FunctionValue) (v : VirtualRegister) : Type 0 where
   pub undefined : (ws : List Way) (w : Way) → IsPath f (w ∷ ws) → (IsGiven f v ws w → ⊥) → Undefined (inst_at f (end_of f ws).inst).operands v
   pub aside : (ws : List Way) (w : Way) → IsPath f (w ∷ ws) → (IsGiven f v ws w → ⊥) → IsAside f v (end_of f ws) w

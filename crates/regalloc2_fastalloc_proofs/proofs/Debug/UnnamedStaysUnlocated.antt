@@ -1,4 +1,5 @@
--- A number that has no location, and that nothing in the walked part names, stays without a location, and its slot stays.
+-- A number that has no location, and that nothing in the walked part names, stays without a location, and its slot
+-- stays.
 use Rattle.std.proofs.Common.{ℕ, ◌≡◌, ◌≢◌, ◌<◌, ◌≤◌, inl, inr, Bool, true, List, length, refl, sym, ap, ◌∙◌, arith}
 use Rattle.std.specs.Prelude.{None, Some, slice_index_or}
 use Rattle.regalloc2_names.specs.Register.{VirtualRegister, no_vreg}

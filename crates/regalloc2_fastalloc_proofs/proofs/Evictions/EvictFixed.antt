@@ -204,7 +204,8 @@ module _ (tail : BlockTail) where
   abbrev pub Start : List OperandValue → (ℕ → Place) → (ℕ → Bool) → (ℕ → Bool) → Bool → InstRegs → StateValue → Type 0
   Start ops here claimed lived ends_block u t = Ready tail ops (begun here claimed lived) ends_block u t
 
-  -- The fixed registers of the first k operands are emptied and claimed; b has the available registers from which all are removed.
+  -- The fixed registers of the first k operands are emptied and claimed; b has the available registers from which all
+  -- are removed.
   pub record FixedUpTo (ops : List OperandValue) (lived : ℕ → Bool) (ends_block : Bool) (b : InstRegs) (old : StateValue) (k : ℕ) (u : InstRegs)
       (t : StateValue) : Type 0 where
     pub here : ℕ → Place
@@ -302,7 +303,8 @@ module _ (tail : BlockTail) where
         ];
       }
 
-  -- once the fixed registers of the first k operands are evicted, these operands claim them, and the record of the operands is kept
+  -- once the fixed registers of the first k operands are evicted, these operands claim them, and the record of the
+  -- operands is kept
   pub evicts_fixed_done : (ops : List OperandValue) (lived : ℕ → Bool) (ends_block : Bool) (b : InstRegs) (old : StateValue) → Orderly ops → Reserved ops b old →
       FixedUpTo ops lived ends_block b old 0 b old →
       (k : ℕ) (u : InstRegs) (t : StateValue) → EvictsFixed (after i) ops b old k u t → k ≤ length ops → FixedUpTo ops lived ends_block b old k u t

@@ -54,7 +54,8 @@ scratch_of_edits t es c u b (taken e) = taken e
 module _ (tail : BlockTail) where
   open tail use {Known, insts, placesf, i, n, E}
 
-  -- after an eviction: no vreg is in the register, and the records of the operands' places, scratch registers and listing are kept
+  -- after an eviction: no vreg is in the register, and the records of the operands' places, scratch registers and
+  -- listing are kept
   pub record Cleared (what : ℕ → What) (far : Progress) (r : Register)
       (u : InstRegs) (old new : StateValue) : Type 0 where
     pub located : Located what far new

@@ -110,8 +110,8 @@ shift_kept old new v r s h others here slots machine =
 module _ (tail : BlockTail) where
   open tail use {Known, insts, placesf, i, n, E}
 
-  -- a register is emptied whose vreg was live, and in which no definition is placed; what the listing carries may be stated of tables in which
-  -- another vreg is elsewhere
+  -- a register is emptied whose vreg was live, and in which no definition is placed; what the listing carries may be
+  -- stated of tables in which another vreg is elsewhere
   pub record Emptied (what : ℕ → What) (far : Progress) (r : Register)
       (old new : StateValue) : Type 0 where
     pub located : Located what far new
@@ -120,7 +120,8 @@ module _ (tail : BlockTail) where
     pub others : (x : ℕ) → (place_in old x ≡ InRegister r → ⊥) → place_in new x ≡ place_in old x
     pub kept : Kept old new
 
-  -- evicting an allocatable register empties it, moves no other vreg, and keeps the record of the operands with the reload listed
+  -- evicting an allocatable register empties it, moves no other vreg, and keeps the record of the operands with the
+  -- reload listed
   pub evicts_vreg_step : (what : ℕ → What) (far : Progress) (r : Register)
       (old new : StateValue) → EvictsVReg (after i) r old new →
       ((x : ℕ) → location_at old x ≡ Some (InRegister r) → (far.lived x ≡ true) × ((u : ℕ) → far.made_at (InRegister r) u ≡ false)) →

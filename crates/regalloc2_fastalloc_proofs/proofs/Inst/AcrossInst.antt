@@ -91,7 +91,8 @@ use_arrives what far done2 old new k v u same real nowhere unmade z slots w st =
 abbrev pub lives_in : StateValue → ℕ → Bool
 lives_in t x = is_some (location_at t x)
 
--- before any operand of an instruction is allocated, the record of its operands holds, and vregs with a location are live
+-- before any operand of an instruction is allocated, the record of its operands holds, and vregs with a location are
+-- live
 pub located_at_begin : (what : ℕ → What) (here : ℕ → Place) (t : StateValue) → IsWhole t →
     Located what (at_begin here (lives_in t)) t
 located_at_begin what here t w = record {

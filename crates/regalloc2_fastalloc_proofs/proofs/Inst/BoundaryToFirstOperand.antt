@@ -90,8 +90,9 @@ late_by : (d l : Bool) → (d ≡ true) ⊎ (l ≡ true) → (d || l) ≡ true
 late_by d l h = elim h [ inl e ↦ or_left d l e | inr e ↦ or_right d l e ]
 
 module _ (Known : VirtualRegister → Type 0) (insts : ℕ → InstValue) (placesf : ℕ → List Place) (E : VirtualRegister → Place → Type 0) where
-  -- What holds before the instruction i, with n instructions from it on: no move is before it, the listing carries each known vreg from its location and,
-  -- unless out excludes it, from its slot, and no vreg is in a register reserved for moves.
+  -- What holds before the instruction i, with n instructions from it on: no move is before it, the listing carries each
+  -- known vreg from its location and, unless out excludes it, from its slot, and no vreg is in a register reserved for
+  -- moves.
   pub record CarriedBut (out : ℕ → Bool) (i n : ℕ) (t : StateValue) : Type 0 where
     pub whole : IsWhole t
     pub later : AllFrom (before i) (listed t.edits)

@@ -82,7 +82,8 @@ module _ (tail : BlockTail) where
     pub owes : OwesPlaces tail far.lived need far.made_at (location_at new) (slots_at new) new.edits
     pub kept : Kept old new
 
-  -- The target needs a vreg that is being moved; with the move, its source does. The vreg has no location in the tables.
+  -- The target needs a vreg that is being moved; with the move, its source does. The vreg has no location in the
+  -- tables.
   pub record MovesNeed (lived need need2 : ℕ → Bool) (X : Place → ℕ → Bool) (v : ℕ) (c : Option Place) (from to : Place) (m : StateValue) : Type 0 where
     pub moved : (x : ℕ) → Need lived need X (put (location_at m) v c) (slots_at m) x to → Need lived need2 X (location_at m) (slots_at m) x from
     pub others : (x : ℕ) (q : Place) → (q ≡ to → ⊥) → Need lived need X (put (location_at m) v c) (slots_at m) x q →
@@ -106,7 +107,8 @@ module _ (tail : BlockTail) where
     small = small;
   }
 
-  -- a move added after the instruction for a vreg that is being moved keeps the record: its value is needed at the source from then on
+  -- a move added after the instruction for a vreg that is being moved keeps the record: its value is needed at the
+  -- source from then on
   pub adds_move_step : {ops : List OperandValue} {far : Progress} {need need2 : ℕ → Bool}
       {ends_block : Bool} (v : ℕ) (c : Option Place) {class : RegClass} {from to : Place} {t u : InstRegs} {old new : StateValue} →
       AddsMove (after i) class from to t u old new → to ≢ NoPlace → place_in old v ≡ NoPlace → (c ≡ Some to) ⊎ (c ≡ None) →

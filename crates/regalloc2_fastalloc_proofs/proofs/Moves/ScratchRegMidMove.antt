@@ -98,7 +98,8 @@ module _ (tail : BlockTail) where
             ∙ after_part-more insts (record { from = s; to = InRegister r }) old.edits placesf i n)) moves;
       }
 
-  -- a scratch register, while the number v is being moved from c, which isn't the scratch register; need: whose slots aren't needed
+  -- a scratch register, while the number v is being moved from c, which isn't the scratch register; need: whose slots
+  -- aren't needed
   pub record ScratchedBut (what : ℕ → What) (far : Progress) (need : ℕ → Bool)
       (u : InstRegs) (by : Register) (v : ℕ) (c : Option Place) (old new : StateValue) : Type 0 where
     pub located : Located what far new

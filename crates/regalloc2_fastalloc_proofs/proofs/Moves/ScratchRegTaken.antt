@@ -24,7 +24,8 @@ pub data IsScratch (class : RegClass) (u : InstRegs) (t : StateValue) (by : Regi
   of_machine : slice_index_or t.dedicated_scratch (class_code class) None ≡ Some by → IsScratch class u t by
   taken : slice_index_or u.scratch (class_code class) None ≡ Some by → IsScratch class u t by
 
--- the machine's registers: allocatable ones, fixed stack slots and the ones reserved for moves are disjoint, and have numbers below 64
+-- the machine's registers: allocatable ones, fixed stack slots and the ones reserved for moves are disjoint, and have
+-- numbers below 64
 pub record Fit (t : StateValue) : Type 0 where
   pub small : (r : Register) → (has_register t.allocatable r ≡ true) ⊎ (has_register t.fixed_stack r ≡ true) → r.number < 64
   pub stack_apart : (r : Register) → has_register t.allocatable r ≡ true → has_register t.fixed_stack r ≡ false

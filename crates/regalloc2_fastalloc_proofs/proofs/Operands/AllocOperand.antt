@@ -1,4 +1,5 @@
--- An operand gets its place: its vreg's location, or its vreg's slot, or a free register, or the register that it claimed before.
+-- An operand gets its place: its vreg's location, or its vreg's slot, or a free register, or the register that it
+-- claimed before.
 -- The fold in `Changes` doesn't apply: what the listing carries, or the operands' record, differs from step to step.
 use Rattle.std.proofs.Common.{ℕ, ◌≡◌, ◌≢◌, ◌<◌, Bool, true, false, cond, List, refl, sym, ap, ◌∙◌, subst, inl, inr, ◌⊎◌, ⊎_elim, nat_eq, eq-eqb}
 use Rattle.std.specs.Prelude.{None, Some, not, slice_index_or}
@@ -66,7 +67,8 @@ set_at_same here k j p e = ap (λ b. cond b p (here j)) (eq-eqb j k e)
 pub set_at_other : (here : ℕ → Place) (k j : ℕ) (p : Place) → (j ≡ k → ⊥) → set_at here k p j ≡ here j
 set_at_other here k j p ne = ap (λ b. cond b p (here j)) (ne_eqb j k ne)
 
--- operand k, which had claimed nothing, claims the place that it is given; the others have the places and claims that they had
+-- operand k, which had claimed nothing, claims the place that it is given; the others have the places and claims that
+-- they had
 pub puts_one : (here : ℕ → Place) (claimed : ℕ → Bool) (k : ℕ) (p : Place) → claimed k ≡ false → Puts here (set_at here k p) claimed (and_one claimed k) k p
 puts_one here claimed k p f = record {
   fresh = f;
@@ -100,8 +102,9 @@ pub evicts_other_vregs_own : (point : ℕ) (r : Register) (v : VirtualRegister) 
 evicts_other_vregs_own point r v t u old new (own w there same eu en) whole at = (eu, en)
 evicts_other_vregs_own point r v t u old new (others other c) whole at = let x = whole.stands_in v.number r at in absurd (other x.1.0 x.1.2 x.1.1)
 
--- The operand k is next, and isn't placed yet: its request, at positions that cover its own; the registers and the tables before it
--- (t, old); and the registers (u) and the place (p) that it ends with. Once late uses are placed, no early use is.
+-- The operand k is next, and isn't placed yet: its request, at positions that cover its own; the registers and the
+-- tables before it (t, old); and the registers (u) and the place (p) that it ends with. Once late uses are placed, no
+-- early use is.
 pub record NextOperand (tail : BlockTail) (ops : List OperandValue) (far : Progress) (ends_block : Bool) : Type 0 where
   pub k : ℕ
   pub o : OperandRequest

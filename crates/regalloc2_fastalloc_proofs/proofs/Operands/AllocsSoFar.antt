@@ -140,7 +140,8 @@ pub record Filled (env : MachineValue) (Known : VirtualRegister → Type 0) (Wri
       ⊎ (IsGood env t.slots (op_at ops j) (at_place there j) × IsInRegister (at_place there j))
   pub found : (j : ℕ) → j < length ops → done j → is_reading (op_at ops j) ≡ true → alloc_of t.places (op_at ops j).vreg.number ≢ NoPlace
 
--- The slots that an instruction may write: after it, the slots of the vregs that it defines; before it, the slots in which it reads.
+-- The slots that an instruction may write: after it, the slots of the vregs that it defines; before it, the slots in
+-- which it reads.
 abbrev pub DefsAreWritten : (ℕ → VirtualRegister → ℕ → Type 0) → ℕ → List OperandValue → Type 0
 DefsAreWritten Writes i ops = (k n : ℕ) → k < length ops → is_def (op_at ops k).kind ≡ true → Writes (after i) (op_at ops k).vreg n
 
@@ -157,8 +158,8 @@ reuse_register env c n p e h = subst (λ x. MeetsByItself env x p) e h
 pub no_place_register : (p : Place) → p ≡ NoPlace → IsInRegister p → ⊥
 no_place_register p e h = subst IsInRegister e h
 
--- An instruction's operands, which get their places one after another: the machine; the known vregs; the slots into which the walk may write a
--- vreg's value, and the points where moves may be; and the operands, which are sound.
+-- An instruction's operands, which get their places one after another: the machine; the known vregs; the slots into
+-- which the walk may write a vreg's value, and the points where moves may be; and the operands, which are sound.
 pub record FillingContext : Type 1 where
   pub env : MachineValue
   pub Known : VirtualRegister → Type 0

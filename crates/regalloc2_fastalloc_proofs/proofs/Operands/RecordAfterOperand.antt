@@ -1,4 +1,5 @@
--- An operand that got its place is placed: a use's vreg is there if it had no location, a definition's vreg leaves the tables.
+-- An operand that got its place is placed: a use's vreg is there if it had no location, a definition's vreg leaves the
+-- tables.
 use Rattle.std.proofs.Common.{ℕ, ◌≡◌, ◌≢◌, Bool, true, false, cond, List, refl, sym, ap, ◌∙◌, subst, inl, inr, ◌⊎◌, ⊎_elim, nat_eq, eq-eqb}
 use Rattle.std.specs.Prelude.{None, ◌&&◌}
 use Rattle.std.proofs.lemmas.Bool.{cases_Bool, cases_eq, eqb-true}
@@ -43,7 +44,8 @@ keeps_true : (a c : Bool) → c ≡ true → cond a true c ≡ true
 keeps_true true c e = refl
 keeps_true false c e = e
 
--- operand k's definition adds its number to the defined numbers, and its value to the written values, in its place; nothing else is added
+-- operand k's definition adds its number to the defined numbers, and its value to the written values, in its place;
+-- nothing else is added
 pub makes_one : (ops : List OperandValue) (here : ℕ → Place) (out : ℕ → Bool) (X : Place → ℕ → Bool) (k : ℕ) →
     PlacesDefinition (what_of ops) here out (and_one out (op_at ops k).vreg.number) X (made_one X (here k) (op_at ops k).vreg.number) k
 makes_one ops here out X k = record {

@@ -260,7 +260,8 @@ located_after_shift old new v r s w h what far l st =
 module _ (tail : BlockTail) where
   open tail use {Known, insts, placesf, i, n, E}
 
-  -- no edit is before the point after the instruction, and what is listed from there on carries each known vreg from where it is needed
+  -- no edit is before the point after the instruction, and what is listed from there on carries each known vreg from
+  -- where it is needed
   pub record OwesPlaces (lived out : ℕ → Bool) (X : Place → ℕ → Bool) (T S : ℕ → Option Place) (edits : List (ℕ × MoveValue)) : Type 0 where
     pub later : AllFrom (after i) (listed edits)
     pub claims : Claims Known (after_part insts (listed edits) placesf i n) (Need lived out X T S) E

@@ -379,6 +379,7 @@ module _ (laying : LayingContext) (late : Bool) (k : ℕ) (list : List Place) (u
           (and_one_keeps got.claimed2 q k got.claims) (makes_one ops got.there L.out L.X k).keeps
           (λ e. ap (λ z. X2 z (op_at ops k).vreg.number) (set_at_other got.there q k p (λ h. apart (sym h))) ∙ (makes_one ops got.there L.out L.X k).is_made)
 
-    -- allocating operand k as a reuse keeps the record of the pass: k is done, and the use that it names has claimed the same place
+    -- allocating operand k as a reuse keeps the record of the pass: k is done, and the use that it names has claimed
+    -- the same place
     pub laid_reuse : Laid tail ops lived clob ends_block late (k + 1) (slice_set (slice_set list k p) q p) w m
     laid_reuse = elim (orderly.named_as k q lt reuse) [ inl a ↦ laid_any a | inr a ↦ laid_fixed a.0 a.1 ]

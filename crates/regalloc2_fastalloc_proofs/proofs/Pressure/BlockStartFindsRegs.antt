@@ -1,4 +1,5 @@
--- At a block's start registers suffice: all registers are available, and nothing is needed but the reserved scratch register.
+-- At a block's start registers suffice: all registers are available, and nothing is needed but the reserved scratch
+-- register.
 use Rattle.std.proofs.Common.{ℕ, ◌≡◌, ◌≢◌, ◌<◌, true, List, length, slice_index_or}
 use Rattle.std.specs.Prelude.{not}
 use Rattle.regalloc2_names.specs.Register.{VirtualRegister, no_vreg}

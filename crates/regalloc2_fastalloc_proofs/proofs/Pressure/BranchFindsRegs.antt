@@ -1,4 +1,5 @@
--- A branch passes its arguments: the reserved scratch register is left, and where there are moves of a class it has a register.
+-- A branch passes its arguments: the reserved scratch register is left, and where there are moves of a class it has a
+-- register.
 use Rattle.std.proofs.Common.{ℕ, suc, ◌≡◌, ◌<◌, true, false, List, [], ◌∷◌, length, refl, sym, subst, inl, inr, arith, slice_index_or}
 use Rattle.std.specs.Prelude.{All}
 use Rattle.std.proofs.lemmas.Bool.{cases_Bool}

@@ -57,12 +57,14 @@ pub held_same : (Known : VirtualRegister → Type 0) (old new : StateValue) → 
 held_same Known old new e h = subst (λ (x : VRegAllocsValue). (r : Register) (v : VirtualRegister) → r.number < 64 → vreg_of_preg x r ≡ Some v → Known v
     × (r.class ≡ v.class)) (sym e) h
 
--- An operand's register is paid for: if its place is a register that is free at both positions, enough are left without it.
+-- An operand's register is paid for: if its place is a register that is free at both positions, enough are left without
+-- it.
 abbrev pub IsPaid : (RegClass → ℕ) → OperandRequest → Place → InstRegs → StateValue → Type 0
 IsPaid needed o p t old = (r : Register) → p ≡ InRegister r → is_free old.allocatable t r ≡ true →
     needed r.class + scratch_reserve_left old.fixed_stack old.dedicated_scratch t r.class + 1 ≤ free_count old.allocatable t r.class
 
--- The named classes; a machine, whose kinds of registers are disjoint; the known vregs, of such classes; and the point of the moves.
+-- The named classes; a machine, whose kinds of registers are disjoint; the known vregs, of such classes; and the point
+-- of the moves.
 pub record Naming : Type 1 where
   pub Named : RegClass → Type 0
   pub env : MachineValue

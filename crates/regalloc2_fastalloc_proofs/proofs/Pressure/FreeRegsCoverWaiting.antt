@@ -1,4 +1,5 @@
--- While operands are allocated, at least as many registers are free as operands wait for one; each takes its own, or one that can be spared.
+-- While operands are allocated, at least as many registers are free as operands wait for one; each takes its own, or
+-- one that can be spared.
 use Rattle.regalloc2_parts.proofs.RegisterLaws.{class_codes}
 use Rattle.std.proofs.Common.{ℕ, zero, suc, [], ◌∷◌, ◌≡◌, ◌+◌, ◌-◌, ◌<◌, ◌≤◌, Bool, true, false, List, length, refl, sym, ap, ◌∙◌, subst, arith, inl, inr}
 use Rattle.std.proofs.Common.{◌⊎◌, get_or-set_same, set}
@@ -28,8 +29,9 @@ use Rattle.regalloc2_fastalloc_proofs.specs.Pressure.EnoughRegs.{HasEnoughRegs, 
 use Rattle.regalloc2_fastalloc_proofs.proofs.Pressure.TablesHaveAllRegs.{HasAll}
 use Rattle.regalloc2_fastalloc_proofs.proofs.Pressure.ClaimLeavesEnough.{IsPaid}
 
--- While operands are allocated: enough registers are free for the waiting operands, which are counted. A register that an operand has, or is fixed to, is
--- no longer free. If an operand that isn't done has a register already, a reuse that is done names it.
+-- While operands are allocated: enough registers are free for the waiting operands, which are counted. A register that
+-- an operand has, or is fixed to, is no longer free. If an operand that isn't done has a register already, a reuse that
+-- is done names it.
 pub record Paying (Named : RegClass → Type 0) (ops : List OperandValue) (done : ℕ → Type 0) (here : List Place) (u : InstRegs) (t : StateValue) : Type 0 where
   pub ample : HasEnoughRegs Named (waiting ops here) u t
   pub awaited : (c : RegClass) → awaited_of u c ≡ waiting ops here c
@@ -70,7 +72,8 @@ placed_register_is_not_free point o p t u old new g some set r is = by_case g.ta
               (held o.positions.late (is_register q r) (has_register m.late r) (has_register u.late r) (holds.late r) late it))
         ]
 
--- How an operand's place changes the waiting operands: an operand that requires any register no longer waits, and other operands change nothing.
+-- How an operand's place changes the waiting operands: an operand that requires any register no longer waits, and other
+-- operands change nothing.
 pub data Pays (ops : List OperandValue) (here there : List Place) (v : VirtualRegister) (w : Requirement) (t : InstRegs) (old : StateValue) : Type 0 where
   waited : w ≡ AnyReg → waiting ops here v.class ≡ waiting ops there v.class + 1 →
       ((c : RegClass) → (class_code c ≡ class_code v.class → ⊥) → waiting ops there c ≡ waiting ops here c) → Pays ops here there v w t old

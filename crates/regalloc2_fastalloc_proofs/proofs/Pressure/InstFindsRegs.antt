@@ -1,4 +1,5 @@
--- An instruction that fits is allocated: registers suffice at each of its stages, and its reserved scratch register is left for its branch.
+-- An instruction that fits is allocated: registers suffice at each of its stages, and its reserved scratch register is
+-- left for its branch.
 use Rattle.std.proofs.Common.{ℕ, ◌≡◌, ◌<◌, true, false, List, length, refl, sym, ◌∙◌, inl, inr, arith}
 use Rattle.std.specs.Prelude.{not, slice_index_or}
 use Rattle.std.proofs.lemmas.Bool.{and_left, and_right}
@@ -50,8 +51,9 @@ holds_less clobbers t u h = record {
   late = λ q e. h.late q ∙ rw e (and_right (not (has_register clobbers q)) false refl);
 }
 
--- The instruction i, which fits: the function and a machine, whose kinds of registers are disjoint; the known vregs, of classes that the function names;
--- the tables after the instruction, safe and with all registers; and the registers and the list of places with which it begins.
+-- The instruction i, which fits: the function and a machine, whose kinds of registers are disjoint; the known vregs, of
+-- classes that the function names; the tables after the instruction, safe and with all registers; and the registers and
+-- the list of places with which it begins.
 pub record FittingInst : Type 1 where
   pub f : FunctionValue
   pub env : MachineValue

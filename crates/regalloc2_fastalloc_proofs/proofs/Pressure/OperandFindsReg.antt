@@ -43,7 +43,8 @@ requires_any_reg c r l e = absurd cc
 not_under : (c d : OperandConstraint) → c ≡ d → is_under_reg d ≡ false → is_under_reg c ≡ false
 not_under c d e h = ap is_under_reg e ∙ h
 
--- The operand k is next: the operands that satisfy D have places, paid for by the registers that are left in the named classes.
+-- The operand k is next: the operands that satisfy D have places, paid for by the registers that are left in the named
+-- classes.
 pub record CountedOperand (env : MachineValue) (Known : VirtualRegister → Type 0) (ops : List OperandValue) : Type 1 where
   pub Named : RegClass → Type 0
   pub fixed : FixedAreKnown env ops

@@ -1,5 +1,6 @@
 -- One operand after another is placed, and enough registers are left for the waiting operands.
--- The fold in `Changes` of regalloc2_fastalloc_proofs doesn't apply: an operand's place is passed from its selection to the steps that follow.
+-- The fold in `Changes` of regalloc2_fastalloc_proofs doesn't apply: an operand's place is passed from its selection to
+-- the steps that follow.
 use Rattle.std.proofs.Common.{ℕ, ◌≡◌, ◌≢◌, ◌<◌, Bool, true, false, List, length, refl, sym, ap, ◌∙◌, subst, inl, inr, ◌⊎◌, arith, get_or-set_same, set}
 use Rattle.std.specs.Prelude.{not, ◌&&◌}
 use Rattle.std.proofs.lemmas.Bool.{cases_eq, and_right, both_ways}
@@ -63,8 +64,8 @@ written_or here k q lt j = elim (cases_eq j k) [
   | inr ne ↦ inl (get_or-set_other here k j q NoPlace ne)
 ]
 
--- The operands of the instruction i, which ends its block or not, sound and fixed to registers of the machine, whose kinds of registers are disjoint; the named
--- classes; the known vregs, of such classes; and slots that exist at least.
+-- The operands of the instruction i, which ends its block or not, sound and fixed to registers of the machine, whose
+-- kinds of registers are disjoint; the named classes; the known vregs, of such classes; and slots that exist at least.
 pub record NamedOperands : Type 1 where
   pub Named : RegClass → Type 0
   pub env : MachineValue

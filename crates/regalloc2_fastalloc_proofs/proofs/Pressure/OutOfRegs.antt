@@ -191,7 +191,8 @@ pub record AreFresh (env : MachineValue) (old : StateValue) : Type 0 where
   pub allocatable : (r : Register) → is_allocatable env r.class r ≡ true → has_register old.allocatable r ≡ true
   pub dedicated_scratch : old.dedicated_scratch ≡ env.scratch
 
--- From the tables with which the walk begins: if the walk runs out of registers, it does so at an instruction that doesn't fit.
+-- From the tables with which the walk begins: if the walk runs out of registers, it does so at an instruction that
+-- doesn't fit.
 pub walk_stops : {f : FunctionValue} {env : MachineValue} → MachineFits f env → IsLimited f → IsWellFormed env f → AreTaken f
     → {blank : List Place} {old : StateValue} → AreFresh env old → AllocBlocks f blank old no_register →
     (i : ℕ) × (i < length f.insts) × (Fits f env (inst_at f i) → ⊥)

@@ -94,8 +94,8 @@ module _ (Named : RegClass → Type 0) (needed : RegClass → ℕ) (point : ℕ)
       subst (HasEnoughRegs Named needed u) (sym en) (ample_allocs_scratch_reg class t u by old m scratches three (stack two) h)
   ample_add_move {class} {t} {old} (no_scratch two none) named three stack h = some_scratch class t old none named (stack two) h
 
--- The demand for registers: the named classes; how many registers of each are needed; the point of the moves; a machine,
--- whose kinds of registers are disjoint; and the known vregs, of named classes.
+-- The demand for registers: the named classes; how many registers of each are needed; the point of the moves; a
+-- machine, whose kinds of registers are disjoint; and the known vregs, of named classes.
 pub record Demand : Type 1 where
   pub Named : RegClass → Type 0
   pub needed : RegClass → ℕ

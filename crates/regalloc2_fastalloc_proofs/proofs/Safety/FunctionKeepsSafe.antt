@@ -1,4 +1,5 @@
--- The whole walk over a well-formed function with any number of blocks keeps the tables safe, and what holds at its end.
+-- The whole walk over a well-formed function with any number of blocks keeps the tables safe, and what holds at its
+-- end.
 use Rattle.std.proofs.Common.{ℕ, ◌≡◌, ◌≢◌, ◌+◌, ◌<◌, ◌≤◌, ◌⊎◌, ◌||◌, ◌&&◌, Bool, true, false, List, [], length, nat_eq, nat_lt, eq-eqb, refl, sym, ap, inl}
 use Rattle.std.proofs.Common.{inr, subst, arith}
 use Rattle.std.specs.Prelude.{All, slice_index_or}
@@ -56,8 +57,8 @@ SafeWithin env f blank old places = (b : ℕ) → b < length f.blocks → (p : L
     (q : List Place) (u : StateValue) → AllocsBlockInsts f b p s i q u → AreLast f places i q →
     IsSafe env (Made f) (WritesFrom f places (b + 1)) (MayInBlocks f) u
 
--- A walk over all blocks of a well-formed function whose machine fits, from the tables at the start: no vreg has a place or a slot and no move is listed, slots
--- have at least one unit, and registers are the machine's.
+-- A walk over all blocks of a well-formed function whose machine fits, from the tables at the start: no vreg has a
+-- place or a slot and no move is listed, slots have at least one unit, and registers are the machine's.
 pub record FreshWalk : Type 0 where
   pub env : MachineValue
   pub f : FunctionValue

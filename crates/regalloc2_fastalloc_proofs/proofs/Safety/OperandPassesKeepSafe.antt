@@ -1,5 +1,6 @@
 -- The passes over an instruction's operands keep the tables safe and fill the places.
--- The fold in `Changes` serves its evictions alone: an operand's place is passed from its selection to the steps that follow.
+-- The fold in `Changes` serves its evictions alone: an operand's place is passed from its selection to the steps that
+-- follow.
 use Rattle.regalloc2_carry.proofs.Operands.{reads_use}
 use Rattle.std.proofs.Common.{ℕ, ◌≡◌, ◌≢◌, ◌+◌, ◌<◌, ◌≤◌, List, Bool, true, false, refl, sym, ap, ◌∙◌, ◌⊎◌, inl, inr, subst, arith, length, set}
 use Rattle.std.proofs.lemmas.Bool.{cases_eq, false_from_ne_true, true_from_ne_false, both_ways}
@@ -40,8 +41,9 @@ shared_register env slots v w NoPlace h e place = place
 shared_register env slots v w (InRegister r) h e place = (place.0, place.1 ∙ e)
 shared_register env slots v w (InSlot n) h e place = absurd h
 
--- The two passes over an instruction's operands, on a machine whose kinds of registers are disjoint: the operands are fixed to registers of the machine only;
--- moves may follow the instruction, which ends its block or not, and its definitions may be written.
+-- The two passes over an instruction's operands, on a machine whose kinds of registers are disjoint: the operands are
+-- fixed to registers of the machine only; moves may follow the instruction, which ends its block or not, and its
+-- definitions may be written.
 pub record PassesContext : Type 1 where
   pub filling : FillingContext
   pub apart : AreKindsApart filling.env

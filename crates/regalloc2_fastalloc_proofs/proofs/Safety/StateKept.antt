@@ -1,4 +1,5 @@
--- What several steps that add temporary slots keep of the tables; and an instruction whose fields are known, with the registers that it leaves.
+-- What several steps that add temporary slots keep of the tables; and an instruction whose fields are known, with the
+-- registers that it leaves.
 use Rattle.std.proofs.Common.{ℕ, ◌≡◌, ◌+◌, ◌-◌, ◌*◌, ◌<◌, ◌≤◌, Bool, true, false, List, length, refl, sym, ap, ◌∙◌, subst, inl, inr, arith}
 use Rattle.std.specs.Prelude.{if◌then◌else◌, All, Option, None, slice_index_or}
 use Rattle.std.proofs.Math.Nat.{mul-le-mul_right}
@@ -65,7 +66,8 @@ lacks_all k j most a b h few e = resource_error_weaken (SlotsExhaustedWith b.slo
     (full_kept b.slots a.slots (b.slots.num_temp_slots + j) (a.slots.num_temp_slots + most) h.sizes h.vregs (let l = h.num_temp_slots in omega (arith, l, few)))
     e
 
--- a resource error of a later state is one of an earlier state, if the temporary slots that may be added between are counted
+-- a resource error of a later state is one of an earlier state, if the temporary slots that may be added between are
+-- counted
 pub lack_all : (k most : ℕ) (a b : StateValue) → AddsTempSlotsAtMost k a b → k ≤ most → (e : RegAllocError) → IsResourceErrorIn b.slots e →
     IsResourceError (SlotsExhaustedWith a.slots (a.slots.num_temp_slots + most)) e
 lack_all k most a b h few e = resource_error_weaken (SlotsExhaustedWith b.slots b.slots.num_temp_slots) (SlotsExhaustedWith a.slots (a.slots.num_temp_slots + most))

@@ -171,7 +171,8 @@ module _ (old new : StateValue) (v : VirtualRegister) (r : Register) (lt : r.num
           let ne : u.number ≢ v.number = λ y. let z : NoPlace ≡ InRegister q = sym nowhere ∙ ap (place_in old) (sym y) ∙ there in cc in
           s.others u.number ne ∙ there
 
-  -- once a vreg has moved to an empty register, each vreg that is located in a register is the one that this register has
+  -- once a vreg has moved to an empty register, each vreg that is located in a register is the one that this register
+  -- has
   pub arrive_stands : (n : ℕ) (q : Register) → place_in new n ≡ InRegister q → (q.number < 64)
       × ((u : VirtualRegister) × (u.number ≡ n) × (vreg_of_preg new.places q ≡ Some u))
   arrive_stands n q h = elim (cases_eq n v.number) [

@@ -1,4 +1,5 @@
--- In a well-formed function on a machine that fits: what a block's start stores is defined, of one class, and fixed to a register of that class.
+-- In a well-formed function on a machine that fits: what a block's start stores is defined, of one class, and fixed to
+-- a register of that class.
 use Rattle.std.proofs.Common.{ℕ, ◌≡◌, ◌+◌, ◌<◌, List, true, inl, inr, length, map, refl, sym, ap, ◌∙◌, subst, arith}
 use Rattle.std.specs.Prelude.{None, Some, slice_index_or, if◌then◌else◌}
 use Rattle.std.proofs.lemmas.List.{get_or-map}
@@ -80,7 +81,8 @@ fixed_class : (c : OperandConstraint) (class : RegClass) (r : Register) → IsCo
 fixed_class (FixedReg g) class r of is = (let same : g ≡ r = cc in subst (λ (x : Register). x.class ≡ class) same of.1)
 fixed_class c class r of is = cc
 
--- what the operand j of the branch at the end of the block e defines is of v's class, and so is the register that it is fixed to
+-- what the operand j of the branch at the end of the block e defines is of v's class, and so is the register that it is
+-- fixed to
 pub record IsStoredOfClass (f : FunctionValue) (e j : ℕ) (v : VirtualRegister) : Type 0 where
   pub class : (op_at (branch_operands f e) j).vreg.class ≡ v.class
   pub fixed : (r : Register) → fixed_definition (op_at (branch_operands f e) j) ≡ Some r → r.class ≡ v.class

@@ -184,7 +184,8 @@ picked_same inst_regs o p old new any (slot asks gives places edits machine orde
     absurd (elim asks [ inl a ↦ (let wrong : AnyPlace ≡ AnyReg = sym a ∙ any in cc) | inr b ↦ (let wrong : InMemory ≡ AnyReg = sym b ∙ any in cc) ])
 picked_same inst_regs o p old new any (free r asks away may is_free first at same) = same
 
--- The result: the operand has a register, only the order of use changes, and the vreg was there or nowhere, and no other vreg was there.
+-- The result: the operand has a register, only the order of use changes, and the vreg was there or nowhere, and no
+-- other vreg was there.
 pub record Got (names : List VirtualRegister) (gone : ℕ → Bool) (o : OperandRequest) (p : Place) (u : InstRegs) (old new : StateValue) : Type 0 where
   pub register : Register
   pub is : p ≡ InRegister register

@@ -85,8 +85,8 @@ begin_between f begin empty fit = (let c = at_start (λ v. ⊥) (inst_at f) (λ 
 pub first_edge : (f : FunctionValue) → BlocksFollow f → 0 < length f.blocks → IsEdge f 0 0
 first_edge f follow some = (λ h. sym ((follow 0 h).1 refl), λ e. absurd (omega (arith, some, e)))
 
--- An output has the walk's moves and places. If a branch carries what it must, and every other instruction leaves slots to their vregs,
--- each block of the output carries what the lemma on paths requires.
+-- An output has the walk's moves and places. If a branch carries what it must, and every other instruction leaves slots
+-- to their vregs, each block of the output carries what the lemma on paths requires.
 module _ (carrying : CarryingContext) (out : OutputValue) (some : 0 < length carrying.laws.f.blocks)
     (walks : AllocsBlocks carrying.laws.f carrying.blank carrying.begin 0 out.allocs carrying.final) (edits : out.edits ≡ listed carrying.final.edits)
     (are_listed : AreListed carrying.laws.f carrying.placesf 0 out.allocs) where

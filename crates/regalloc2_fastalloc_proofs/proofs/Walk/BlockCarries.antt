@@ -77,7 +77,8 @@ pub record BlockEnd (f : FunctionValue) (placesf : ℕ → List Place) (F : ℕ 
   pub lives : (v : VirtualRegister) → writes_in f b last v.number ≡ true → (c : ℕ) → c < length f.blocks → c ≢ b → IsUsedIn f c v →
       place_in old v.number ≢ NoPlace
 
--- What the last instruction of a block carries: each vreg that is used somewhere, except for parameters of which nothing is required.
+-- What the last instruction of a block carries: each vreg that is used somewhere, except for parameters of which
+-- nothing is required.
 abbrev pub EndCarries : FunctionValue → (ℕ → List Place) → (ℕ → Option Place) → (ℕ → VirtualRegister → Option Place) → ℕ → ℕ → StateValue → Type 0
 EndCarries f placesf F stand b last new = ExcusedAreSilent f b → (v : VirtualRegister) → IsUsed f v → (IsExcused f b v → ⊥) →
     Carries v (walked (inst_at f) (at_point (listed new.edits)) placesf last 1)
@@ -103,9 +104,9 @@ IsPassedOnly f v = (b e k : ℕ) × IsEdgeInto f b e k × IsOwnDef f e v × (IsU
 abbrev pub ComesBefore : ℕ → ℕ → Type 0
 ComesBefore i p = p < before i
 
--- The context for blocks to carry each vreg: the function's properties; the places of operands and the final tables, whose slots all instructions keep if the
--- tables are safe (SafeIn); where vregs are at block starts, and what edges bring there; branches that carry; and the fresh tables from which
--- the walk, safe throughout, begins.
+-- The context for blocks to carry each vreg: the function's properties; the places of operands and the final tables,
+-- whose slots all instructions keep if the tables are safe (SafeIn); where vregs are at block starts, and what edges
+-- bring there; branches that carry; and the fresh tables from which the walk, safe throughout, begins.
 pub record CarryingContext : Type 1 where
   pub laws : FunctionLaws
   open laws use {f, follow, ends, proper, kept}

@@ -71,7 +71,8 @@ module _ (code : ProperCode) (once : DefinedOnce code.f) (reads : (i : ℕ) → 
   abbrev pub EachLeaves : ℕ → StateValue → StateValue → Type 0
   EachLeaves i t u = (v : VirtualRegister) → Known v → LeavesOwnSlot f placesf F v i t u
 
-  -- The walk over the block b: after its last instruction the tables are begin, before its first one middle, and at its start new.
+  -- The walk over the block b: after its last instruction the tables are begin, before its first one middle, and at its
+  -- start new.
   pub record Walked (last : ℕ) (begin middle new : StateValue) : Type 0 where
     pub end : last + 1 ≡ (block_at f b).range.end
     pub some : first_of ≤ last
@@ -92,7 +93,8 @@ module _ (code : ProperCode) (once : DefinedOnce code.f) (reads : (i : ℕ) → 
     EndCarries = Carries v (walked (inst_at f) (at_point (listed begin.edits)) placesf last 1)
         (Relied (defined_from f v.number last 1) written (location_at begin v.number) (slots_at begin v.number) (F v.number)) E
 
-    -- if its last instruction carries what is needed after the block, the whole block carries v from its place on paths before it
+    -- if its last instruction carries what is needed after the block, the whole block carries v from its place on paths
+    -- before it
     pub block_owes : EndCarries → Carries v (walked (inst_at f) (at_point (listed new.edits)) placesf first_of (suc (last - first_of)))
         (StandsBefore f (λ u. F u.number) b v) E
     block_owes c =

@@ -1,5 +1,6 @@
--- The walk over the blocks of a well-formed function, from a fresh state to the output: each block carries what the lemmas on paths require, and
--- a vreg that is used in a block that doesn't write it, or passed as an argument, has a slot.
+-- The walk over the blocks of a well-formed function, from a fresh state to the output: each block carries what the
+-- lemmas on paths require, and a vreg that is used in a block that doesn't write it, or passed as an argument, has a
+-- slot.
 use Rattle.std.proofs.Common.{ℕ, ◌≡◌, ◌≢◌, ◌<◌, ◌≤◌, ◌+◌, true, List, length, subst, refl, sym, inr, arith}
 use Rattle.std.specs.Prelude.{Contains, Option}
 use Rattle.std.proofs.lemmas.List.{get_or_default}
@@ -92,7 +93,8 @@ module _ (walk : WholeWalk)
       b (omega arith)
       lb)
 
-  -- If the tables are safe along the whole walk, and branches define in known places, each block carries what the lemmas on paths require.
+  -- If the tables are safe along the whole walk, and branches define in known places, each block carries what the
+  -- lemmas on paths require.
   pub blocks_carry : out.edits ≡ listed last.edits → AreListed f (allocs_of out) 0 out.allocs → (Writes : ℕ → ℕ → VirtualRegister → ℕ → Type 0)
       → (May : ℕ → Type 0)
       → ((b : ℕ) → b < length f.blocks → (p : List Place) (s : StateValue) → AllocsBlocks f blank begin (b + 1) p s → (i : ℕ) (q : List Place)

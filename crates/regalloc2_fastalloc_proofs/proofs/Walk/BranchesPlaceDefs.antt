@@ -98,7 +98,8 @@ in_place (FixedReg r) h nay = inl (r, refl)
 in_place (Reuse n) h nay = absurd h
 in_place (Limit n) h nay = absurd (nay n refl)
 
--- Each branch leaves its definitions in known places, if it defines in known places and each operand has a good place at the walk's end.
+-- Each branch leaves its definitions in known places, if it defines in known places and each operand has a good place
+-- at the walk's end.
 pub defs_placed : (env : MachineValue) (f : FunctionValue) → IsLimited f → IsWellFormed env f → AreTaken f → (placesf : ℕ → List Place) (final : StateValue) →
     ((i k : ℕ) → i < length f.insts → k < length (inst_at f i).operands → IsGood env final.slots (op_at (inst_at f i).operands k) (place_at (placesf i) k)) →
     ((i : ℕ) → i < length f.insts → BranchDefinesInPlace (inst_at f i)) → (e : ℕ) → e < length f.blocks →

@@ -1,4 +1,5 @@
--- Definitions precede uses: what a block writes and another block uses is used in a later block, and has a location at the writing block's end.
+-- Definitions precede uses: what a block writes and another block uses is used in a later block, and has a location at
+-- the writing block's end.
 use Rattle.std.proofs.Common.{ℕ, ◌≡◌, ◌≢◌, ◌+◌, ◌<◌, ◌≤◌, inl, inr, true, List, [], length, refl, sym, ap, ◌∙◌, subst, arith}
 use Rattle.std.specs.Prelude.{slice_index_or}
 use Rattle.std.proofs.lemmas.Bool.{cases_Bool, cases_lt}

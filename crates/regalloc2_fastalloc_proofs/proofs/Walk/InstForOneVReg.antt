@@ -25,7 +25,8 @@ needed_parts out t v p (located lives at) = inl at
 needed_parts out t v p (in_slot o at) = inr (o, at)
 needed_parts out t v p (made m) = absurd cc
 
--- a vreg's location, and its slot unless `out` excludes the vreg, are places where its value is needed between instructions
+-- a vreg's location, and its slot unless `out` excludes the vreg, are places where its value is needed between
+-- instructions
 pub parts_needed : (out : ℕ → Bool) (t : StateValue) (v : VirtualRegister) (p : Place) → (location_at t v.number ≡ Some p)
     ⊎ ((out v.number ≡ false) × (slots_at t v.number ≡ Some p)) → Needed out t v p
 parts_needed out t v p (inl at) = located (ap is_some at) at
@@ -36,7 +37,8 @@ module _ (f : FunctionValue) (placesf : ℕ → List Place) (F : ℕ → Option 
   abbrev pub step_at : ℕ → StateValue → List Item
   step_at i t = walked (inst_at f) (at_point (listed t.edits)) placesf i 1
 
-  -- The instruction leaves a slot, made so far or later, to its own vreg: what the lemma requires of v in addition to the instruction's own lemma.
+  -- The instruction leaves a slot, made so far or later, to its own vreg: what the lemma requires of v in addition to
+  -- the instruction's own lemma.
   pub record LeavesOwnSlot (v : VirtualRegister) (i : ℕ) (old new : StateValue) : Type 0 where
     pub stays : (p : Place) → slots_at old v.number ≡ Some p → F v.number ≡ Some p
     pub keeps : (s : Place) → defined_by (inst_at f i).operands v.number ≡ false → slots_at old v.number ≡ None → F v.number ≡ Some s →
@@ -48,7 +50,8 @@ module _ (f : FunctionValue) (placesf : ℕ → List Place) (F : ℕ → Option 
       let y : defined_by (inst_at f i).operands v.number ≡ true = subst (λ (w : VirtualRegister). defined_by (inst_at f i).operands w.number ≡ true) e
       (defined_by-at (inst_at f i).operands j lt d) in cc
 
-  -- an instruction that carries a vreg as required, and leaves its slot alone, satisfies the premise on one step of a block for that vreg
+  -- an instruction that carries a vreg as required, and leaves its slot alone, satisfies the premise on one step of a
+  -- block for that vreg
   pub step_of : (v : VirtualRegister) (i : ℕ) (old new : StateValue) (later : Bool) →
       Carries v (step_at i new) (Needed (defined_by (inst_at f i).operands) new v) (Needed (λ x. false) old v) →
       (defined_by (inst_at f i).operands v.number ≡ true → location_at new v.number ≡ None) →

@@ -28,7 +28,8 @@ pub defined_from-more : (f : FunctionValue) (x i n : ℕ) → defined_from f x i
 unfolding defined_from
 defined_from-more f x i n = refl
 
--- Instructions are allocated, from the one before stop down to i, none before first; L holds of each with the tables after and before it.
+-- Instructions are allocated, from the one before stop down to i, none before first; L holds of each with the tables
+-- after and before it.
 pub data Goes (f : FunctionValue) (placesf : ℕ → List Place) (L : ℕ → StateValue → StateValue → Type 0) (begin : StateValue) (first stop : ℕ) : ℕ → StateValue
     → Type 0 where
   stopped : Goes f placesf L begin first stop stop begin
@@ -36,8 +37,9 @@ pub data Goes (f : FunctionValue) (placesf : ℕ → List Place) (L : ℕ → St
       → ((k : ℕ) → k < length (inst_at f i).operands → place_at (placesf i) k ≡ slice_index_or here k NoPlace) → AllocsInst i (inst_at f i) blank here t u →
       L i t u → Goes f placesf L begin first stop i u
 
--- What is required of such instructions for one vreg v, with m more after stop; v is needed in E then. F: the slots at the walk's end; block: whether the block
--- writes v. None of them ends its block; they don't define v if the block doesn't write it, leave its slot alone, and don't read it before its definition.
+-- What is required of such instructions for one vreg v, with m more after stop; v is needed in E then. F: the slots at
+-- the walk's end; block: whether the block writes v. None of them ends its block; they don't define v if the block
+-- doesn't write it, leave its slot alone, and don't read it before its definition.
 pub record VRegGoes (code : ProperCode) (L : ℕ → StateValue → StateValue → Type 0) (first stop : ℕ) : Type 1 where
   pub F : ℕ → Option Place
   pub v : VirtualRegister
