@@ -1,4 +1,5 @@
--- A block that is walked from its end: what its listing carries for one vreg, from what each instruction carries by itself.
+-- A block that is walked from its end: what its listing carries for one vreg, from what each instruction carries by
+-- itself.
 use Rattle.std.proofs.Common.{◌≡◌, Bool, true, false, ◌⊎◌, inl, inr, List, ◌++◌, refl, sym, ◌∙◌}
 use Rattle.std.specs.Prelude.{Option, None, Some, ◌||◌}
 use Rattle.regalloc2_names.specs.Register.{VirtualRegister}
@@ -7,12 +8,14 @@ use Rattle.regalloc2_carry.specs.Listing.{Item}
 use Rattle.regalloc2_carry.specs.Carry.{Carries}
 use Rattle.regalloc2_carry.proofs.CarryRules.{carries_append, carries_weaken}
 
--- Where v's value may be assumed to be at a boundary between instructions: at its current location (T) and in its slot (S), if nothing later in the block
--- writes v; and in the slot that v has after the whole walk (F), if the block doesn't write v at all.
+-- Where v's value may be assumed to be at a boundary between instructions: at its current location (T) and in its slot
+-- (S), if nothing later in the block writes v; and in the slot that v has after the whole walk (F), if the block
+-- doesn't write v at all.
 abbrev pub Relied : (later block : Bool) (T S F : Option Place) → Place → Type 0
 Relied later block T S F p = (later ≡ false) × ((T ≡ Some p) ⊎ (S ≡ Some p) ⊎ ((block ≡ false) × (F ≡ Some p)))
 
--- What one instruction guarantees: T and S are v's location and slot before it, U and R after it; later: something later in the block writes v.
+-- What one instruction guarantees: T and S are v's location and slot before it, U and R after it; later: something
+-- later in the block writes v.
 pub record StepOf (v : VirtualRegister) (step : List Item) (written later : Bool) (T S U R F : Option Place) : Type 1 where
   -- the step carries v by itself, and from no place if it writes v
   pub law : Carries v step (λ p. (T ≡ Some p) ⊎ ((written ≡ false) × (S ≡ Some p))) (λ p. (U ≡ Some p) ⊎ (R ≡ Some p))

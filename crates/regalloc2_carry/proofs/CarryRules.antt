@@ -30,7 +30,8 @@ from_weaken v [] E F s c n h g = λ p f. g p (h p f)
 from_weaken v (Move m ∷ L) E F s c n h g = from_weaken v L E F s _ n h g
 from_weaken v (Exec ops places clobbers ∷ L) E F s c n h g = (g.0, g.1, from_weaken v L E F _ _ (suc n) h g.2)
 
--- the rule of consequence: a listing that carries v still does if more places are assumed to hold v before it and fewer have to hold it after it
+-- the rule of consequence: a listing that carries v still does if more places are assumed to hold v before it and fewer
+-- have to hold it after it
 pub carries_weaken : (v : VirtualRegister) (L : List Item) (P R E F : Place → Type 0) → ((p : Place) → P p → R p) → ((p : Place) → F p → E p) →
     Carries v L P E → Carries v L R F
 unfolding Carries
@@ -148,7 +149,8 @@ from_fresh v (Exec ops places clobbers ∷ L) E R s c n u w h g =
           (λ p r. late-spared n ops places clobbers c p (u p r).0 ∙ h p r ∙ sym (after_defs-other ops n 0 s v (defines_not ops v parts.0))) g.2,
     )
 
--- the frame rule: in a listing that doesn't write v, places that it leaves alone may be added on both sides of what it carries
+-- the frame rule: in a listing that doesn't write v, places that it leaves alone may be added on both sides of what it
+-- carries
 pub carries_fresh : (v : VirtualRegister) (L : List Item) (P E R : Place → Type 0) → ((p : Place) → R p → Untouched p L) → writes v L ≡ false →
     Carries v L P E → Carries v L (λ p. P p ⊎ R p) (λ p. E p ⊎ R p)
 unfolding Carries

@@ -2,8 +2,8 @@
 -- Read first: `Carries` in the specs, and the rules by which it grows, in `CarryRules`; then
 -- `blocks_agree_in_places_by_points` in `Paths`.
 -- Depends on paths, both runs and well-formed functions. No file here mentions the allocator.
--- Main theorem: `blocks_agree_in_places_by_points`: where blocks carry every vreg, reads agree on every path. Beside it:
--- `live_stand_in_places` in `LiveIn` (what is live where a path comes to a block is in its place).
+-- Main theorem: `blocks_agree_in_places_by_points`: where blocks carry every vreg, reads agree on every path. Beside
+-- it: `live_stand_in_places` in `LiveIn` (what is live where a path comes to a block is in its place).
 -- How a listing is put together from edits: `Points`, `MoveInFront`, `PushedMoves`, `ListingParts`, `StoresInFront`.
 -- How it carries backward: `BlockBackward` (`step_carried`), `NotRead`, `UnwrittenPlaces`, `Slots`, `ParamsOnEdge`;
 -- along a path: `PathSteps`, `PathInBlock`.

@@ -1,4 +1,5 @@
--- In a well-formed function, if v is live where a path enters a block, some block from there on reads or passes v, and no block up to it writes v.
+-- In a well-formed function, if v is live where a path enters a block, some block from there on reads or passes v, and
+-- no block up to it writes v.
 use Rattle.std.proofs.Common.{ℕ, ◌≡◌, ◌+◌, ◌<◌, ◌≤◌, inl, inr, [], List, length, refl, ap, subst, arith}
 use Rattle.std.specs.Prelude.{Contains, slice_index_or}
 use Rattle.std.proofs.lemmas.Bool.{cases_lt}
@@ -16,7 +17,7 @@ use Rattle.regalloc2_carry.proofs.SingleDef.{IsDefOperand, reads_defined}
 use Rattle.regalloc2_carry.proofs.Order.{ends_within, reads_later, passes_defined_earlier}
 use Rattle.regalloc2_semantics.proofs.Soundness.{well_formed_are_sound}
 use Rattle.regalloc2_semantics.proofs.Given.{undefined_at, undefined_not_given, aside_not_given}
-use Rattle.regalloc2_carry.proofs.Paths.{Live, UsedSomewhere, live_somewhere, block_within, holds_live, items_carry_on}
+use Rattle.regalloc2_carry.proofs.Paths.{Live, UsedSomewhere, block_within, holds_live, items_carry_on, live_used_in_some_block}
 
 module _ (env : MachineValue) (f : FunctionValue) (ok : IsWellFormed env f) (v : VirtualRegister) where
   -- the instructions of a block before i don't write v
@@ -96,9 +97,10 @@ pub live_is_used : (env : MachineValue) (f : FunctionValue) → IsWellFormed env
 live_is_used env f ok written ws path entered v live =
     let sound : HasSoundBlocks f = well_formed_are_sound env f ok in
     let lb : (end_of f ws).block < length f.blocks = block_within f sound written ws path in
-    live_somewhere f sound v (end_of f ws).block lb (live_entered env f ok v ws entered lb live)
+    live_used_in_some_block f sound v (end_of f ws).block lb (live_entered env f ok v ws entered lb live)
 
--- if every vreg is definitely assigned, and reachable blocks meet their obligations, the places of vregs live at a block's beginning hold their values
+-- if every vreg is definitely assigned, and reachable blocks meet their obligations, the places of vregs live at a
+-- block's beginning hold their values
 pub live_stand_in_places : LiveStandWhereBlocksCarryOn
 live_stand_in_places env f out stand ok written rising quiet carries ws path entered v p live is =
     let sound : HasSoundBlocks f = well_formed_are_sound env f ok in

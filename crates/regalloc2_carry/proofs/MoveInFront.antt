@@ -13,7 +13,8 @@ pub walked-none : (insts : ℕ → InstValue) (at : ℕ → List MoveValue) (pla
 unfolding walked
 walked-none insts at places i = refl
 
--- a listing by points of one more instruction is the moves before the instruction, the instruction, and what runs after it
+-- a listing by points of one more instruction is the moves before the instruction, the instruction, and what runs after
+-- it
 pub walked-more : (insts : ℕ → InstValue) (edits : List (ℕ × MoveValue)) (places : ℕ → List Place) (i n : ℕ) →
     walked insts (at_point edits) places i (suc n) ≡ before_part insts edits places i n (exec_item (insts i) (places i))
 unfolding walked

@@ -28,7 +28,8 @@ pub record Stepped (f : FunctionValue) (out : OutputValue) (l : Location) (v : V
   pub rest : CarriesFrom v E (items_from f out (block_at f l.block).range.first (l.inst + 1) left) (after_defs n 0 (inst_at f l.inst).operands s)
       (cells_late f out l n (cells_early f out l c)) (suc n)
 
--- where what is left of a block carries v, the next instruction's uses of v find its value, and the rest carries v from there
+-- where what is left of a block carries v, the next instruction's uses of v find its value, and the rest carries v from
+-- there
 pub stepped : (f : FunctionValue) (out : OutputValue) (l : Location) (v : VirtualRegister) (E : Place → Type 0) (left : ℕ) (s : Source) (c : Cells) (n : ℕ) →
     CarriesFrom v E (left_at f out l (suc left)) s c n → Stepped f out l v E left s c n
 unfolding items_by CarriesFrom

@@ -47,15 +47,15 @@ pub record UsedSomewhere (f : FunctionValue) (v : VirtualRegister) : Type 0 wher
   pub used : IsUsedIn f block v
 
 -- a vreg live at a block's start, block by block, is used in some block of the function that doesn't write it
-pub live_somewhere : (f : FunctionValue) → HasSoundBlocks f → (v : VirtualRegister) (b : ℕ) → b < length f.blocks → Live f v b → UsedSomewhere f v
-live_somewhere f ok v b lt (read u r) = record { block = b; within = lt; unwritten = u; used = inl r }
-live_somewhere f ok v b lt (passed_on u k edge c) = record { block = b; within = lt; unwritten = u; used = inr (k, edge, c) }
-live_somewhere f ok v b lt (onward u k edge aside l) = live_somewhere f ok v (target_at f b k) (ok.targets b k edge) l
+pub live_used_in_some_block : (f : FunctionValue) → HasSoundBlocks f → (v : VirtualRegister) (b : ℕ) → b < length f.blocks → Live f v b → UsedSomewhere f v
+live_used_in_some_block f ok v b lt (read u r) = record { block = b; within = lt; unwritten = u; used = inl r }
+live_used_in_some_block f ok v b lt (passed_on u k edge c) = record { block = b; within = lt; unwritten = u; used = inr (k, edge, c) }
+live_used_in_some_block f ok v b lt (onward u k edge aside l) = live_used_in_some_block f ok v (target_at f b k) (ok.targets b k edge) l
 
 -- what is live at a successor may be live out of the block
 live_wanted : (f : FunctionValue) → HasSoundBlocks f → (v : VirtualRegister) (b k : ℕ) → HasEdge f b k → Live f v (target_at f b k) → IsWantedBehind f b v
 live_wanted f ok v b k edge l =
-    let u = live_somewhere f ok v (target_at f b k) (ok.targets b k edge) l in (
+    let u = live_used_in_some_block f ok v (target_at f b k) (ok.targets b k edge) l in (
       (k, edge),
       elim (cases_eq u.block b) [
         | inl e ↦ inl (subst (λ c. IsUnwritten f c v) e u.unwritten)
@@ -251,8 +251,8 @@ module _ (f : FunctionValue) (ok : HasSoundBlocks f) (written : IsWrittenFirst f
 
   module _ (out : OutputValue) (stand : ℕ → VirtualRegister → Option Place) (carries : (b : ℕ) → IsReached f (first_of f b) →
       BlockCarriesOn f stand b (block_items f out b)) where
-    -- what is known at a path's last step: what is left of the block's listing carries each vreg that is live at the block's
-    -- beginning or written in the block
+    -- what is known at a path's last step: what is left of the block's listing carries each vreg that is live at the
+    -- block's beginning or written in the block
     record Rest (ws : List Way) : Type 0 where
       start : List Way
       entered : Entered f (end_of f ws).block start

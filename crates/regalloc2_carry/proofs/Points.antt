@@ -70,7 +70,8 @@ by_none : (l a b : Bool) (e : ℕ × MoveValue) (xs ys zs : List (ℕ × MoveVal
     ++ map (λ d. d.1) (cond b (e ∷ zs) zs)
 by_none l a b e xs ys zs p q r h = rw (p, q, r) h
 
--- what is before an instruction that is not the block's first: the moves after the previous instruction, and then the moves before it
+-- what is before an instruction that is not the block's first: the moves after the previous instruction, and then the
+-- moves before it
 split : (first i : ℕ) (es : List (ℕ × MoveValue)) → first ≤ i → Rising es →
     map (λ e. e.1) (filter (λ e. is_listed_at first (i + 1) e.0) es) ≡ at_point es (after i) ++ at_point es (before (i + 1))
 unfolding Rising
@@ -87,7 +88,8 @@ split first i (e ∷ es) le r =
       ]
     ]
 
--- with edits in order, the moves before a later instruction of a block are the moves after the previous instruction, then its own
+-- with edits in order, the moves before a later instruction of a block are the moves after the previous instruction,
+-- then its own
 pub moves_before-later : (o : OutputValue) (first i : ℕ) → first ≤ i → Rising o.edits → moves_before o first (i + 1) ≡ at_point o.edits (after i)
     ++ at_point o.edits (before (i + 1))
 moves_before-later o first i le r = split first i o.edits le r

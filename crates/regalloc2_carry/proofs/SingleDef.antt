@@ -1,4 +1,5 @@
--- Where each number is defined once: it has one maker, an operand or a parameter, and no instruction reads what it defines.
+-- Where each number is defined once: it has one maker, an operand or a parameter, and no instruction reads what it
+-- defines.
 use Rattle.std.proofs.Common.{ℕ, zero, suc, ◌≡◌, ◌≢◌, ◌+◌, ◌<◌, ◌≤◌, ◌-◌, Bool, true, false, cond, List, [], ◌∷◌, length, map, refl, arith, sym, ap, ◌∙◌}
 use Rattle.std.proofs.Common.{subst, inl, inr, ◌⊎◌, eq-eqb, nat_eq}
 use Rattle.std.specs.Prelude.{slice_index_or, count_by}

@@ -16,7 +16,8 @@ abbrev pub PassedTo : FunctionValue → (VirtualRegister → Option Place) → �
 PassedTo f slot b v p = (k : ℕ) × (u : VirtualRegister) × HasEdge f b k × Passes u v (block_at f (target_at f b k)).params (arguments_at f b k)
     × (slot u ≡ Some p)
 
--- the moves to the parameters, before a last instruction (with its own moves) that leaves their slots alone; where v's value is relied on: P and R
+-- the moves to the parameters, before a last instruction (with its own moves) that leaves their slots alone; where v's
+-- value is relied on: P and R
 pub pass_arguments : (f : FunctionValue) (slot : VirtualRegister → Option Place) (b : ℕ) (v : VirtualRegister) (ms : List MoveValue) (L : List Item)
     (P R E : Place → Type 0) →
     ((p : Place) → P p → (c : Cells) → after_moves ms c p ≡ c p) →

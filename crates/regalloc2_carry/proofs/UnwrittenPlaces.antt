@@ -35,7 +35,8 @@ unfolding Untouched with_moves
 untouched_moves p [] L h g = g
 untouched_moves p (m ∷ ms) L h g = (h.0, untouched_moves p ms L h.1 g)
 
--- a listing by points leaves a place alone if no move of its points goes there, and no instruction of it writes or clobbers it
+-- a listing by points leaves a place alone if no move of its points goes there, and no instruction of it writes or
+-- clobbers it
 pub untouched_walked : (p : Place) (insts : ℕ → InstValue) (at : ℕ → List MoveValue) (places : ℕ → List Place) (i n : ℕ) →
     ((q : ℕ) → before i ≤ q → q < before (i + n) → NoMoveTo p (at q)) →
     ((j : ℕ) → i ≤ j → j < i + n → Spares (insts j).operands (places j) (insts j).clobbers p) →
@@ -87,8 +88,8 @@ abbrev pub IsReadInPlace : List OperandValue → List Place → VirtualRegister 
 IsReadInPlace operands places v p = (k : ℕ) × (k < length operands) × (is_reading (op_at operands k) ≡ true) × ((op_at operands k).vreg ≡ v)
     × (place_at places k ≡ p)
 
--- An instruction and its moves leave in the place what v has: nothing else is written to it. Where a move before the instruction writes it,
--- an operand reads v there.
+-- An instruction and its moves leave in the place what v has: nothing else is written to it. Where a move before the
+-- instruction writes it, an operand reads v there.
 pub record Keeps (operands : List OperandValue) (places : List Place) (clobbers : PRegSet) (sooner later : List MoveValue) (v : VirtualRegister)
     (p : Place) : Type 0 where
   pub spared : Spares operands places clobbers p

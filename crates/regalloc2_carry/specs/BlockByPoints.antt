@@ -34,7 +34,8 @@ Rising (e ∷ es) = AllFrom e.0 es × Rising es
 abbrev pub EndsQuiet : FunctionValue → OutputValue → ℕ → Type 0
 EndsQuiet f out b = at_point out.edits (after ((block_at f b).range.end - 1)) ≡ []
 
--- The walk goes backward through a block, and pushes moves in front. What runs after the instruction i, with n more instructions behind it:
+-- The walk goes backward through a block, and pushes moves in front. What runs after the instruction i, with n more
+-- instructions behind it:
 abbrev pub after_part : (ℕ → InstValue) → List (ℕ × MoveValue) → (ℕ → List Place) → ℕ → ℕ → List Item
 after_part insts edits places i n = with_moves (at_point edits (after i)) (walked insts (at_point edits) places (i + 1) n)
 

@@ -23,7 +23,8 @@ IsUsed f v = ((b : ℕ) × IsReadIn f b v) ⊎ ((b k : ℕ) × HasEdge f b k × 
 abbrev pub IsUsedIn : FunctionValue → ℕ → VirtualRegister → Type 0
 IsUsedIn f b v = IsReadIn f b v ⊎ ((k : ℕ) × HasEdge f b k × Contains (arguments_at f b k) v)
 
--- v may be live out of the block: the block has an edge, and either leaves v unwritten, or another block uses v and leaves it unwritten
+-- v may be live out of the block: the block has an edge, and either leaves v unwritten, or another block uses v and
+-- leaves it unwritten
 abbrev pub IsWantedBehind : FunctionValue → ℕ → VirtualRegister → Type 0
 IsWantedBehind f b v = ((k : ℕ) × HasEdge f b k) × (IsUnwritten f b v ⊎ ((c : ℕ) × (c < length f.blocks) × (c ≢ b) × IsUnwritten f c v × IsUsedIn f c v))
 
@@ -50,21 +51,22 @@ module _ (f : FunctionValue) (slot : VirtualRegister → Option Place) where
   abbrev pub StandsBefore : ℕ → VirtualRegister → Place → Type 0
   StandsBefore b v p = IsUnwritten f b v × (slot v ≡ Some p)
 
-  -- where v's value has to be at the block's end: in its slot, if v may be live out and is no parameter of a successor, and in the slot of each parameter that
-  -- v is passed to
+  -- where v's value has to be at the block's end: in its slot, if v may be live out and is no parameter of a successor,
+  -- and in the slot of each parameter that v is passed to
   abbrev pub StandsAfter : ℕ → VirtualRegister → Place → Type 0
   StandsAfter b v p =
       (((k : ℕ) → HasEdge f b k → names v (block_at f (target_at f b k)).params ≡ false) × IsWantedBehind f b v × (slot v ≡ Some p))
       ⊎ ((k : ℕ) × (u : VirtualRegister) × HasEdge f b k × Passes u v (block_at f (target_at f b k)).params (arguments_at f b k) × (slot u ≡ Some p))
 
--- Values that aren't in one slot at every block's beginning: `stand` gives the place of each vreg at each block's beginning.
+-- Values that aren't in one slot at every block's beginning: `stand` gives the place of each vreg at each block's
+-- beginning.
 module _ (f : FunctionValue) (stand : ℕ → VirtualRegister → Option Place) where
   -- where v's value may be assumed to be at the block's beginning: in its place there, unless the block writes v
   abbrev pub ComesIn : ℕ → VirtualRegister → Place → Type 0
   ComesIn b v p = IsUnwritten f b v × (stand b v ≡ Some p)
 
-  -- where v's value has to be at the block's end: in its place at the beginning of each successor, if v may be live out and is no parameter of a successor, and
-  -- in the place there of each parameter that v is passed to
+  -- where v's value has to be at the block's end: in its place at the beginning of each successor, if v may be live out
+  -- and is no parameter of a successor, and in the place there of each parameter that v is passed to
   abbrev pub GoesOut : ℕ → VirtualRegister → Place → Type 0
   GoesOut b v p =
       ((k : ℕ) × HasEdge f b k × ((j : ℕ) → HasEdge f b j → names v (block_at f (target_at f b j)).params ≡ false) × IsWantedBehind f b v
@@ -76,7 +78,8 @@ module _ (f : FunctionValue) (stand : ℕ → VirtualRegister → Option Place) 
   abbrev pub BlockCarriesOn : ℕ → List Item → Type 0
   BlockCarriesOn b items = ExcusedAreSilent f b → (v : VirtualRegister) → IsUsed f v → (IsExcused f b v → ⊥) → Carries v items (ComesIn b v) (GoesOut b v)
 
--- if every vreg is definitely assigned (`IsWrittenFirst`), and every reachable block meets its obligation, reads agree on every path
+-- if every vreg is definitely assigned (`IsWrittenFirst`), and every reachable block meets its obligation, reads agree
+-- on every path
 abbrev pub BlocksAgreeInPlaces : Type 0
 BlocksAgreeInPlaces = (f : FunctionValue) (out : OutputValue) (stand : ℕ → VirtualRegister → Option Place) → HasSoundBlocks f → IsWrittenFirst f →
     ((b : ℕ) → IsReached f (first_of f b) → BlockCarriesOn f stand b (block_items f out b)) → ReadsAgreeOnPaths f out

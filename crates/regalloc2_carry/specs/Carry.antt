@@ -24,7 +24,8 @@ Finds v late operands places x c = (j : ℕ) → j < length operands → is_read
     (op_at operands j).vreg ≡ v →
     c (place_at places j) ≡ x
 
--- Both runs execute the listing from step n on: each reading use of v finds v's value at that time, and the places of E hold it at the end.
+-- Both runs execute the listing from step n on: each reading use of v finds v's value at that time, and the places of E
+-- hold it at the end.
 unfoldable pub CarriesFrom : VirtualRegister → (Place → Type 0) → List Item → Source → Cells → ℕ → Type 0
 CarriesFrom v E [] s c n = (p : Place) → E p → c p ≡ s v
 CarriesFrom v E (Move m ∷ items) s c n = CarriesFrom v E items s (stored c m.to (c m.from)) n

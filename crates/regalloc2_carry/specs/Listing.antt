@@ -40,6 +40,7 @@ unfoldable pub defines : VirtualRegister → List OperandValue → Bool
 defines v [] = false
 defines v (o ∷ os) = (is_def o.kind && is_vreg o.vreg v) || defines v os
 
+-- whether the listing defines the vreg, by an operand of one of its instructions
 unfoldable pub writes : VirtualRegister → List Item → Bool
 writes v [] = false
 writes v (Move m ∷ items) = writes v items

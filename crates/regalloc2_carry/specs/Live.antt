@@ -20,8 +20,9 @@ abbrev pub LiveStandInPlaces : FunctionValue → OutputValue → (ℕ → Virtua
 LiveStandInPlaces f out stand = (ws : List Way) → IsPath f ws → HasEntered f ws → (v : VirtualRegister) (p : Place) → IsLive f v (end_of f ws) →
     stand (end_of f ws).block v ≡ Some p → HoldsValueAt f out ws p v
 
--- live vregs stand in their places if every vreg is definitely assigned, and every reachable block carries values from their places at its beginning to
--- their places at the next block's beginning, with listings built from the program points of the moves
+-- live vregs stand in their places if every vreg is definitely assigned, and every reachable block carries values from
+-- their places at its beginning to their places at the next block's beginning, with listings built from the program
+-- points of the moves
 abbrev pub LiveStandWhereBlocksCarryOn : Type 0
 LiveStandWhereBlocksCarryOn = (env : MachineValue) (f : FunctionValue) (out : OutputValue) (stand : ℕ → VirtualRegister → Option Place) →
     IsWellFormed env f → IsWrittenFirst f → Rising out.edits → ((b : ℕ) → b < length f.blocks → EndsQuiet f out b) →

@@ -1,5 +1,5 @@
--- One instruction with operands of every kind, as a backward walk allocates it: which operands have their places so far, and which places
--- the vregs need, by number.
+-- One instruction with operands of every kind, as a backward walk allocates it: which operands have their places so
+-- far, and which places the vregs need, by number.
 use Rattle.std.specs.Prelude.{◌≡◌, ◌≢◌, ℕ, ◌<◌, ◌≤◌, Bool, true, false, Option, Some, None, List, length, ◌⊎◌}
 use Rattle.regalloc2_names.specs.Operand.{OperandValue, is_def, is_late, is_reading}
 use Rattle.regalloc2_names.specs.Place.{Place, NoPlace}
@@ -14,6 +14,7 @@ pub record What : Type 0 where
   pub is_def : Bool
   pub is_late : Bool
 
+-- what the operand at an index reads or defines
 abbrev pub what_of : List OperandValue → ℕ → What
 what_of operands j = record { number = (op_at operands j).vreg.number; is_def = is_def (op_at operands j).kind; is_late = is_late (op_at operands j).position }
 
@@ -23,8 +24,8 @@ pub data Share (a b : What) : Type 0 where
   read_first : a.is_def ≡ false → a.is_late ≡ false → b.is_def ≡ true → b.is_late ≡ true → Share a b
   written_after : a.is_def ≡ true → a.is_late ≡ true → b.is_def ≡ false → b.is_late ≡ false → Share a b
 
--- T: current locations, by vreg number; S: slots. What a number needs after the instruction, while its operands are allocated: its location if it lived when
--- the instruction began, its slot, or the place where it was defined.
+-- T: current locations, by vreg number; S: slots. What a number needs after the instruction, while its operands are
+-- allocated: its location if it lived when the instruction began, its slot, or the place where it was defined.
 pub data Need (lived out : ℕ → Bool) (X : Place → ℕ → Bool) (T S : ℕ → Option Place) (n : ℕ) (p : Place) : Type 0 where
   located : lived n ≡ true → T n ≡ Some p → Need lived out X T S n p
   in_slot : out n ≡ false → S n ≡ Some p → Need lived out X T S n p
@@ -40,9 +41,10 @@ pub data Pending (what : ℕ → What) (here : ℕ → Place) (done out : ℕ �
 abbrev pub Counts : List OperandValue → ℕ → Type 0
 Counts operands j = (j < length operands) × ((is_def (op_at operands j).kind ≡ true) ⊎ (is_reading (op_at operands j) ≡ true))
 
--- How far an instruction's operands are placed. here: the place of each; claimed: operands that have their place (placed ones, and fixed ones from the
--- evictions on); done: placed ones; lived: numbers that had a location when the instruction began; out: numbers whose definition is placed; made_at: the places
--- of placed definitions; clobbered: the places that are clobbered.
+-- How far an instruction's operands are placed. here: the place of each; claimed: operands that have their place
+-- (placed ones, and fixed ones from the evictions on); done: placed ones; lived: numbers that had a location when the
+-- instruction began; out: numbers whose definition is placed; made_at: the places of placed definitions; clobbered: the
+-- places that are clobbered.
 pub record Progress : Type 0 where
   pub here : ℕ → Place
   pub claimed : ℕ → Bool
@@ -120,7 +122,8 @@ pub record Puts (here there : ℕ → Place) (claimed claimed2 : ℕ → Bool) (
   pub keeps : (j : ℕ) → claimed j ≡ true → claimed2 j ≡ true
   pub claims : claimed2 k ≡ true
 
--- r is no other number's location, unless the operand w is a definition and that number is newly placed; and r is no other number's slot
+-- r is no other number's location, unless the operand w is a definition and that number is newly placed; and r is no
+-- other number's slot
 pub record IsVacant (w : What) (lived : ℕ → Bool) (T S : ℕ → Option Place) (r : Place) : Type 0 where
   pub for_def : w.is_def ≡ true → (n : ℕ) → lived n ≡ true → T n ≡ Some r → n ≡ w.number
   pub for_use : w.is_def ≡ false → (n : ℕ) → T n ≡ Some r → n ≡ w.number

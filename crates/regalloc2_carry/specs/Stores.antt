@@ -1,4 +1,5 @@
--- Values stored at the beginning of a block, one after another, such as the values that the branch into the block defines.
+-- Values stored at the beginning of a block, one after another, such as the values that the branch into the block
+-- defines.
 use Rattle.std.specs.Prelude.{◌≡◌, ◌≢◌, Bool, true, false, List, [], ◌∷◌, ◌++◌, Option, None, Some}
 use Rattle.regalloc2_names.specs.Place.{Place, NoPlace}
 use Rattle.regalloc2_function.specs.OutputValue.{MoveValue}
@@ -34,8 +35,9 @@ AreStores [] = Unit {0}
 AreStores (s ∷ ss) = (s.to ≢ NoPlace) × ((q : Place) → s.by ≡ Some q → q ≢ NoPlace) × ((t : Store) → IsOneOf t ss → Avoids t s.to × Avoids s t.from)
     × AreStores ss
 
--- Stores to stack places (M is true of these): the target is a stack place, and an intermediate place isn't; no later store has the same target or starts from
--- it; and after a store through an intermediate place all later ones start from stack places.
+-- Stores to stack places (M is true of these): the target is a stack place, and an intermediate place isn't; no later
+-- store has the same target or starts from it; and after a store through an intermediate place all later ones start
+-- from stack places.
 unfoldable pub AreInOrder : (Place → Bool) → List Store → Type 0
 AreInOrder M [] = Unit {0}
 AreInOrder M (s ∷ ss) = (M s.to ≡ true) × ((q : Place) → s.by ≡ Some q → (M q ≡ false) × (q ≢ NoPlace))

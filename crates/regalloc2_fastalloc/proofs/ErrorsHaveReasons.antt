@@ -77,10 +77,10 @@ fault_is_reason f env asked p on (clashing i shape sound reuses h) =
     inl (p, on, λ w. h.1 (All-get_or FixedAvoidClobbers f.insts i no_inst h.0 w.fixed), clashing i shape sound reuses h)
 
 -- what the walk lacks, where it says when registers and slots do
-pub lacks_where : (R P Q : Type 0) → (P → Q) → (e : RegAllocError) → IsResourceError P e → (e ≡ TooManyLiveRegs → R) → Lacks R Q e
-lacks_where R P Q more TooManyLiveRegs h where_it = where_it refl
-lacks_where R P Q more TooManySpillSlots h where_it = more h
-lacks_where R P Q more e h where_it = h
+pub lacks_of_resource_error : (R P Q : Type 0) → (P → Q) → (e : RegAllocError) → IsResourceError P e → (e ≡ TooManyLiveRegs → R) → Lacks R Q e
+lacks_of_resource_error R P Q more TooManyLiveRegs h where_it = where_it refl
+lacks_of_resource_error R P Q more TooManySpillSlots h where_it = more h
+lacks_of_resource_error R P Q more e h where_it = h
 
 -- what may be lacking is a reason, after all tests
 pub lack_is_a_reason : (f : FunctionValue) (env : MachineValue) (asked : Bool) → PassesAllChecks f env asked → (e : RegAllocError) →

@@ -1,5 +1,6 @@
--- The walk over the blocks of a well-formed function that the allocator takes, from a fresh state to the output: reads agree on every path,
--- and a vreg that is live where a path comes to a block is in its slot, or where the branch into the block left it.
+-- The walk over the blocks of a well-formed function that the allocator takes, from a fresh state to the output: reads
+-- agree on every path, and a vreg that is live where a path comes to a block is in its slot, or where the branch into
+-- the block left it.
 use Rattle.std.proofs.Common.{ℕ, ◌≡◌, ◌≢◌, ◌-◌, ◌<◌, zero, suc, List, [], ◌∷◌, length, map, nat_eq, refl, sym, ap, ◌∙◌, ◌+◌, subst, arith}
 use Rattle.std.specs.Prelude.{All, Contains, filter, Option, Some, slice_index_or, zip}
 use Rattle.std.proofs.lemmas.List.{get_or_default}
@@ -277,16 +278,16 @@ module _ (walk : WholeWalk) (taken : AreTaken walk.f) (in_place : (i : ℕ) → 
 
 -- The walk keeps the tables safe, since no vreg is in a register between blocks.
 module _ (fresh : FreshWalk) (empty : Blank fresh.begin) (fit : Fit fresh.begin) where
-  open fresh use {env, f, fits, limited, ok, taken, blank, places, begin, last, n, m, sizes, by_last, nobody, slots, none, units, machine, walks}
+  open fresh use {env, f, fits, limited, ok, taken, blank, places, begin, last, n, m, sizes, by_last, none_held, slots, none, units, machine, walks}
 
   bare : (c : ℕ) (ps : List Place) (u : StateValue) → AllocsBlocks f blank begin c ps u → IsOutside u
   bare = allocs_blocks_outside (kept_code_of (Made f) f (all_proper env f limited ok) (branch_kept f ok.counted (processes_branch_between f))) ok.follow blank begin
-      (begin_between f begin empty fit) (record { nowhere = empty.nowhere; nobody = empty.nobody })
+      (begin_between f begin empty fit) (record { nowhere = empty.nowhere; none_held = empty.none_held })
 
   -- the walk's last state is safe, and each operand has a good place
-  pub walk_kept_through : WalkKept env (Made f) f (MayInBlocks f) places 0 0 places last
-  walk_kept_through = walk_blocks_good fresh bare
+  pub walk_is_good : WalkKept env (Made f) f (MayInBlocks f) places 0 0 places last
+  walk_is_good = walk_blocks_good fresh bare
 
   -- the states of the walk are safe at each instruction of a block
-  pub walk_safe_through : SafeWithin env f blank begin places
-  walk_safe_through = walk_safe fresh bare
+  pub walk_is_safe : SafeWithin env f blank begin places
+  walk_is_safe = walk_safe fresh bare

@@ -47,8 +47,8 @@ from_names (x ∷ xs) v c = elim (Contains-append_cases (map (λ (o : OperandVal
 ]
 
 -- a function with registers for all vregs has one block, operands under `Reg` and no clobbers, and names listed vregs
-pub asks_for_registers : (f : FunctionValue) (env : MachineValue) → HasRegistersForAll f env → HasRegOperandsOnly (names_in f.insts) f
-asks_for_registers f env h = record {
+pub requires_only_registers : (f : FunctionValue) (env : MachineValue) → HasRegistersForAll f env → HasRegOperandsOnly (names_in f.insts) f
+requires_only_registers f env h = record {
   one_block = h.one_block;
   under_reg = h.under_reg;
   named = λ i k lt less. in_names f.insts i k lt less;

@@ -27,12 +27,12 @@ each_reads read n (o ∷ os) h =
     (each_reads read (n + 1) os (λ k less yes. let s : suc k + n ≡ k + (n + 1) = omega arith in
     subst (λ m. IsSome (read m (op_at os k))) s (h (suc k) (omega arith) yes)))
 
-there_mapped : (g : Stamp → ℕ) (x : Option Stamp) → IsSome x → IsSome (option_map g x)
-there_mapped g None h = h
-there_mapped g (Some s) h = h
+is_some_mapped : (g : Stamp → ℕ) (x : Option Stamp) → IsSome x → IsSome (option_map g x)
+is_some_mapped g None h = h
+is_some_mapped g (Some s) h = h
 
-all_there : (g : Stamp → ℕ) (xs : List (Option Stamp)) → All IsSome xs → All IsSome (map (option_map g) xs)
-all_there g xs h = All-map IsSome (option_map g) xs (λ k d less. there_mapped g (slice_index_or xs k d) (h k d less))
+all_is_some_mapped : (g : Stamp → ℕ) (xs : List (Option Stamp)) → All IsSome xs → All IsSome (map (option_map g) xs)
+all_is_some_mapped g xs h = All-map IsSome (option_map g) xs (λ k d less. is_some_mapped g (slice_index_or xs k d) (h k d less))
 
 step_reads : (f : FunctionValue) (env : MachineValue) (out : OutputValue) → IsFaithful f env out → (ws : List Way) → IsPath f ws →
     All IsSome (source_reads f ws)
@@ -43,9 +43,9 @@ pub reads_numbers : (f : FunctionValue) (env : MachineValue) (out : OutputValue)
     All (All IsSome) (numbers f meaning (source_reads f) ws).history
 unfolding numbers
 reads_numbers f env out h meaning [] p = All-cons (All IsSome) (map (option_map (λ s. 0)) (source_reads f [])) []
-    (all_there (λ s. 0) (source_reads f []) (step_reads f env out h [] p)) (All-nil (All IsSome))
+    (all_is_some_mapped (λ s. 0) (source_reads f []) (step_reads f env out h [] p)) (All-nil (All IsSome))
 reads_numbers f env out h meaning (w ∷ ws) p =
     All-cons (All IsSome) (map (option_map (numbers f meaning (source_reads f) (w ∷ ws)).written) (source_reads f (w ∷ ws)))
     (numbers f meaning (source_reads f) ws).history
-    (all_there (numbers f meaning (source_reads f) (w ∷ ws)).written (source_reads f (w ∷ ws)) (step_reads f env out h (w ∷ ws) p))
+    (all_is_some_mapped (numbers f meaning (source_reads f) (w ∷ ws)).written (source_reads f (w ∷ ws)) (step_reads f env out h (w ∷ ws) p))
     (reads_numbers f env out h meaning ws p.0)

@@ -20,7 +20,8 @@ pub record IsBeforeFilling (f : FunctionValue) (env : MachineValue) (starts : Li
   pub no_places : (k : ℕ) → slice_index_or places k NoPlace ≡ NoPlace
   pub marked : AreLabelsMarked f wanted
 
--- labels are next to be located, once all operands have places; the instructions are listed that may add to the labelled vregs' live ranges
+-- labels are next to be located, once all operands have places; the instructions are listed that may add to the
+-- labelled vregs' live ranges
 pub record IsBeforeLocating (f : FunctionValue) (slots : SpillSlotsValue) (starts : List ℕ) (places : List Place) (wanted : List Bool) (adding : List ℕ)
     : Type 0 where
   pub ssa : IsSSA f

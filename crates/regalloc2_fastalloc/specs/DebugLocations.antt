@@ -1,5 +1,6 @@
 -- The debug locations of a function, by the places that the walk leaves.
--- regalloc2_analysis/specs/LiveRanges/LiveRanges.antt defines the labels that are kept, and the operand whose place shows a vreg.
+-- regalloc2_analysis/specs/LiveRanges/LiveRanges.antt defines the labels that are kept, and the operand whose place
+-- shows a vreg.
 use Rattle.std.specs.Prelude.{ℕ, ◌≡◌, ◌+◌, ◌<◌, List, length, map, slice_index, slice_index_or, Option, None, Some, if◌then◌else◌, IsPermutation}
 use Rattle.std.specs.Ordering.{nat_cmp}
 use Rattle.std.specs.List.Sorted.{IsNonDecreasingBy, IsStableByKey}
@@ -29,7 +30,8 @@ place_shown slots offsets allocs r = if is_no_place (slot_name slots r.vreg.numb
 abbrev pub location_shown : SpillSlotsValue → List ℕ → List Place → KeptLabel → DebugLocation
 location_shown slots offsets allocs k = record { label = k.label; start = k.range.first; end = k.range.last; place = place_shown slots offsets allocs k.range }
 
--- The debug locations of a function: one for each label that is kept, by rising label, and as listed where labels are equal.
+-- The debug locations of a function: one for each label that is kept, by rising label, and as listed where labels are
+-- equal.
 pub record AreLocated (f : FunctionValue) (slots : SpillSlotsValue) (offsets : List ℕ) (allocs : List Place) (ds : List DebugLocation) : Type 0 where
   pub kept : List KeptLabel
   pub are : AreKeptLabels f f.labels kept
@@ -37,7 +39,8 @@ pub record AreLocated (f : FunctionValue) (slots : SpillSlotsValue) (offsets : L
   pub rising : IsNonDecreasingBy (λ d. d.label) ds
   pub stable : IsStableByKey (λ d. d.label) nat_cmp (map (location_shown slots offsets allocs) kept) ds
 
--- what is needed to find the place of a live range: its vreg is one of the table, and the operand that it names has a place
+-- what is needed to find the place of a live range: its vreg is one of the table, and the operand that it names has a
+-- place
 pub record HasPlace (slots : SpillSlotsValue) (offsets : List ℕ) (allocs : List Place) (r : LiveRange) : Type 0 where
   pub vreg : r.vreg.number < length slots.vreg_spillslots
   pub inst : (o : InstOperand) → r.by ≡ Some o → o.inst < length offsets

@@ -22,9 +22,10 @@ pub record PassesAllChecks (f : FunctionValue) (env : MachineValue) (validate_ss
 abbrev pub FailsValidation : FunctionValue → MachineValue → Bool → RegAllocError → Type 0
 FailsValidation f env validate_ssa e = (operand_count f < 2 ^ 32) × (validate_ssa ≡ true) × (IsWellFormed env f → ⊥) × IsFunctionFault f env e
 
--- The reason that an error gives. A well-formed function is refused only for too many operands, an operand or a branch that the allocator rejects, a lack
--- of registers or slots, or of memory. Not guaranteed: that `Memory` is returned only if memory ran out (it says which tests pass); nor that
--- `TooManyLiveRegs` is returned wherever an instruction doesn't fit.
+-- The reason that an error gives. A well-formed function is refused only for too many operands, an operand or a branch
+-- that the allocator rejects, a lack of registers or slots, or of memory. Not guaranteed: that `Memory` is returned
+-- only if memory ran out (it says which tests pass); nor that `TooManyLiveRegs` is returned wherever an instruction
+-- doesn't fit.
 abbrev pub IsReason : FunctionValue → MachineValue → Bool → RegAllocError → Type 0
 IsReason f env validate_ssa (CritEdge p b) = FailsValidation f env validate_ssa (CritEdge p b)
 IsReason f env validate_ssa (SSA v i) = FailsValidation f env validate_ssa (SSA v i)

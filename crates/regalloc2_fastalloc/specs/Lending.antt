@@ -9,7 +9,8 @@ use Rattle.regalloc2_function.specs.contracts.listing.Output.{the_row as output_
 use Rattle.regalloc2_fastalloc.specs.declared.Ctx.{Ctx}
 use Rattle.regalloc2_fastalloc.specs.contracts.Ctx.{the_row as ctx_row}
 
--- after a loan the context holds the output as the borrower left it, and after an error the output that it held at the call
+-- after a loan the context holds the output as the borrower left it, and after an error the output that it held at the
+-- call
 abbrev pub LendsOutput : (A : RattleType) → Ghosts A.Denot → MutBor (Ctx A.Denot) → Result (MutBor (Output A.Denot)) RegAllocError → Fml
 LendsOutput A alloc ctx result =
     LendsSoOk (ctx_row A alloc) (output_row A alloc) ctx result (λ ended lent. ended.output ≡ lent) (λ ended. ended.output ≡ ctx.now.output)

@@ -45,7 +45,8 @@ pub record LiveInSlots (f : FunctionValue) (out : OutputValue) (owner : ℕ → 
   pub live : (ws : List Way) (k : ℕ) → IsPath f (ToSuccessor k ∷ ws) → (v : VirtualRegister) → IsLive f v (end_of f (ToSuccessor k ∷ ws)) →
       (owner (slot v) ≡ OfVReg v) × ((p : Place) → ArrivesAt f out slot (end_of f ws) k v p → HoldsValueAt f out (ToSuccessor k ∷ ws) p v)
 
--- The slot n of a branch i: it is the branch's first or second one for its class, and only moves name it, each at the point before the branch.
+-- The slot n of a branch i: it is the branch's first or second one for its class, and only moves name it, each at the
+-- point before the branch.
 pub record ServesBranch (out : OutputValue) (n i time : ℕ) : Type 0 where
   pub of_two : time < 2
   pub moves : All (λ e. (e.1.from ≡ InSlot n) ⊎ (e.1.to ≡ InSlot n) → e.0 ≡ before i) out.edits
@@ -56,9 +57,9 @@ pub record ServesBranch (out : OutputValue) (n i time : ℕ) : Type 0 where
 abbrev pub IsPlaceOf : FunctionValue → OutputValue → (ℕ → Owner) → VirtualRegister → Place → Type 0
 IsPlaceOf f out owner v p = ((i k : ℕ) × NamesAt f v i k × (place_at (allocs_of out i) k ≡ p)) ⊎ ((n : ℕ) × (p ≡ InSlot n) × (owner n ≡ OfVReg v))
 
--- There is a debug location for each label that is kept, each from its vreg's first point to its last one, by rising label, and as listed where
--- labels are equal. Each place is valid, and one of that vreg; and if no path from the entry reads or passes a vreg before writing it, it holds that
--- vreg's value.
+-- There is a debug location for each label that is kept, each from its vreg's first point to its last one, by rising
+-- label, and as listed where labels are equal. Each place is valid, and one of that vreg; and if no path from the entry
+-- reads or passes a vreg before writing it, it holds that vreg's value.
 abbrev pub ShowsLabels : FunctionValue → MachineValue → OutputValue → (ℕ → Owner) → Type 0
 ShowsLabels f env out owner = AreDebugLocations f (λ l d. IsProperPlace env out l.vreg.class d.place × IsPlaceOf f out owner l.vreg d.place
     × (IsWrittenFirst f → ShowsValue f out l.vreg d.place)) out
@@ -72,8 +73,8 @@ pub record HasRegistersForAll (f : FunctionValue) (env : MachineValue) : Type 0 
   pub enough : (class : RegClass) (vs : List VirtualRegister) → IsDistinct (λ v w. nat_eq v.number w.number) vs → All (λ v. (v.class ≡ class) × ((i k : ℕ) × NamesAt f v i k)) vs →
       length vs ≤ allocatable_count env class
 
--- The whole guarantee about an output. Only `faithful`, `live` and the last part of `labels` have a premise: that no path from the entry reads or
--- passes a vreg before writing it.
+-- The whole guarantee about an output. Only `faithful`, `live` and the last part of `labels` have a premise: that no
+-- path from the entry reads or passes a vreg before writing it.
 --     in_order            offsets and moves are well-ordered, and no move names a missing place
 --     constraints         each operand's place meets its constraint, whether a path reaches it or not; so an operand that names a register and no vreg is
 --                         in that register, which may be none of the machine's
@@ -81,12 +82,15 @@ pub record HasRegistersForAll (f : FunctionValue) (env : MachineValue) : Type 0 
 --     no_stack_to_stack   no move is stack-to-stack
 --     listed              each move is listed, none after the last instruction of a block
 --     faithful            the output runs as the function does
---     owners              each slot that is named has one owner, a vreg or a branch, and units of its own, of its owner's class
---     live                values that are live between blocks are in the slots that their vregs own, or where the branch between them defined them
+--     owners              each slot that is named has one owner, a vreg or a branch, and units of its own, of its
+--                         owner's class
+--     live                values that are live between blocks are in the slots that their vregs own, or where the
+--                         branch between them defined them
 --     slots               slots take few units
 --     unspilled           where each vreg can have a register of its own, there are no moves and no slots
 --     branch_slots        a branch owns two slots for a class at most, and only moves at the point before it name them
---     labels              there is a debug location for each label that is kept; it names a place of its vreg, which holds the vreg's value
+--     labels              there is a debug location for each label that is kept; it names a place of its vreg, which
+--                         holds the vreg's value
 pub record IsAllocation (f : FunctionValue) (env : MachineValue) (out : OutputValue) : Type 0 where
   pub in_order : IsInOrder f out
   pub constraints : (i : ℕ) → i < length f.insts → ConstraintsMet f env out i

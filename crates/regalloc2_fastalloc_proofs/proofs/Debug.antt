@@ -5,8 +5,8 @@
 -- is `shown` in `ShownPlaceHoldsValue`, which has two halves.
 -- With a slot: `left_slot_shows` in `SlotAfterWalk`. Read `IsKeptInSlot` in the specs, then `slot_shows` in
 -- `SlotHoldsToUses` (step by step along a path), `defined_shows` in `SlotHoldsDefinedValue` (after a definition, from
--- `stores` in `DefWithMovesStores`), `entered_shows` in `SlotAtBlockBegin` (at a block's start, from the places that hold values
--- there), and `kept_in_slot` in `MovesLeaveSlot`.
+-- `stores` in `DefWithMovesStores`), `entered_shows` in `SlotAtBlockBegin` (at a block's start, from the places that
+-- hold values there), and `kept_in_slot` in `MovesLeaveSlot`.
 -- Without one: `register_shows` in `OperandPlaceHoldsValue`. Read `IsUnslotted` and `in_stays` in
 -- `LocationWithoutSlot`, then `value_kept_over_moves` in `PlaceKeepsValueOverMoves`.
 -- The others are steps of both: of the walk (`UnnamedStaysUnlocated`, `LocatedStaysOrHasSlot`,

@@ -1,5 +1,6 @@
 -- The operands of one instruction, allocated one after another: the late ones, then the early ones.
--- Read first: `BlockTail`, then `Located` and `OwesPlaces` in `RecordOverState`, then `Ready` and `Laid` in `RecordOfInst`.
+-- Read first: `BlockTail`, then `Located` and `OwesPlaces` in `RecordOverState`, then `Ready` and `Laid` in
+-- `RecordOfInst`.
 -- Depends on `Evictions` and `Moves`, and on `RecordSteps` and `AllowedPlaces` of regalloc2_carry.
 -- Main theorem: `laid_both` in `AllOperands`. Both passes keep the record `Laid`: which operands have claimed a place,
 -- which are done, and that the rest of the listing carries each known vreg from where the record needs it.

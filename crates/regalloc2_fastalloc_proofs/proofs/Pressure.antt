@@ -5,10 +5,10 @@
 -- as are needed, and one is reserved for moves. An instruction that fits leaves a register for each operand that waits
 -- (`WaitingOperands`), once fixed registers and clobbers are reserved (`EnoughAtStart`).
 -- Then upwards: `OneRegTaken`, `StepsLeaveEnough` and `EvictionsLeaveEnough` (one step), `ClaimLeavesEnough`,
--- `FreeRegsCoverWaiting` and `OperandFindsReg` (one operand), `OperandsLeaveEnough` (`processes_operand_pays`), `PassesLeaveEnough`
--- (`never_late`, `never_early`), `InstFindsRegs` (`never_alloc_inst`), with `FittingInstReserves`, `BranchFindsRegs` and
--- `BlockStartFindsRegs` for the rest of a block. `never_` says that a step doesn't fail, `ample_` that it leaves
--- enough. `TablesHaveAllRegs` and `WalkKeepsSafe` prove what all of them assume.
+-- `FreeRegsCoverWaiting` and `OperandFindsReg` (one operand), `OperandsLeaveEnough` (`processes_operand_pays`),
+-- `PassesLeaveEnough` (`never_late`, `never_early`), `InstFindsRegs` (`never_alloc_inst`), with `FittingInstReserves`,
+-- `BranchFindsRegs` and `BlockStartFindsRegs` for the rest of a block. `never_` says that a step doesn't fail, `ample_`
+-- that it leaves enough. `TablesHaveAllRegs` and `WalkKeepsSafe` prove what all of them assume.
 pub mod BlockStartFindsRegs
 pub mod EvictionsLeaveEnough
 pub mod InstFindsRegs

@@ -6,8 +6,8 @@
 -- `used_has_slot` in `LiveInHasSlot`, that a vreg used in a block that doesn't write it has a slot from that block's
 -- start on in the walk. `Walk/BlocksCarryFromFreshState` uses both.
 -- `InstLeavesOwnedSlot` gives the theorem's premise on edits: one that goes to a vreg's own slot is one that may write
--- that vreg's value (`own_written`). `LocatedStaysLocated` serves `LiveInHasSlot`: a vreg with a location keeps one over
--- evictions, moves and a block's start.
+-- that vreg's value (`own_written`). `LocatedStaysLocated` serves `LiveInHasSlot`: a vreg with a location keeps one
+-- over evictions, moves and a block's start.
 -- `SlotsGrow` restates growth for the table of slots alone, as `Safety` needs it. `SlotsOwned` (`owner_known`) says
 -- that an operand in a slot of the output is in its own vreg's.
 -- That each slot of the output has one owner, with units of its own, is `made_slots_owned` in `OutputOwnsSlots`: each

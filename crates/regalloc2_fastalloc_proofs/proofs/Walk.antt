@@ -1,10 +1,11 @@
--- Each block of the output carries what paths require of it: the walk over all blocks, from a fresh state to the output.
+-- Each block of the output carries what paths require of it: the walk over all blocks, from a fresh state to the
+-- output.
 -- Read first: `step_of` in `InstForOneVReg`, which is `Inst/OneInstCarries` for one vreg.
 -- Depends on `Inst`, `BlockBegin`, `Branches`, `BlockEnd`, `Safety` and `Slots`.
 -- Main theorem: `blocks_carry` in `BlocksCarryFromFreshState`. If branches define in known places, operands
 -- have good places and edits write to slots only what they may, every block's listing carries each vreg that is used
--- somewhere from its place on paths before the block to the one where paths need it after. Beside it: `at_walks_end` (the
--- final state), `used_slots`, `handed_slots` (what is used across blocks has a slot).
+-- somewhere from its place on paths before the block to the one where paths need it after. Beside it: `at_walks_end`
+-- (the final state), `used_slots`, `handed_slots` (what is used across blocks has a slot).
 -- `InstsBeforeLastCarry` chains `step_of` (`goes_carried`), `LastInstAndRest` splits a block this way (`split`), and
 -- `BlockObligations` adds the block's start and its last instruction (`block_owes`). `FunctionLaws` is what all of them
 -- require of the function. `BlockCarries` puts these together (`block_carries`), with `DefsBeforeUses` for what other

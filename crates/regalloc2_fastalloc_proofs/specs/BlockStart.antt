@@ -14,6 +14,7 @@ pub data ReloadParam (point : ℕ) (v : VirtualRegister) (t : InstRegs) (old : S
       → m.lrus ≡ old.lrus → AddMoveIf point v.class (not (is_place s (alloc_of old.places v.number))) s (alloc_of old.places v.number) t m o
       → ReloadParam point v t old o
 
+-- the case of `ReloadParam` with a next state
 abbrev pub ReloadsParam : ℕ → VirtualRegister → InstRegs → InstRegs → StateValue → StateValue → Type 0
 ReloadsParam point v t u old new = ReloadParam point v t old (next u new)
 
@@ -23,6 +24,7 @@ pub data ReloadsParams (point : ℕ) (params : List VirtualRegister) (t : InstRe
   one_begun : (k : ℕ) (u w : InstRegs) (m n : StateValue) → k < length params → ReloadsParams point params t old k u m →
       ReloadsParam point (slice_index_or params k no_vreg) u w m n → ReloadsParams point params t old (k + 1) w n
 
+-- all parameters are reloaded, or the moves of one lack a register
 abbrev pub ReloadParams : ℕ → List VirtualRegister → InstRegs → StateValue → Outcome InstRegs → Type 0
 ReloadParams point params t old = InTurn (length params) (ReloadsParams point params t old)
     (λ k u m. ReloadParam point (slice_index_or params k no_vreg) u m no_register)
@@ -41,6 +43,7 @@ pub record RegsAreNotReloaded (point : ℕ) (t : InstRegs) (old : StateValue) : 
   pub empties : ReloadsRegs point t old inst_regs middle
   pub stops : EvictPReg point register inst_regs middle no_register
 
+-- all registers that hold vregs are emptied, or one of them can't be
 abbrev pub ReloadRegs : ℕ → InstRegs → StateValue → Outcome InstRegs → Type 0
 ReloadRegs point t old (next u new) = ReloadsRegs point t old u new
 ReloadRegs point t old no_register = RegsAreNotReloaded point t old
@@ -62,6 +65,7 @@ pub data BeginIsNotReloaded (point : ℕ) (params : List VirtualRegister) (old :
   at_register : (began begun : InstRegs) (m : StateValue) → IsFresh began old → ReloadsParams point params began old (length params) begun m →
       ReloadRegs point begun m no_register → BeginIsNotReloaded point params old
 
+-- the reloads at the start of a block are made, or lack a register
 abbrev pub ReloadAtBegin : ℕ → List VirtualRegister → StateValue → Outcome (Unit {0}) → Type 0
 ReloadAtBegin point params old (next x new) = ReloadsAtBegin point params old new
 ReloadAtBegin point params old no_register = BeginIsNotReloaded point params old

@@ -27,6 +27,7 @@ pub record AllocsInstOfAt (i : ℕ) (operands : List OperandValue) (clobbers : P
   pub inside : (k : ℕ) → k < length operands → slice_index_or places (start + k) NoPlace ≡ slice_index_or here k NoPlace
   pub outside : (k : ℕ) → (k < start) ⊎ (start + length operands ≤ k) → slice_index_or places k NoPlace ≡ slice_index_or before_it k NoPlace
 
+-- `AllocsInstOfAt` for the operands and clobbers of an instruction
 abbrev pub AllocsInstAt : ℕ → InstValue → ℕ → List Place → List Place → StateValue → StateValue → Type 0
 AllocsInstAt i inst start before_it places old new =
     AllocsInstOfAt i inst.operands inst.clobbers (ends_block inst) start before_it places old new
@@ -71,6 +72,7 @@ pub data InBlockIsNotAllocated (f : FunctionValue) (b i : ℕ) (before_it : List
   in_pass : (places : List Place) (m : StateValue) (a : AllocsInstAt i (inst_at f i) (offset_of f i) before_it places old m) → (inst_at f i).is_branch ≡ true →
       ProcessBranch f b i a.allocates.ended m no_register → InBlockIsNotAllocated f b i before_it old
 
+-- an instruction of a block is allocated, and a branch passes its arguments, or a register is missing
 abbrev pub AllocInstInBlock : FunctionValue → ℕ → ℕ → List Place → StateValue → Outcome (List Place) → Type 0
 AllocInstInBlock f b i before_it old (next places new) = AllocsInstInBlock f b i before_it places old new
 AllocInstInBlock f b i before_it old no_register = InBlockIsNotAllocated f b i before_it old
@@ -91,6 +93,7 @@ pub record InstsAreNotAllocated (f : FunctionValue) (b : ℕ) (blank : List Plac
   pub walks : AllocsBlockInsts f b blank old (index + 1) places middle
   pub stops : AllocInstInBlock f b index places middle no_register
 
+-- all instructions of a block are allocated, the last one first, or one of them runs out of registers
 abbrev pub AllocBlock : FunctionValue → ℕ → List Place → StateValue → Outcome (List Place) → Type 0
 AllocBlock f b blank old (next places new) = AllocsBlockInsts f b blank old (block_at f b).range.first places new
 AllocBlock f b blank old no_register = InstsAreNotAllocated f b blank old
@@ -107,6 +110,7 @@ pub data BlockIsNotBegun (f : FunctionValue) (b : ℕ) (old : StateValue) : Type
   at_stores : (m : StateValue) → ReloadsAtBegin (before (block_at f b).range.first) (block_at f b).params old m → StoreBranchDefs f b m no_register →
       BlockIsNotBegun f b old
 
+-- the reloads and stores at the start of a block are made, or lack a register
 abbrev pub BeginBlock : FunctionValue → ℕ → StateValue → Outcome (Unit {0}) → Type 0
 BeginBlock f b old (next x new) = BeginsBlock f b old new
 BeginBlock f b old no_register = BlockIsNotBegun f b old

@@ -1,4 +1,5 @@
--- What a branch does to the tables: its arguments are spilled to their slots, and moved from there to the parameters' slots.
+-- What a branch does to the tables: its arguments are spilled to their slots, and moved from there to the parameters'
+-- slots.
 use Rattle.std.specs.Prelude.{ℕ, ◌≡◌, ◌≢◌, ◌+◌, ◌<◌, ◌≤◌, ◌⊎◌, ◌++◌, ◌∷◌, [], List, Bool, true, false, if◌then◌else◌, length, Contains, None, Some}
 use Rattle.std.specs.Prelude.{slice_index_or}
 use Rattle.std.specs.List.{All}
@@ -27,11 +28,13 @@ pub record AreNextTempSlots (s : SpillSlotsValue) (class : RegClass) (pair : Scr
   pub short : HasTooFewSlots pair → most_units < later_end s class 1
   pub owned : SlotsHaveOneOwner s
 
--- a scratch register for moves of a class: the machine's dedicated one, or an allocatable one that is free at both positions
+-- a scratch register for moves of a class: the machine's dedicated one, or an allocatable one that is free at both
+-- positions
 abbrev pub MayBeScratch : InstRegs → StateValue → RegClass → Register → Type 0
 MayBeScratch inst_regs t class r = (slice_index_or t.dedicated_scratch (class_code class) None ≡ Some r)
     ⊎ (MayHold t class r × IsAvailableAt inst_regs both_positions r)
 
+-- the place is a scratch register for moves of a class
 abbrev pub IsScratchRegFor : InstRegs → StateValue → RegClass → Place → Type 0
 IsScratchRegFor inst_regs t class p = (r : Register) × (p ≡ InRegister r) × MayBeScratch inst_regs t class r
 
@@ -45,6 +48,7 @@ pub record RegsAvoidStack (t : StateValue) : Type 0 where
 abbrev pub IsSlotBelow : ℕ → Place → Type 0
 IsSlotBelow count p = (n : ℕ) × (p ≡ InSlot n) × (n < count)
 
+-- both ends of each move are slots below a count
 abbrev pub AreBetweenSlots : ℕ → Moves → Type 0
 AreBetweenSlots count ms = All (λ m. IsSlotBelow count m.0 × IsSlotBelow count m.1) ms
 
@@ -52,7 +56,8 @@ AreBetweenSlots count ms = All (λ m. IsSlotBelow count m.0 × IsSlotBelow count
 abbrev pub IsScratchPlace : InstRegs → StateValue → RegClass → Place → Type 0
 IsScratchPlace inst_regs old class p = IsScratchRegFor inst_regs old class p ⊎ ((k : ℕ) × (p ≡ InSlot k) × (old.slots.count ≤ k))
 
--- a place that the moves go through: a scratch register, the borrowed register, or one of the class's next temporary slots
+-- a place that the moves go through: a scratch register, the borrowed register, or one of the class's next temporary
+-- slots
 abbrev pub IsScratchUsed : InstRegs → StateValue → StateValue → RegClass → Place → Type 0
 IsScratchUsed inst_regs old new class p =
     ((r : Register) × (p ≡ InRegister r) × (MayBeScratch inst_regs old class r ⊎ MayHold old class r))
@@ -66,8 +71,8 @@ pub record IsOrdered (inst_regs : InstRegs) (class : RegClass) (given : Moves) (
   pub source : IsScratchUsed inst_regs old new class m.0 ⊎ ((n : Place × Place × Unit {0}) × Contains given n × (m.0 ≡ n.0))
   pub target : IsScratchUsed inst_regs old new class m.1 ⊎ ((n : Place × Place × Unit {0}) × Contains given n × (m.1 ≡ n.1))
 
--- The moves `made`, run one after another, do what the given parallel moves of a class do, but for scratch places. All else stays but the
--- number of temporary slots, which grows by two at most.
+-- The moves `made`, run one after another, do what the given parallel moves of a class do, but for scratch places. All
+-- else stays but the number of temporary slots, which grows by two at most.
 pub record OrdersMoves (inst_regs : InstRegs) (class : RegClass) (given made : Moves) (old new : StateValue) : Type 0 where
   pub places : new.places ≡ old.places
   pub edits : new.edits ≡ old.edits
@@ -94,10 +99,12 @@ pub record Pushes (point : ℕ) (inst_regs : InstRegs) (class : RegClass) (given
 abbrev pub LacksMoveReg : RegClass → Moves → StateValue → Type 0
 LacksMoveReg class given old = (given ≢ []) × NoneIsFrom old.allocatable class 0
 
+-- parallel moves of a class are put in order, or no register of the class is allocatable
 abbrev pub OrderMoves : InstRegs → RegClass → Moves → StateValue → Outcome Moves → Type 0
 OrderMoves inst_regs class given old (next made new) = OrdersMoves inst_regs class given made old new
 OrderMoves inst_regs class given old no_register = LacksMoveReg class given old
 
+-- parallel moves of a class are ordered and pushed at a point, or no register of the class is allocatable
 abbrev pub PushMoves : ℕ → InstRegs → RegClass → Moves → StateValue → Outcome (Unit {0}) → Type 0
 PushMoves point inst_regs class given old (next x new) = Pushes point inst_regs class given old new
 PushMoves point inst_regs class given old no_register = LacksMoveReg class given old
@@ -119,6 +126,7 @@ pub record ArgumentIsNotSpilled (point : ℕ) (t : InstRegs) (old : StateValue) 
   pub machine : SameMachine old middle
   pub stops : EvictPReg point register t middle no_register
 
+-- an argument is moved to its slot, or the register that holds it can't be emptied
 abbrev pub SpillArgument : ℕ → VirtualRegister → InstRegs → StateValue → Outcome (Place × InstRegs) → Type 0
 SpillArgument point a t old (next (s, u) new) = SpillsArgument point a s t u old new
 SpillArgument point a t old no_register = ArgumentIsNotSpilled point t old
@@ -145,8 +153,8 @@ of_class c (g ∷ gs) = if is_class c g.class then (g.from, g.to, tt) ∷ of_cla
 abbrev pub IsOwnDef : FunctionValue → ℕ → VirtualRegister → Type 0
 IsOwnDef f b v = (j : ℕ) × DefinesNumber (inst_at f (last_of (block_at f b))).operands v.number j
 
--- The first n parameters of an edge with their arguments: each parameter's slot is made, the argument is spilled, and a slot-to-slot move is
--- gathered. Nothing is done for arguments that the branch defines itself.
+-- The first n parameters of an edge with their arguments: each parameter's slot is made, the argument is spilled, and a
+-- slot-to-slot move is gathered. Nothing is done for arguments that the branch defines itself.
 pub data GathersEdgeMoves (Own : VirtualRegister → Type 0) (point : ℕ) (params arguments : List VirtualRegister) (t : InstRegs) (old : StateValue)
     (before_it : List ClassMove) : ℕ → InstRegs →
     StateValue → List ClassMove → Type 0 where
@@ -161,6 +169,7 @@ pub data GathersEdgeMoves (Own : VirtualRegister → Type 0) (point : ℕ) (para
       GathersEdgeMoves Own point params arguments t old before_it j u m given → Own (slice_index_or arguments j no_vreg)
       → GathersEdgeMoves Own point params arguments t old before_it (j + 1) u m given
 
+-- the moves of one edge are gathered, or one of its arguments can't be spilled
 abbrev pub GatherEdge : (VirtualRegister → Type 0) → ℕ → List VirtualRegister → List VirtualRegister → InstRegs → StateValue → List ClassMove →
     Outcome (InstRegs × List ClassMove) → Type 0
 GatherEdge Own point params arguments t old before_it = InTurn (length params)
@@ -177,6 +186,7 @@ pub data GathersMoves (f : FunctionValue) (b point : ℕ) (t : InstRegs) (old : 
       w n more →
       GathersMoves f b point t old (k + 1) w n more
 
+-- the moves of all edges out of a block are gathered, or an argument of one of them can't be spilled
 abbrev pub GatherMoves : FunctionValue → ℕ → ℕ → InstRegs → StateValue → Outcome (InstRegs × List ClassMove) → Type 0
 GatherMoves f b point t old = InTurn (length (block_at f b).succs) (λ k g m. GathersMoves f b point t old k g.0 m g.1)
     (λ k g m. GatherEdge (IsOwnDef f b) point (block_at f (target_at f b k)).params (arguments_at f b k) g.0 m g.1 no_register)
@@ -199,6 +209,7 @@ pub data BranchIsNotProcessed (f : FunctionValue) (b i : ℕ) (t : InstRegs) (ol
       GathersMoves f b (before i) t old (length (block_at f b).succs) u m given → n.allocatable ≡ m.allocatable
       → LacksMoveReg class (of_class class given) n → BranchIsNotProcessed f b i t old
 
+-- a branch passes its arguments, or a register is missing
 abbrev pub ProcessBranch : FunctionValue → ℕ → ℕ → InstRegs → StateValue → Outcome InstRegs → Type 0
 ProcessBranch f b i t old (next u new) = ProcessesBranch f b i t u old new
 ProcessBranch f b i t old no_register = BranchIsNotProcessed f b i t old
@@ -219,7 +230,8 @@ ParametersDiffer f b = (k l i j : ℕ) → HasEdge f b k → HasEdge f b l → (
     let qs : List VirtualRegister = (block_at f (target_at f b l)).params in
     i < length ps → j < length qs → (slice_index_or ps i no_vreg).number ≡ (slice_index_or qs j no_vreg).number → (k ≡ l) × (i ≡ j))
 
--- a block whose branch may pass its arguments: its edges lead to blocks, with as many arguments as parameters, all of them known
+-- a block whose branch may pass its arguments: its edges lead to blocks, with as many arguments as parameters, all of
+-- them known
 pub record MayBranch (f : FunctionValue) (b : ℕ) (t : StateValue) : Type 0 where
   pub targets : (k : ℕ) → HasEdge f b k → target_at f b k < length f.blocks
   pub counted : (k : ℕ) → HasEdge f b k → length (arguments_at f b k) ≡ length (block_at f (target_at f b k)).params
@@ -243,6 +255,7 @@ pub record PushesAllClasses (point : ℕ) (inst_regs : InstRegs) (ints floats ve
   pub float : Pushes point inst_regs Float floats after_ints after_floats
   pub vector : Pushes point inst_regs Vector vectors after_floats new
 
+-- the moves of all three classes are pushed, or those of one class lack a register
 abbrev pub PushAllClasses : ℕ → InstRegs → Moves → Moves → Moves → StateValue → Outcome (Unit {0}) → Type 0
 PushAllClasses point inst_regs ints floats vectors old (next x new) = PushesAllClasses point inst_regs ints floats vectors old new
 PushAllClasses point inst_regs ints floats vectors old no_register =

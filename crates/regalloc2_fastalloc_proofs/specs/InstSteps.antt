@@ -1,6 +1,6 @@
 -- What the steps of the walk do to the tables, for operands under every constraint but `Limit`.
--- A relation named after a function of the walk, such as `AddMove`, relates a state to its outcome: the next state, or an error because a register is
--- missing. In the third person, such as `AddsMove`, it is the case with a next state.
+-- A relation named after a function of the walk, such as `AddMove`, relates a state to its outcome: the next state, or
+-- an error because a register is missing. In the third person, such as `AddsMove`, it is the case with a next state.
 use Rattle.std.specs.Prelude.{ℕ, ◌≡◌, ◌≢◌, ◌+◌, ◌<◌, ◌⊎◌, Bool, true, false, not, ◌&&◌, ◌||◌, List, [], ◌∷◌, ◌++◌, length, Option, None, Some, slice_index}
 use Rattle.std.specs.Prelude.{slice_index_or, slice_set, ◌-◌, ◌≤◌, nat_eq, is_none, filter, if◌then◌else◌}
 use Rattle.regalloc2_names.specs.declared.RegClass.{RegClass}
@@ -26,8 +26,8 @@ use Rattle.regalloc2_fastalloc_state.specs.declared.request.Requirement.{Require
 use Rattle.regalloc2_fastalloc_state.specs.declared.request.Requirement.TheVariants.{AnyPlace, AnyReg, InMemory, InPReg}
 use Rattle.regalloc2_fastalloc_state.specs.declared.request.OperandRequest.{OperandRequest}
 
--- the tables of the walk; the moves in the order in which they were pushed; the machine's registers; and for each class its allocatable registers, the
--- most recently used first
+-- the tables of the walk; the moves in the order in which they were pushed; the machine's registers; and for each class
+-- its allocatable registers, the most recently used first
 pub record StateValue : Type 0 where
   pub places : VRegAllocsValue
   pub slots : SpillSlotsValue
@@ -87,9 +87,10 @@ pub record MayHold (t : StateValue) (class : RegClass) (r : Register) : Type 0 w
   pub small : r.number < 64
   pub allocatable : has_register t.allocatable r ≡ true
 
--- an allocatable register is emptied: its vreg's current location becomes its slot, and the vreg is reloaded from there at the point
+-- an allocatable register is emptied: its vreg's current location becomes its slot, and the vreg is reloaded from there
+-- at the point
 pub data EvictsVReg (point : ℕ) (r : Register) (old new : StateValue) : Type 0 where
-  nobody : vreg_of_preg old.places r ≡ None → new ≡ old → EvictsVReg point r old new
+  none_held : vreg_of_preg old.places r ≡ None → new ≡ old → EvictsVReg point r old new
   moved : (v : VirtualRegister) (s : Place) → r.number < 64 → vreg_of_preg old.places r ≡ Some v → GetsSpillSlot old.slots new.slots v s →
       SetsAlloc old.places new.places v s
       → new.edits ≡ old.edits ++ a_move point s (InRegister r) ∷ [] → SameMachine old new → new.lrus ≡ old.lrus → EvictsVReg point r old new
@@ -120,6 +121,7 @@ pub record LacksScratchReg (class : RegClass) (t : InstRegs) (old : StateValue) 
   pub none_taken : slice_index_or t.scratch (class_code class) None ≡ None
   pub none_free : NoneIsAvailable class t old
 
+-- a scratch register for stack-to-stack moves of a class is found, or none is free
 abbrev pub AllocScratchReg : ℕ → RegClass → InstRegs → StateValue → Outcome (Register × InstRegs) → Type 0
 AllocScratchReg point class t old (next (by, u) new) = AllocsScratchReg point class t u by old new
 AllocScratchReg point class t old no_register = LacksScratchReg class t old
@@ -134,6 +136,7 @@ pub data AddMove (point : ℕ) (class : RegClass) (from to : Place) (t : InstReg
       → AddMove point class from to t old (next u new)
   no_scratch : (is_stack_in old from && is_stack_in old to) ≡ true → LacksScratchReg class t old → AddMove point class from to t old no_register
 
+-- the case of `AddMove` with a next state
 abbrev pub AddsMove : ℕ → RegClass → Place → Place → InstRegs → InstRegs → StateValue → StateValue → Type 0
 AddsMove point class from to t u old new = AddMove point class from to t old (next u new)
 
@@ -144,6 +147,7 @@ pub data EvictPReg (point : ℕ) (r : Register) (t : InstRegs) (old : StateValue
       GetsSpillSlot old.slots m.slots v s → SetsAlloc old.places m.places v s → m.edits ≡ old.edits → SameMachine old m
       → m.lrus ≡ old.lrus → AddMove point v.class s (InRegister r) t m o → EvictPReg point r t old o
 
+-- the case of `EvictPReg` with a next state
 abbrev pub EvictsPReg : ℕ → Register → InstRegs → InstRegs → StateValue → StateValue → Type 0
 EvictsPReg point r t u old new = EvictPReg point r t old (next u new)
 
@@ -154,6 +158,7 @@ pub data EvictOtherVRegs (point : ℕ) (r : Register) (v : VirtualRegister) (t :
   others : {o : Outcome InstRegs} → ((w : VirtualRegister) → vreg_of_preg old.places r ≡ Some w → w.number ≢ v.number) → EvictPReg point r t old o
       → EvictOtherVRegs point r v t old o
 
+-- the case of `EvictOtherVRegs` with a next state
 abbrev pub EvictsOtherVRegs : ℕ → Register → VirtualRegister → InstRegs → InstRegs → StateValue → StateValue → Type 0
 EvictsOtherVRegs point r v t u old new = EvictOtherVRegs point r v t old (next u new)
 
@@ -164,8 +169,8 @@ MeetsRequirement t AnyReg p = (r : Register) × (p ≡ InRegister r) × (is_stac
 MeetsRequirement t InMemory p = is_stack_in t p ≡ true
 MeetsRequirement t (InPReg r) p = p ≡ InRegister r
 
--- The place of an operand, before it is claimed: its vreg's current location; or the register that it requires; or its slot; or the one chosen of
--- the free registers, where any register will do only if its vreg is in none.
+-- The place of an operand, before it is claimed: its vreg's current location; or the register that it requires; or its
+-- slot; or the one chosen of the free registers, where any register will do only if its vreg is in none.
 pub data SelectsPlace (inst_regs : InstRegs) (o : OperandRequest) (p : Place) (old new : StateValue) : Type 0 where
   stays : alloc_of old.places o.vreg.number ≡ p → MeetsRequirement old o.requirement p → new ≡ old → SelectsPlace inst_regs o p old new
   fixed : (r : Register) → o.requirement ≡ InPReg r → p ≡ InRegister r → new ≡ old → SelectsPlace inst_regs o p old new
@@ -186,7 +191,8 @@ abbrev pub scratch_reserve_left : PRegSet → List (Option Register) → InstReg
 scratch_reserve_left stack kept inst_regs class = if needs_scratch_reserve stack kept class && is_none
     (slice_index_or inst_regs.scratch (class_code class) None) then 1 else 0
 
--- if a register that is free at both positions is taken, enough are left for the operands that require any register and for a stack-to-stack move
+-- if a register that is free at both positions is taken, enough are left for the operands that require any register and
+-- for a stack-to-stack move
 abbrev pub IsAffordable : InstRegs → StateValue → Register → Type 0
 IsAffordable inst_regs t r = is_free t.allocatable inst_regs r ≡ true →
     awaited_of inst_regs r.class + scratch_reserve_left t.fixed_stack t.dedicated_scratch inst_regs r.class + 1 ≤ free_count t.allocatable inst_regs r.class
@@ -210,7 +216,8 @@ pub record UsesReg (r : Register) (old new : StateValue) : Type 0 where
   pub newest : order_of new r.class ≡ r ∷ filter (λ q. not (is_register r q)) (order_of old r.class)
   pub others : (class : RegClass) → class ≢ r.class → order_of new class ≡ order_of old class
 
--- the place of an operand that requires any register or any place becomes the most recently used of its class, if it is an allocatable register
+-- the place of an operand that requires any register or any place becomes the most recently used of its class, if it is
+-- an allocatable register
 pub data UsesPlace (w : Requirement) (p : Place) (old new : StateValue) : Type 0 where
   used : (r : Register) → (w ≡ AnyPlace) ⊎ (w ≡ AnyReg) → p ≡ InRegister r → has_register old.allocatable r ≡ true → UsesReg r old new → UsesPlace w p old new
   not_used : ((r : Register) → (w ≡ AnyPlace) ⊎ (w ≡ AnyReg) → p ≡ InRegister r → has_register old.allocatable r ≡ false) → new ≡ old →
@@ -241,6 +248,7 @@ pub data LacksPlace (point : ℕ) (o : OperandRequest) (t : InstRegs) (old : Sta
   in_pick : SelectPlace t o old no_register → LacksPlace point o t old
   in_clear : (p : Place) (m : StateValue) → SelectsPlace t o p old m → TakePlace point o p t m no_register → LacksPlace point o t old
 
+-- an operand gets a place, or no register is found for it
 abbrev pub AllocOperand : ℕ → OperandRequest → InstRegs → StateValue → Outcome (Place × InstRegs) → Type 0
 AllocOperand point o t old (next (p, u) new) = AllocsOperand point o p t u old new
 AllocOperand point o t old no_register = LacksPlace point o t old
@@ -250,6 +258,7 @@ pub data AddMoveIf (point : ℕ) (class : RegClass) (is_made : Bool) (from to : 
   sent : {o : Outcome InstRegs} → is_made ≡ true → AddMove point class from to t old o → AddMoveIf point class is_made from to t old o
   unsent : {u : InstRegs} {new : StateValue} → is_made ≡ false → u ≡ t → new ≡ old → AddMoveIf point class is_made from to t old (next u new)
 
+-- the case of `AddMoveIf` with a next state
 abbrev pub AddsMoveIf : ℕ → RegClass → Bool → Place → Place → InstRegs → InstRegs → StateValue → StateValue → Type 0
 AddsMoveIf point class is_made from to t u old new = AddMoveIf point class is_made from to t old (next u new)
 
@@ -257,12 +266,13 @@ AddsMoveIf point class is_made from to t u old new = AddMoveIf point class is_ma
 abbrev pub is_another : Place → Place → Bool
 is_another p q = not (is_place p NoPlace) && not (is_place p q)
 
--- the definition of a vreg in a place: the vreg leaves the tables, and is moved to where it is expected and to its slot; an instruction that ends its block adds no move
+-- the definition of a vreg in a place: the vreg leaves the tables, and is moved to where it is expected and to its
+-- slot; an instruction that ends its block adds no move
 pub record FreesAlloc (point : ℕ) (v : VirtualRegister) (ends_block : Bool) (p : Place) (t u : InstRegs) (old new : StateValue) : Type 0 where
   pub left : StateValue
   pub inst_regs : InstRegs
   pub middle : StateValue
-  pub settles : SetsAlloc old.places left.places v NoPlace
+  pub sets_alloc : SetsAlloc old.places left.places v NoPlace
   pub slots : left.slots ≡ old.slots
   pub edits : left.edits ≡ old.edits
   pub machine : SameMachine old left
@@ -283,6 +293,7 @@ pub data DefIsNotFreed (point : ℕ) (v : VirtualRegister) (ends_block : Bool) (
       && not (is_place (slot_name old.slots v.number) (alloc_of old.places v.number)))) p (slot_name old.slots v.number) inst_regs middle no_register
       → DefIsNotFreed point v ends_block p t old
 
+-- a definition ends its vreg's location and is moved to it, or its moves lack a register
 abbrev pub FreeAlloc : ℕ → VirtualRegister → Bool → Place → InstRegs → StateValue → Outcome InstRegs → Type 0
 FreeAlloc point v ends_block p t old (next u new) = FreesAlloc point v ends_block p t u old new
 FreeAlloc point v ends_block p t old no_register = DefIsNotFreed point v ends_block p t old
@@ -301,6 +312,7 @@ pub record AllocsDefOp (point : ℕ) (o : OperandRequest) (ends_block : Bool) (p
   pub defines : FreesAlloc point o.vreg ends_block p inst_regs u middle new
   pub awaited : u.awaited ≡ awaited_less o.requirement o.vreg.class t.awaited
 
+-- a use gets its place, which becomes its vreg's location if the vreg had none
 pub record AllocsUse (point : ℕ) (o : OperandRequest) (p : Place) (t u : InstRegs) (old new : StateValue) : Type 0 where
   pub middle : StateValue
   pub gets : AllocsOperand point o p t u old middle
@@ -313,10 +325,12 @@ pub data DefIsNotAllocated (point : ℕ) (o : OperandRequest) (ends_block : Bool
   in_define : (p : Place) (inst_regs : InstRegs) (middle : StateValue) → AllocsOperand point o p t inst_regs old middle →
       FreeAlloc point o.vreg ends_block p inst_regs middle no_register → DefIsNotAllocated point o ends_block t old
 
+-- a definition is allocated, or lacks a register for its place or its moves
 abbrev pub AllocDefOp : ℕ → OperandRequest → Bool → InstRegs → StateValue → Outcome (Place × InstRegs) → Type 0
 AllocDefOp point o ends_block t old (next (p, u) new) = AllocsDefOp point o ends_block p t u old new
 AllocDefOp point o ends_block t old no_register = DefIsNotAllocated point o ends_block t old
 
+-- a use is allocated, or lacks a register for its place
 abbrev pub AllocUse : ℕ → OperandRequest → InstRegs → StateValue → Outcome (Place × InstRegs) → Type 0
 AllocUse point o t old (next (p, u) new) = AllocsUse point o p t u old new
 AllocUse point o t old no_register = AllocOperand point o t old no_register
@@ -350,9 +364,11 @@ use_request o (InRegister r) = record { vreg = o.vreg; requirement = InPReg r; p
 use_request o NoPlace = record { vreg = o.vreg; requirement = requirement_of o.constraint; positions = positions_of o; is_def = false }
 use_request o (InSlot n) = record { vreg = o.vreg; requirement = requirement_of o.constraint; positions = positions_of o; is_def = false }
 
+-- the request for a definition that isn't a reuse
 abbrev pub def_request : OperandValue → OperandRequest
 def_request o = record { vreg = o.vreg; requirement = requirement_of o.constraint; positions = positions_of o; is_def = true }
 
+-- the request for a reuse, which holds its register at both positions
 abbrev pub reuse_request : OperandValue → OperandValue → OperandRequest
 reuse_request o named = record { vreg = o.vreg; requirement = reuse_requirement_of named.constraint; positions = both_positions; is_def = true }
 
@@ -384,6 +400,7 @@ pub data OperandIsNotProcessed (i : ℕ) (ends_block : Bool) (operands : List Op
       AllocDefOp (after i) (reuse_request (op_at operands k) (op_at operands n)) ends_block t old no_register →
       OperandIsNotProcessed i ends_block operands k here t old
 
+-- an operand is allocated, whatever its constraint, or a register is missing
 abbrev pub ProcessOperand : ℕ → Bool → List OperandValue → ℕ → List Place → InstRegs → StateValue → Outcome (List Place × InstRegs) → Type 0
 ProcessOperand i ends_block operands k here t old (next (there, u) new) = ProcessesOperand i ends_block operands k here there t u old new
 ProcessOperand i ends_block operands k here t old no_register = OperandIsNotProcessed i ends_block operands k here t old
@@ -398,6 +415,7 @@ pub data ProcessesOperandsAt (i : ℕ) (ends_block late : Bool) (operands : List
       is_late (op_at operands k).position ≡ late
       → ProcessesOperand i ends_block operands k there next u w m n → ProcessesOperandsAt i ends_block late operands here t old (k + 1) next w n
 
+-- all operands of one position are allocated in operand order, or one of them lacks a register
 abbrev pub ProcessOperandsAt : ℕ → Bool → Bool → List OperandValue → List Place → InstRegs → StateValue → Outcome (List Place × InstRegs) → Type 0
 ProcessOperandsAt i ends_block late operands here t old = InTurn (length operands) (λ k g m. ProcessesOperandsAt i ends_block late operands here t old k g.0 g.1 m)
     (λ k g m. (is_late (op_at operands k).position ≡ late) × ProcessOperand i ends_block operands k g.0 g.1 m no_register)
@@ -416,12 +434,13 @@ pub data MovesUses (point : ℕ) (operands : List OperandValue) (here : List Pla
 abbrev pub MoveUse : ℕ → OperandValue → Place → InstRegs → StateValue → Outcome InstRegs → Type 0
 MoveUse point o p t old = (let q : Place = alloc_of old.places o.vreg.number in AddMoveIf point o.vreg.class (not (is_place q p)) q p t old)
 
+-- all uses are moved to their places, or a move of one of them lacks a register
 abbrev pub MoveUses : ℕ → List OperandValue → List Place → InstRegs → StateValue → Outcome InstRegs → Type 0
 MoveUses point operands here t old = InTurn (length operands) (MovesUses point operands here t old)
     (λ k u m. (is_reading (op_at operands k) ≡ true) × MoveUse point (op_at operands k) (slice_index_or here k NoPlace) u m no_register)
 
--- the register that an operand claims before operands are allocated: its fixed one, unless that is nonallocatable; and for a reuse that of
--- the operand that it names, at the late position
+-- the register that an operand claims before operands are allocated: its fixed one, unless that is nonallocatable; and
+-- for a reuse that of the operand that it names, at the late position
 pub data NeedsFixedReg (operands : List OperandValue) (k : ℕ) (r : Register) (p : Positions) : Type 0 where
   own : is_fixed_nonallocatable (op_at operands k) ≡ false → (op_at operands k).constraint ≡ FixedReg r → p ≡ positions_of (op_at operands k) →
       NeedsFixedReg operands k r p
@@ -432,6 +451,7 @@ pub data NeedsFixedReg (operands : List OperandValue) (k : ℕ) (r : Register) (
 abbrev pub asks_reg_of_class : RegClass → OperandValue → Bool
 asks_reg_of_class class o = is_under_reg o.constraint && nat_eq (class_code o.vreg.class) (class_code class)
 
+-- how many operands require any register of a class
 abbrev pub asking : List OperandValue → RegClass → ℕ
 asking operands class = count_by (asks_reg_of_class class) operands
 
@@ -439,7 +459,8 @@ asking operands class = count_by (asks_reg_of_class class) operands
 abbrev pub IsFixedIn : List OperandValue → Register → Type 0
 IsFixedIn operands r = (k : ℕ) × (k < length operands) × ((op_at operands k).constraint ≡ FixedReg r)
 
--- the registers that operands claim before they are placed are held, and differ if they share a position; no table changes
+-- the registers that operands claim before they are placed are held, and differ if they share a position; no table
+-- changes
 pub record ReservesRegs (operands : List OperandValue) (t u : InstRegs) (old : StateValue) : Type 0 where
   pub known : (k : ℕ) (r : Register) (p : Positions) → k < length operands → NeedsFixedReg operands k r p → (has_register old.allocatable r ≡ true)
       ⊎ (has_register old.fixed_stack r ≡ true)
@@ -460,6 +481,7 @@ pub data RegsAreNotReserved (operands : List OperandValue) (old : StateValue) : 
   shared : (j k : ℕ) (r : Register) (p q : Positions) → j < k → k < length operands → NeedsFixedReg operands j r p → NeedsFixedReg operands k r q →
       ((p.early && q.early) || (p.late && q.late)) ≡ true → RegsAreNotReserved operands old
 
+-- the fixed registers are reserved, or two operands claim one register, or one that the machine lacks
 abbrev pub ReserveRegs : List OperandValue → InstRegs → StateValue → Outcome InstRegs → Type 0
 ReserveRegs operands t old (next u new) = ReservesRegs operands t u old
 ReserveRegs operands t old no_register = RegsAreNotReserved operands old
@@ -475,7 +497,8 @@ pub record RemovesClobbers (clobbers : PRegSet) (t u : InstRegs) : Type 0 where
 abbrev pub NoneUsed : List OperandValue → List (List Register) → List (List Register) → Type 0
 NoneUsed operands old new = ((k : ℕ) (r : Register) → k < length operands → (op_at operands k).constraint ≡ FixedReg r → ⊥) → new ≡ old
 
--- The fixed registers of the first k operands are emptied of all vregs but each operand's own; registers that reuses share with fixed uses, of all.
+-- The fixed registers of the first k operands are emptied of all vregs but each operand's own; registers that reuses
+-- share with fixed uses, of all.
 -- Before that, the fixed registers become the most recently used, in some order.
 pub data EvictsFixed (point : ℕ) (operands : List OperandValue) (t : InstRegs) (old : StateValue) : ℕ → InstRegs → StateValue → Type 0 where
   none_cleared : (order : List (List Register)) → NoneUsed operands old.lrus order → EvictsFixed point operands t old 0 t (record old { lrus = order })
@@ -509,6 +532,7 @@ pub record EachIsNotEvicted (point : ℕ) (t : InstRegs) (old : StateValue) : Ty
   pub clears : EvictsEach point cleared t old inst_regs middle
   pub stops : EvictPReg point register inst_regs middle no_register
 
+-- the registers of a list are emptied, or one of them can't be
 abbrev pub EvictEach : ℕ → List Register → InstRegs → StateValue → Outcome InstRegs → Type 0
 EvictEach point rs t old (next u new) = EvictsEach point rs t old u new
 EvictEach point rs t old no_register = EachIsNotEvicted point t old
@@ -545,12 +569,13 @@ pub data RegsAreNotPrepared (i : ℕ) (operands : List OperandValue) (clobbers :
       → EvictsFixed (after i) operands held old (length operands) cleared m → EvictEach (after i) (registers_of clobbers) cleared m no_register →
       RegsAreNotPrepared i operands clobbers t old
 
+-- fixed registers and clobbers are reserved and emptied, or a register is missing
 abbrev pub PrepareRegs : ℕ → List OperandValue → PRegSet → InstRegs → StateValue → Outcome InstRegs → Type 0
 PrepareRegs i operands clobbers t old (next quiet new) = PreparesRegs i operands clobbers t quiet old new
 PrepareRegs i operands clobbers t old no_register = RegsAreNotPrepared i operands clobbers t old
 
--- An instruction is allocated: its registers are prepared; late operands are allocated, then early ones; then uses are moved. No move is listed after
--- an instruction that ends its block.
+-- An instruction is allocated: its registers are prepared; late operands are allocated, then early ones; then uses are
+-- moved. No move is listed after an instruction that ends its block.
 pub record AllocsInstOf (i : ℕ) (operands : List OperandValue) (clobbers : PRegSet) (ends_block : Bool) (blank places : List Place) (old new : StateValue) :
     Type 0 where
   pub began : InstRegs
@@ -588,6 +613,7 @@ pub data InstIsNotAllocated (i : ℕ) (operands : List OperandValue) (clobbers :
       → ProcessesOperandsAt i ends_block false operands half late n (length operands) places early o
       → MoveUses (before i) operands places early o no_register → InstIsNotAllocated i operands clobbers ends_block blank t old
 
+-- an instruction is allocated, or one of its stages runs out of registers
 abbrev pub AllocInst : ℕ → List OperandValue → PRegSet → Bool → List Place → InstRegs → StateValue → Outcome (List Place × InstRegs) → Type 0
 AllocInst i operands clobbers ends_block blank t old (next (places, u) new) =
     (a : AllocsInstOf i operands clobbers ends_block blank places old new) × (a.ended ≡ u)

@@ -30,6 +30,7 @@ MayBeLocatedAt env slots v NoPlace = ⊥
 MayBeLocatedAt env slots v (InRegister r) = IsOfMachine env r × (r.class ≡ v.class)
 MayBeLocatedAt env slots v (InSlot n) = slot_name slots v.number ≡ InSlot n
 
+-- as `MayBeLocatedAt`, or the vreg has no location
 abbrev pub MayBeLocatedAtOrNone : MachineValue → SpillSlotsValue → VirtualRegister → Place → Type 0
 MayBeLocatedAtOrNone env slots v NoPlace = Unit {0}
 MayBeLocatedAtOrNone env slots v (InRegister r) = IsOfMachine env r × (r.class ≡ v.class)
@@ -60,7 +61,8 @@ IsEndOfArgMove env slots class NoPlace = ⊥
 IsEndOfArgMove env slots class (InRegister r) = IsMoveReg env class r
 IsEndOfArgMove env slots class (InSlot n) = n < slots.count
 
--- a move of a branch's arguments of a class; into a known vreg's slot where Writes allows writing its value, or into a slot that is no vreg's
+-- a move of a branch's arguments of a class; into a known vreg's slot where Writes allows writing its value, or into a
+-- slot that is no vreg's
 pub record IsArgMove (env : MachineValue) (Known : VirtualRegister → Type 0) (Writes : ℕ → VirtualRegister → ℕ → Type 0) (slots : SpillSlotsValue)
     (e : ℕ × MoveValue) : Type 0 where
   pub class : RegClass
@@ -83,7 +85,8 @@ pub record HasMachine (env : MachineValue) (t : StateValue) : Type 0 where
   pub memory : (r : Register) → IsFixedStackSlot env r → has_register t.fixed_stack r ≡ true
   pub dedicated_scratch : (c : RegClass) (r : Register) → slice_index_or t.dedicated_scratch (class_code c) None ≡ Some r → scratch_of env c ≡ Some r
 
--- each known vreg is at an allowed place or nowhere; registers hold no other vreg; slots and moves are valid, and each slot has at least one unit
+-- each known vreg is at an allowed place or nowhere; registers hold no other vreg; slots and moves are valid, and each
+-- slot has at least one unit
 pub record IsSafe (env : MachineValue) (Known : VirtualRegister → Type 0) (Writes : ℕ → VirtualRegister → ℕ → Type 0) (May : ℕ → Type 0) (t : StateValue) : Type
     0 where
   pub machine : HasMachine env t

@@ -16,12 +16,15 @@ pub record OwnedSlot : Type 0 where
 abbrev pub units_in : List ℕ → Owner → ℕ
 units_in sizes owner = slice_index sizes (class_code (class_of_owner owner))
 
+-- the first unit of a slot, by its name and size
 abbrev pub start_in : Bool → ℕ → ℕ → ℕ
 start_in by_last size name = if by_last then name + 1 - size else name
 
+-- the first unit of a slot that was made
 abbrev pub start_of_slot : List ℕ → Bool → OwnedSlot → ℕ
 start_of_slot sizes by_last c = start_in by_last (units_in sizes c.owner) c.name
 
+-- the unit after the last one of a slot that was made
 abbrev pub end_of_slot : List ℕ → Bool → OwnedSlot → ℕ
 end_of_slot sizes by_last c = start_of_slot sizes by_last c + units_in sizes c.owner
 
@@ -69,7 +72,8 @@ abbrev pub ServesAt : ℕ → Owner → Type 0
 ServesAt point (OfVReg v) = Unit {0}
 ServesAt point (OfBranch branch class time) = point ≡ before branch
 
--- an end of a move of values of a class at a point: a register of the class, or a slot that serves there, whose owner is of the class
+-- an end of a move of values of a class at a point: a register of the class, or a slot that serves there, whose owner
+-- is of the class
 abbrev pub IsEndOf : List OwnedSlot → ℕ → RegClass → Place → Type 0
 IsEndOf made point class NoPlace = ⊥
 IsEndOf made point class (InRegister r) = r.class ≡ class

@@ -26,8 +26,9 @@ fixed_or_slot None s = s
 abbrev pub defined_place : SpillSlotsValue → OperandValue → Place
 defined_place slots o = fixed_or_slot (fixed_definition o) (slot_name slots o.vreg.number)
 
--- On the edge k out of the block e the value of the branch's operand j is stored for v: the operand defines v, is fixed, and something else uses v; or v
--- is a parameter, with a slot, to which the edge passes what the operand defines.
+-- On the edge k out of the block e the value of the branch's operand j is stored for v: the operand defines v, is
+-- fixed, and something else uses v; or v is a parameter, with a slot, to which the edge passes what the operand
+-- defines.
 pub data IsStoredFor (f : FunctionValue) (e k : ℕ) (slots : SpillSlotsValue) (j : ℕ) (v : VirtualRegister) : Type 0 where
   its_own : IsStoredOperand f (branch_operands f e) j → (op_at (branch_operands f e) j).vreg ≡ v → IsStoredFor f e k slots j v
   given : (n : ℕ) → n < length (block_at f (target_at f e k)).params → slice_index_or (block_at f (target_at f e k)).params n no_vreg ≡ v →
@@ -45,7 +46,8 @@ abbrev pub IsConcerned : FunctionValue → ℕ → ℕ → VirtualRegister → T
 IsConcerned f e k v = ((j : ℕ) × DefinesNumber (branch_operands f e) v.number j × ((op_at (branch_operands f e) j).vreg ≡ v))
     ⊎ ((n : ℕ) × (n < length (block_at f (target_at f e k)).params) × (slice_index_or (block_at f (target_at f e k)).params n no_vreg ≡ v))
 
--- the value of a branch's operand is stored at the start of the block b for v: v is what it defines, or a parameter to which that is passed
+-- the value of a branch's operand is stored at the start of the block b for v: v is what it defines, or a parameter to
+-- which that is passed
 abbrev pub IsStoredAt : FunctionValue → ℕ → VirtualRegister → Type 0
 IsStoredAt f b v = (e k : ℕ) × IsEdgeInto f b e k × IsConcerned f e k v
 
@@ -96,6 +98,7 @@ pub record StoreHasNoRegister (f : FunctionValue) (b : ℕ) (old : StateValue) :
   pub stored : IsStoredFor f from position old.slots index vreg
   pub none : NoneIsFrom old.allocatable (op_at (branch_operands f from) index).vreg.class 0
 
+-- a block's start stores the definitions of the branch into the block, or a stack-to-stack store lacks a register
 abbrev pub StoreBranchDefs : FunctionValue → ℕ → StateValue → Outcome (Unit {0}) → Type 0
 StoreBranchDefs f b old (next x new) = StoresBranchDefs f b old new
 StoreBranchDefs f b old no_register = StoreHasNoRegister f b old

@@ -49,5 +49,5 @@ spare_kept true o e = rw e refl
 spare_kept false o e = refl
 
 -- a class with fixed stack slots and no dedicated scratch register needs one in reserve
-pub spare_one : (b : Bool) (o : Option Register) → b ≡ true → is_none o ≡ true → one_if b o ≡ 1
-spare_one b o e f = rw (e, f) refl
+pub reserve_is_one : (b : Bool) (o : Option Register) → b ≡ true → is_none o ≡ true → one_if b o ≡ 1
+reserve_is_one b o e f = rw (e, f) refl

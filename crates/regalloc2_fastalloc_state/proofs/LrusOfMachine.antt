@@ -44,7 +44,8 @@ same_registers p q e f = by_parts p.number q.number p.class q.class e f
     by_parts : (m n : ℕ) (c d : RegClass) → m ≡ n → c ≡ d → ◌≡◌ {A = Register} (record { number = m; class = c }) (record { number = n; class = d })
     by_parts m n c d e f = rw (e, f) refl
 
--- the registers of a class in a set with numbers below n + 1 are the registers below n, and register n, if the set has it
+-- the registers of a class in a set with numbers below n + 1 are the registers below n, and register n, if the set has
+-- it
 pub those_more : (set : PRegSet) (class : RegClass) (n : ℕ) (regs : List Register) (r : Register) → r.number ≡ n → r.class ≡ class → has_register set r ≡ true
     → AreThoseBelow set class n regs → AreThoseBelow set class (n + 1) (regs ++ r ∷ [])
 those_more set class n regs r number of_class has h = record {

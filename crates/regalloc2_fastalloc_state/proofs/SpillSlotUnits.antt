@@ -192,13 +192,13 @@ module _ (s : SpillSlotsValue) (code n start : ℕ) (owned : SlotsHaveOneOwner s
           omega (arith, begins, low, lower, same)
 
 -- temporary slots have room, one or two
-one_lent_fits : (owned num_temp_slots count size most start end : ℕ) → count ≤ (owned + num_temp_slots) * (2 * most) → start + size < count + 2 * size →
+one_temp_slot_fits : (owned num_temp_slots count size most start end : ℕ) → count ≤ (owned + num_temp_slots) * (2 * most) → start + size < count + 2 * size →
     size ≤ most → end ≡ start + 1 * size → end ≤ (owned + (num_temp_slots + 1)) * (2 * most)
-one_lent_fits owned num_temp_slots count size most start end room near small is = omega (arith, room, near, small, is)
+one_temp_slot_fits owned num_temp_slots count size most start end room near small is = omega (arith, room, near, small, is)
 
-two_lent_fit : (owned num_temp_slots count size most start end : ℕ) → count ≤ (owned + num_temp_slots) * (2 * most) → start + size < count + 2 * size →
+two_temp_slots_fit : (owned num_temp_slots count size most start end : ℕ) → count ≤ (owned + num_temp_slots) * (2 * most) → start + size < count + 2 * size →
     size ≤ most → end ≡ start + 2 * size → end ≤ (owned + (num_temp_slots + 2)) * (2 * most)
-two_lent_fit owned num_temp_slots count size most start end room near small is = omega (arith, room, near, small, is)
+two_temp_slots_fit owned num_temp_slots count size most start end room near small is = omega (arith, room, near, small, is)
 
 -- a number from one to two is one or two
 by_taken : (P : ℕ → Type 0) → P 1 → P 2 → (taken : ℕ) → 1 ≤ taken → taken ≤ 2 → P taken
@@ -216,8 +216,8 @@ module _ (s : SpillSlotsValue) (code : ℕ) (owned : SlotsHaveOneOwner s) (three
       let start : ℕ = next_multiple_of s.count size in
       let near = end_near s.count size (owned.sizes code three).0 in
       by_taken (λ t. (end : ℕ) → end ≡ start + t * size → end ≤ (owners s + (s.num_temp_slots + t)) * (2 * most))
-      (λ end is. one_lent_fits (owners s) s.num_temp_slots s.count size most start end (owned.room most upto) near (upto code three) is)
-      (λ end is. two_lent_fit (owners s) s.num_temp_slots s.count size most start end (owned.room most upto) near (upto code three) is)
+      (λ end is. one_temp_slot_fits (owners s) s.num_temp_slots s.count size most start end (owned.room most upto) near (upto code three) is)
+      (λ end is. two_temp_slots_fit (owners s) s.num_temp_slots s.count size most start end (owned.room most upto) near (upto code three) is)
       taken some few
 
   lent_past : (taken : ℕ) → 1 ≤ taken → taken ≤ 2 → (end : ℕ) → end ≡ next_multiple_of s.count (slice_index s.sizes code) + taken * slice_index s.sizes code →
@@ -253,10 +253,10 @@ module _ (s : SpillSlotsValue) (code : ℕ) (owned : SlotsHaveOneOwner s) (three
       }
 
 -- temporary slots end within the greatest number of units
-pub lends_within : (s t : SpillSlotsValue) (class : RegClass) (code taken : ℕ) → s ≡ t → code ≡ class_code class → 1 ≤ taken →
+pub temp_slots_within_limit : (s t : SpillSlotsValue) (class : RegClass) (code taken : ℕ) → s ≡ t → code ≡ class_code class → 1 ≤ taken →
     ((k : ℕ) → taken ≡ k + 1 → later_end t class k ≤ most_units)
     → next_multiple_of s.count (slice_index s.sizes code) + taken * slice_index s.sizes code ≤ most_units
-lends_within s t class code taken e c some room =
+temp_slots_within_limit s t class code taken e c some room =
     let k : ℕ = taken - 1 in
     let u : ℕ = slice_index s.sizes (class_code class) in
     let one_more : taken ≡ k + 1 = omega (arith, some) in
@@ -265,16 +265,17 @@ lends_within s t class code taken e c some room =
     subst (λ (z : ℕ). next_multiple_of s.count (slice_index s.sizes z) + taken * slice_index s.sizes z ≤ most_units) (sym c) (omega (arith, all, fits))
 
 -- what is lacking, where the slots are full only if more holds
-pub lacks_then : (P Q : Type 0) → (P → Q) → (e : RegAllocError) → IsResourceError P e → IsResourceError Q e
-lacks_then P Q more TooManySpillSlots h = more h
-lacks_then P Q more e h = h
+pub resource_error_weaken : (P Q : Type 0) → (P → Q) → (e : RegAllocError) → IsResourceError P e → IsResourceError Q e
+resource_error_weaken P Q more TooManySpillSlots h = more h
+resource_error_weaken P Q more e h = h
 
 -- an error of moves is an error for slots or memory
 pub slots_of_fault : (P : Type 0) (fault : MoveFault) → (fault ≡ NoSlot → P) → LacksSlots P (error_of fault)
 slots_of_fault P NoSlot h = h refl
 slots_of_fault P MemoryFault h = tt
 
--- an error for slots or memory alone is one for registers, slots or memory, also under a weaker claim that slots ran out
+-- an error for slots or memory alone is one for registers, slots or memory, also under a weaker claim that slots ran
+-- out
 pub lacks_slots : (P Q : Type 0) → (P → Q) → (e : RegAllocError) → LacksSlots P e → IsResourceError Q e
 lacks_slots P Q more TooManyLiveRegs h = tt
 lacks_slots P Q more TooManySpillSlots h = more h

@@ -63,8 +63,8 @@ pub passes_other : (n : ℕ) (w : VirtualRegister) → w.number ≢ n → not (n
 passes_other n w d = not_from_false (nat_eq w.number n) (ne_eqb w.number n d)
 
 -- where no vreg has the number, none is taken out
-pub none_out : (n : ℕ) (vs : List VirtualRegister) → All (λ w. w.number ≢ n) vs → without n vs ≡ vs
-none_out n vs h = all_kept (λ v. not (nat_eq v.number n)) vs (λ k d less. passes_other n (slice_index_or vs k d) (h k d less))
+pub without_absent : (n : ℕ) (vs : List VirtualRegister) → All (λ w. w.number ≢ n) vs → without n vs ≡ vs
+without_absent n vs h = all_kept (λ v. not (nat_eq v.number n)) vs (λ k d less. passes_other n (slice_index_or vs k d) (h k d less))
 
 -- the members of a list with one in front, on a condition
 pub in_front : (b : Bool) (v : VirtualRegister) (vs : List VirtualRegister) (w : VirtualRegister) → ((w ≡ v) × (b ≡ true)) ⊎ Contains vs w →

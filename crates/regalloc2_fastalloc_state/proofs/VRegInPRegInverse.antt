@@ -20,10 +20,10 @@ pub same_some : {X : Type 0} (x y : X) → Some x ≡ Some y → x ≡ y
 same_some x y h = cc
 
 -- a place that is a register
-pub in_one : (p : Place) → is_in_register p ≡ true → (r : Register) × (p ≡ InRegister r)
-in_one NoPlace e = absurd cc
-in_one (InRegister r) e = (r, refl)
-in_one (InSlot n) e = absurd cc
+pub in_register_of : (p : Place) → is_in_register p ≡ true → (r : Register) × (p ≡ InRegister r)
+in_register_of NoPlace e = absurd cc
+in_register_of (InRegister r) e = (r, refl)
+in_register_of (InSlot n) e = absurd cc
 
 -- the tables after a vreg's location was set, read from the register
 pub after_settling : (t u : VRegAllocsValue) (v w : VirtualRegister) (p : Place) (r : Register) → r.number < 64 → IsInverse t → SetsAlloc t u v p →
@@ -46,7 +46,8 @@ after_settling t u v w p r lt i s h =
     o)
     (chosen (is_place p (InRegister r)) (is_place (alloc_of t v.number) (InRegister r)) (Some v) None (vreg_of_preg t r) (Some w) e)
 
--- `vreg_allocs` and `vreg_in_preg` stay inverse if a vreg gets a location that is no preg, or a preg that is empty or its own
+-- `vreg_allocs` and `vreg_in_preg` stay inverse if a vreg gets a location that is no preg, or a preg that is empty or
+-- its own
 pub inverse_kept : (t u : VRegAllocsValue) (v : VirtualRegister) (p : Place) → v.number < length t.vreg_allocs → length u.vreg_in_preg ≡ 256
     → ((r : Register) → p ≡ InRegister r → r.number < 64)
     → ((r : Register) → p ≡ InRegister r → (vreg_of_preg t r ≡ None) ⊎ (vreg_of_preg t r ≡ Some v))
@@ -87,7 +88,7 @@ inverse_kept t u v p known long small alone i s = record {
       (after_settling t u v w p r lt i s h)));
   only = λ w h. ⊎_elim
       (λ (a : (w ≡ v) × (is_in_register p ≡ true)).
-      let q = in_one p a.1 in
+      let q = in_register_of p a.1 in
       let yes : is_place p (InRegister q.0) ≡ true = ap (λ (x : Place). is_place x (InRegister q.0)) q.1 ∙ is_place-same (InRegister q.0) in
       let lt = small q.0 q.1 in (
         q.0,
@@ -119,8 +120,8 @@ inverse_kept t u v p known long small alone i s = record {
         q (sym e ∙ ap (λ (z : VirtualRegister). z.number) (sym y) ∙ x.1)) in
         s.holders r lt ∙ rw (a, b) h
 
--- The tables as code writes them where the location of a vreg is set: the old register is emptied, the new one filled, the list updated, and the
--- location set.
+-- The tables as code writes them where the location of a vreg is set: the old register is emptied, the new one filled,
+-- the list updated, and the location set.
 pub record OneLocationSet : Type 0 where
   pub vreg_allocs : List Place
   pub held : List (Option VirtualRegister)
@@ -181,7 +182,7 @@ inverse_marked m small alone i = inverse_kept (unmarked m) (marked m) m.vreg m.p
 pub listed_if : (t : VRegAllocsValue) (n : ℕ) (p : Place) → p ≡ alloc_of t n → IsInverse t → HasIf (is_in_register p) t.in_registers n
 listed_if t n p e i = record {
   has = λ yes.
-      let q = in_one p yes in
+      let q = in_register_of p yes in
       let there : alloc_of t n ≡ InRegister q.0 = sym e ∙ q.1 in
       let w = i.vreg_allocs n q.0 there in
       let h = i.listed q.0 w.0 (i.small n q.0 there) w.2 in (h.0, w.0, h.1, h.2, w.1);

@@ -35,5 +35,6 @@ SlotsExhaustedWith s more = (most : ℕ) → AreUpTo most s.sizes → most_units
 abbrev pub SlotsExhausted : SpillSlotsValue → Type 0
 SlotsExhausted s = SlotsExhaustedWith s s.num_temp_slots
 
+-- an error that a step may return, for slots that are full once the temporary slots so far are counted
 abbrev pub IsResourceErrorIn : SpillSlotsValue → RegAllocError → Type 0
 IsResourceErrorIn s e = IsResourceError (SlotsExhausted s) e

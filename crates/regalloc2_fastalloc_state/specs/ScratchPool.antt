@@ -1,4 +1,5 @@
--- The moves of a branch, once they are in order, as they are pushed; what is said of scratch places is passed on from the parts.
+-- The moves of a branch, once they are in order, as they are pushed; what is said of scratch places is passed on from
+-- the parts.
 use Rattle.std.specs.Prelude.{ℕ, ◌++◌, ◌∷◌, [], List}
 use Rattle.regalloc2_function.specs.OutputValue.{MoveValue}
 pub use Rattle.regalloc2_parts.specs.ScratchPool.{Moves, IsOfScratchPair, IsScratchTaken, DoDiffer, IsUsableFor, IsOrderedWith, HasTooFewSlots, AreThere}

@@ -13,8 +13,9 @@ use Rattle.regalloc2_names.specs.RegisterBits.{bits_of_register}
 use Rattle.regalloc2_names.specs.declared.sets.PRegSet.{PRegSet}
 use Rattle.regalloc2_names.specs.Place.{Place, NoPlace, InRegister, InSlot, is_place, is_in_register, is_no_place}
 
--- where the vregs are located, by number; which vreg is in each register, by index; the vregs in registers, the last filled register's first; by
--- number, which vregs are watched; and how often a watched vreg got its location or was left without one
+-- where the vregs are located, by number; which vreg is in each register, by index; the vregs in registers, the last
+-- filled register's first; by number, which vregs are watched; and how often a watched vreg got its location or was
+-- left without one
 pub record VRegAllocsValue : Type 0 where
   pub vreg_allocs : List Place
   pub vreg_in_preg : List (Option VirtualRegister)
@@ -52,6 +53,7 @@ pub record IsNewest (t : VRegAllocsValue) (r : Register) : Type 0 where
 abbrev pub without : ℕ → List VirtualRegister → List VirtualRegister
 without n vregs = filter (λ v. not (v.number == n)) vregs
 
+-- a list, with a vreg in front of it if the condition holds
 abbrev pub in_front_if : Bool → VirtualRegister → List VirtualRegister → List VirtualRegister
 in_front_if b v vregs = if b then v ∷ vregs else vregs
 
@@ -64,7 +66,8 @@ pub record HasIf (b : Bool) (vregs : List VirtualRegister) (n : ℕ) : Type 0 wh
 abbrev pub no_allocs : ℕ → List Bool → VRegAllocsValue
 no_allocs n watched = record { vreg_allocs = replicate n NoPlace; vreg_in_preg = replicate 256 None; in_registers = []; watched = watched; changes = 0 }
 
--- the count of changes once the vreg of a number leaves a place for another: one more if it is watched and one of them is none, up to the greatest `usize`
+-- the count of changes once the vreg of a number leaves a place for another: one more if it is watched and one of them
+-- is none, up to the greatest `usize`
 abbrev pub count_after : List Bool → ℕ → ℕ → Place → Place → ℕ
 count_after watched changes n left place = if (is_no_place left || is_no_place place) && slice_index_or watched n false then min (changes + 1) (2 ^ 64 - 1)
     else changes
@@ -90,8 +93,8 @@ pub record SetsVRegInPReg (old new : List (Option VirtualRegister)) (p : Place) 
 abbrev pub most_units : ℕ
 most_units = 16777216
 
--- the slots of the vregs, by number; how many units all slots take; how many temporary slots there are, which belong to no vreg; the units
--- of a slot of each class; whether a slot is named by its last unit
+-- the slots of the vregs, by number; how many units all slots take; how many temporary slots there are, which belong to
+-- no vreg; the units of a slot of each class; whether a slot is named by its last unit
 pub record SpillSlotsValue : Type 0 where
   pub vreg_spillslots : List Place
   pub count : ℕ
@@ -133,7 +136,8 @@ AreUpTo most sizes = (c : ℕ) → c < 3 → slice_index sizes c ≤ most
 abbrev pub NoSlotIsShared : SpillSlotsValue → Type 0
 NoSlotIsShared s = (m n k : ℕ) → slot_name s m ≡ InSlot k → slot_name s n ≡ InSlot k → m ≡ n
 
--- Each name has one owner, and lies below the count. A slot takes a unit at least, and is aligned to its size, so it takes less than twice as many units.
+-- Each name has one owner, and lies below the count. A slot takes a unit at least, and is aligned to its size, so it
+-- takes less than twice as many units.
 pub record SlotsHaveOneOwner (s : SpillSlotsValue) : Type 0 where
   pub three : length s.sizes ≡ 3
   pub sizes : (c : ℕ) → c < 3 → 0 < slice_index s.sizes c × slice_index s.sizes c ≤ most_units
@@ -189,8 +193,8 @@ PointsDescend es = (i j : ℕ) (d : ℕ × MoveValue) → i ≤ j → j < length
 abbrev pub AllAtOrAfter : ℕ → List (ℕ × MoveValue) → Type 0
 AllAtOrAfter point es = All (λ e. point ≤ e.0) es
 
--- The allocatable registers, and for each class the order of their use, the most recently used first; the fixed stack slots; the register of each class
--- that is kept for stack-to-stack moves.
+-- The allocatable registers, and for each class the order of their use, the most recently used first; the fixed stack
+-- slots; the register of each class that is kept for stack-to-stack moves.
 pub record AllocatableRegsValue : Type 0 where
   pub allocatable : PRegSet
   pub lrus : List (List Register)
@@ -212,6 +216,7 @@ needs_scratch_reserve stack dedicated_scratch class = nat_lt 0 (count_below (λ 
 abbrev pub scratch_reserve_for : PRegSet → List (Option Register) → RegClass → ℕ
 scratch_reserve_for stack dedicated_scratch class = if needs_scratch_reserve stack dedicated_scratch class then 1 else 0
 
+-- the LRU list of a class
 abbrev pub lru_of : AllocatableRegsValue → RegClass → List Register
 lru_of t class = slice_index_or t.lrus (class_code class) []
 

@@ -6,13 +6,13 @@
 -- `RegsReserved` (`reserves_all`) is the loop over fixed registers, `OperandOutOfRegs` says where an operand stops,
 -- `Steps` chains steps, and `StepsFail` has the steps that do nothing or fail.
 -- `InstPlaced`: an instruction is allocated once its operands are placed.
--- `NothingPassed`: a branch to blocks without parameters does nothing to the tables. `FilledClobbers`: only the clobbers
--- that hold vregs have to be emptied.
+-- `NoMovesPassed`: a branch to blocks without parameters does nothing to the tables. `FilledClobbers`: only the
+-- clobbers that hold vregs have to be emptied.
 -- `OperandsSorted` is the pass that counts operands, and finds whether any is fixed.
 -- `SlotUses` (`slot_use`): a use under `Any` stays in its vreg's slot.
 -- What a branch defines: `OwnDefs` (the tables say what is its own), `StoresListed` (`lists_stores`: what a block's
--- beginning stores is listed, each once, counted in `CountedOnce`), `StoresPushed` (the moves of the stores, as they are
--- pushed) and `StoresOnEdge` (`stores_on`: these moves are the stores on the edge).
+-- beginning stores is listed, each once, counted in `CountedOnce`), `StoresPushed` (the moves of the stores, as they
+-- are pushed) and `StoresOnEdge` (`stores_on`: these moves are the stores on the edge).
 pub mod AvailableCount
 pub mod Clashes
 pub mod CountedOnce
@@ -22,7 +22,7 @@ pub mod InstPlaced
 pub mod RegOperands
 pub mod RegsReserved
 pub mod LrusOfClasses
-pub mod NothingPassed
+pub mod NoMovesPassed
 pub mod OperandsProcessed
 pub mod OperandOutOfRegs
 pub mod OperandsSorted

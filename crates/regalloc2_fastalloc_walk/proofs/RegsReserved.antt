@@ -23,8 +23,8 @@ pub shrinks_none : (t : InstRegs) → Shrinks t t
 shrinks_none t = record { early = λ r h. h; late = λ r h. h; scratch = refl }
 
 -- where no register becomes available in each of two steps, none does over both
-pub shrinks_then : (t u w : InstRegs) → Shrinks t u → Shrinks u w → Shrinks t w
-shrinks_then t u w a b = record { early = λ r h. a.early r (b.early r h); late = λ r h. a.late r (b.late r h); scratch = b.scratch ∙ a.scratch }
+pub shrinks_trans : (t u w : InstRegs) → Shrinks t u → Shrinks u w → Shrinks t w
+shrinks_trans t u w a b = record { early = λ r h. a.early r (b.early r h); late = λ r h. a.late r (b.late r h); scratch = b.scratch ∙ a.scratch }
 
 -- taking a register makes no register available, and leaves the scratch registers
 pub shrinks_held : (t u : InstRegs) (r : Register) (p : Positions) → RemovesAvailable t u r p → Shrinks t u
@@ -59,13 +59,14 @@ taken_one t u q s r was now = elim (cases_Bool (is_register q r)) [
       ∙ now in cc)
 ]
 
--- where at most one register is taken, and an operand is fixed to it, only registers that operands are fixed to are taken
+-- where at most one register is taken, and an operand is fixed to it, only registers that operands are fixed to are
+-- taken
 pub fixed_one : (ops : List OperandValue) (t u : InstRegs) (q : Register) → IsFixedIn ops q → TakesOnly q t u → TakesFixed ops t u
 fixed_one ops t u q fixed s r was now = subst (IsFixedIn ops) (taken_one t u q s r was now) fixed
 
 -- where each of two steps takes only registers that operands are fixed to, both together do
-pub fixed_then : (ops : List OperandValue) (t u w : InstRegs) → TakesFixed ops t u → TakesFixed ops u w → TakesFixed ops t w
-fixed_then ops t u w a b r was now = elim (cases_Bool (is_free_throughout u r)) [ inl e ↦ b r e now | inr e ↦ a r was e ]
+pub takes_fixed_trans : (ops : List OperandValue) (t u w : InstRegs) → TakesFixed ops t u → TakesFixed ops u w → TakesFixed ops t w
+takes_fixed_trans ops t u w a b r was now = elim (cases_Bool (is_free_throughout u r)) [ inl e ↦ b r e now | inr e ↦ a r was e ]
 
 -- a register that an operand claims before it is placed is one that some operand is fixed to
 pub claims_fixed : (ops : List OperandValue) (k : ℕ) (r : Register) (p : Positions) → k < length ops → NeedsFixedReg ops k r p → IsFixedIn ops r
@@ -184,7 +185,7 @@ module _ (ops : List OperandValue) (k : ℕ) (t u w : InstRegs) (c d : ReservedR
   -- with what operand k reserves the first k + 1 operands have reserved what they need
   pub reserving_more : Reserving ops (k + 1) t w d old
   reserving_more = record {
-    shrinks = shrinks_then t u w h.shrinks s.shrinks;
+    shrinks = shrinks_trans t u w h.shrinks s.shrinks;
     known = λ j r p lt. newest (λ x. NeedsFixedReg ops x r p → IsMachineReg old r) j lt (λ l. h.known j r p l) (λ a. (s.reserved r p a).known);
     claimed_early = λ j r p lt. newest (λ x. NeedsFixedReg ops x r p → p.early ≡ true → has_register d.early r ≡ true) j lt
         (λ l a e. s.grows.early r (h.claimed_early j r p l a e)) (λ a e. (s.reserved r p a).claimed.early e);
@@ -206,7 +207,7 @@ module _ (ops : List OperandValue) (k : ℕ) (t u w : InstRegs) (c d : ReservedR
         | inr y ↦ h.apart i j r p q (omega arith) (omega arith) a b e
       ]
     ];
-    takes = fixed_then ops t u w h.takes s.takes;
+    takes = takes_fixed_trans ops t u w h.takes s.takes;
     early_claims = λ r a. elim (s.claims.early r a) [
       | inl x ↦ (let m = h.early_claims r x in (m.0, m.1, (let l = m.2 in omega (arith, l)), m.3, m.4))
       | inr x ↦ (k, x.0, omega arith, x.1, x.2)
@@ -217,7 +218,8 @@ module _ (ops : List OperandValue) (k : ℕ) (t u w : InstRegs) (c d : ReservedR
     ];
   }
 
--- where operand k can't reserve its register, the reservation of the instruction's registers fails for a reason that is named
+-- where operand k can't reserve its register, the reservation of the instruction's registers fails for a reason that is
+-- named
 pub stops_reserve : (ops : List OperandValue) (k : ℕ) (t u : InstRegs) (c : ReservedRegs) (old : StateValue) → k < length ops → Reserving ops k t u c old →
     RegIsNotReserved ops k c old → RegsAreNotReserved ops old
 stops_reserve ops k t u c old lt h s = elim s.stops [
@@ -236,7 +238,8 @@ stops_reserve ops k t u c old lt h s = elim s.stops [
   ]
 ]
 
--- once all operands have reserved what they need, the instruction's registers are reserved, as soon as operands are counted
+-- once all operands have reserved what they need, the instruction's registers are reserved, as soon as operands are
+-- counted
 pub reserves_all : (ops : List OperandValue) (k : ℕ) (t u : InstRegs) (c : ReservedRegs) (old : StateValue) → k ≡ length ops →
     Reserving ops k t u c old → ReservesClaims ops t u old
 reserves_all ops k t u c old e h began same counted = record {
@@ -275,9 +278,9 @@ pub grows_none : (c : ReservedRegs) → KeepsReserved c c
 grows_none c = record { early = λ r h. h; late = λ r h. h }
 
 -- an operand that claims nothing: no register is taken, or the register that it is fixed to
-pub reserves_nothing : (ops : List OperandValue) (k : ℕ) (t u : InstRegs) (c : ReservedRegs) (old : StateValue) →
+pub reserves_without_claim : (ops : List OperandValue) (k : ℕ) (t u : InstRegs) (c : ReservedRegs) (old : StateValue) →
     ((r : Register) (p : Positions) → NeedsFixedReg ops k r p → ⊥) → Shrinks t u → TakesFixed ops t u → ReservesRegForOperand ops k t u c c old
-reserves_nothing ops k t u c old none s taken = record {
+reserves_without_claim ops k t u c old none s taken = record {
   shrinks = s;
   grows = grows_none c;
   takes = taken;
@@ -352,5 +355,5 @@ reserve_fails_used ops k c old m e h =
     record { register = x.register; positions = x.positions; claims = x.claims; stops = x.stops })
 
 -- registers that are used in two steps
-pub used_then : (a b c : StateValue) → SameButOrder a b → SameButOrder b c → SameButOrder a c
-used_then a b c x y = y ∙ ap (λ (t : StateValue). record t { lrus = c.lrus }) x
+pub same_but_order_trans : (a b c : StateValue) → SameButOrder a b → SameButOrder b c → SameButOrder a c
+same_but_order_trans a b c x y = y ∙ ap (λ (t : StateValue). record t { lrus = c.lrus }) x

@@ -38,11 +38,11 @@ stays_in_slot point request s t old any at = record {
 }
 
 -- a use for which no reuse has chosen a register may have any place
-asks_any_place : (o : OperandValue) (h : Place) → o.constraint ≡ Any → ((r : Register) → (use_request o h).requirement ≡ InPReg r → ⊥) →
+requires_any_place : (o : OperandValue) (h : Place) → o.constraint ≡ Any → ((r : Register) → (use_request o h).requirement ≡ InPReg r → ⊥) →
     (use_request o h).requirement ≡ AnyPlace
-asks_any_place o NoPlace any none = ap requirement_of any
-asks_any_place o (InRegister r) any none = absurd (none r refl)
-asks_any_place o (InSlot n) any none = ap requirement_of any
+requires_any_place o NoPlace any none = ap requirement_of any
+requires_any_place o (InRegister r) any none = absurd (none r refl)
+requires_any_place o (InSlot n) any none = ap requirement_of any
 
 pub is_unfixed : (o : OperandValue) → o.constraint ≡ Any → is_fixed_nonallocatable o ≡ false
 is_unfixed o any = ap (λ (c : OperandConstraint). is_fixed c && nat_eq o.vreg.number 1073741823) any
@@ -64,5 +64,5 @@ slot_use {i} {operands} {k} {here} {t} {old} o h (InSlot s) e f used any none sl
     ap (λ (x : OperandValue). use_request x h) e ∙ ap (use_request (op_at operands k)) f in
     a_use (InSlot s) (ap (λ (x : OperandValue). is_reading x) (sym e) ∙ reads_vreg o used any)
     (subst (λ (x : OperandRequest). AllocsUse (after i) x (InSlot s) t t old old) same
-    (stays_in_slot (after i) request s t old (asks_any_place o h any (none (reads_vreg o used any)))
+    (stays_in_slot (after i) request s t old (requires_any_place o h any (none (reads_vreg o used any)))
     (ap (λ (v : VirtualRegister). alloc_of old.places v.number) (use_vreg o h) ∙ at))) refl

@@ -1,5 +1,5 @@
--- What is listed as stored: the branch's own fixed definitions that are used elsewhere, and the arguments that the branch defines, for their parameters,
--- each once.
+-- What is listed as stored: the branch's own fixed definitions that are used elsewhere, and the arguments that the
+-- branch defines, for their parameters, each once.
 use Rattle.std.proofs.Common.{ℕ, ◌≡◌, ◌+◌, ◌<◌, ◌≤◌, Bool, true, cond, inl, inr, List, [], ◌∷◌, ◌++◌, map, length, take, refl, sym, ap, ◌∙◌, subst, arith}
 use Rattle.std.specs.Prelude.{All, Contains, Option, None, Some, count_by, nat_eq, slice_index, slice_index_or}
 use Rattle.std.proofs.lemmas.Bool.{cases_eq, cases_lt, eqb-true}

@@ -1,4 +1,5 @@
--- What a block's beginning stores: the values that are listed, moved as they are found and pushed, the ones from the stack first, are the stores on the edge.
+-- What a block's beginning stores: the values that are listed, moved as they are found and pushed, the ones from the
+-- stack first, are the stores on the edge.
 use Rattle.std.proofs.Common.{ℕ, zero, suc, ◌≡◌, ◌≢◌, ◌+◌, ◌<◌, ◌≤◌, ◌⊎◌, Bool, true, false, List, [], ◌∷◌, ◌++◌, length, inl, inr, refl, sym, ap, ◌∙◌, subst}
 use Rattle.std.proofs.Common.{arith, eq-eqb}
 use Rattle.std.specs.Prelude.{Option, None, Some, IsSome, not, sum_by, slice_index_or, if◌then◌else◌}
@@ -44,13 +45,13 @@ abbrev store_move_at : List StoreMove → ℕ → StoreMove
 store_move_at ms i = slice_index_or ms i no_store_move
 
 -- a store for the vreg of a number is counted
-one_for : (n : ℕ) (ds : List StoredDef) (i : ℕ) → i < length ds → (store_at ds i).to.number ≡ n → 1 ≤ sum_by (is_for n) ds
-one_for n [] i lt e = absurd (omega (arith, lt))
-one_for n (d ∷ ds) zero lt e =
+counted_for : (n : ℕ) (ds : List StoredDef) (i : ℕ) → i < length ds → (store_at ds i).to.number ≡ n → 1 ≤ sum_by (is_for n) ds
+counted_for n [] i lt e = absurd (omega (arith, lt))
+counted_for n (d ∷ ds) zero lt e =
     let c = sum_by-cons (is_for n) d ds in
     let one : is_for n d ≡ 1 = ap (λ (b : Bool). if b then 1 else 0) (eq-eqb d.to.number n e) in omega (arith, c, one)
-one_for n (d ∷ ds) (suc i) lt e =
-    let c = sum_by-cons (is_for n) d ds in let h = one_for n ds i (omega (arith, lt)) e in omega (arith, c, h)
+counted_for n (d ∷ ds) (suc i) lt e =
+    let c = sum_by-cons (is_for n) d ds in let h = counted_for n ds i (omega (arith, lt)) e in omega (arith, c, h)
 
 -- two stores for the vreg of one number count twice
 two_for : (n : ℕ) (ds : List StoredDef) (i j : ℕ) → i ≢ j → i < length ds → j < length ds → (store_at ds i).to.number ≡ n → (store_at ds j).to.number ≡ n →
@@ -58,10 +59,10 @@ two_for : (n : ℕ) (ds : List StoredDef) (i j : ℕ) → i ≢ j → i < length
 two_for n [] i j ne li lj a b = absurd (omega (arith, li))
 two_for n (d ∷ ds) zero zero ne li lj a b = absurd (ne refl)
 two_for n (d ∷ ds) zero (suc j) ne li lj a b =
-    let c = sum_by-cons (is_for n) d ds in let h = one_for n ds j (omega (arith, lj)) b in
+    let c = sum_by-cons (is_for n) d ds in let h = counted_for n ds j (omega (arith, lj)) b in
     let one : is_for n d ≡ 1 = ap (λ (x : Bool). if x then 1 else 0) (eq-eqb d.to.number n a) in omega (arith, c, h, one)
 two_for n (d ∷ ds) (suc i) zero ne li lj a b =
-    let c = sum_by-cons (is_for n) d ds in let h = one_for n ds i (omega (arith, li)) a in
+    let c = sum_by-cons (is_for n) d ds in let h = counted_for n ds i (omega (arith, li)) a in
     let one : is_for n d ≡ 1 = ap (λ (x : Bool). if x then 1 else 0) (eq-eqb d.to.number n b) in omega (arith, c, h, one)
 two_for n (d ∷ ds) (suc i) (suc j) ne li lj a b =
     let c = sum_by-cons (is_for n) d ds in
@@ -84,10 +85,10 @@ at_last (x ∷ ms) m zero e = absurd (omega (arith, e))
 at_last (x ∷ ms) m (suc i) e = at_last ms m i (omega (arith, e))
 
 -- a store of two lists, one behind the other, is of one of the lists
-one_of_either : (x : Store) (ss ts : List Store) → IsOneOf x (ss ++ ts) → IsOneOf x ss ⊎ IsOneOf x ts
-one_of_either x [] ts is = inr is
-one_of_either x (s ∷ ss) ts (first e) = inl (first e)
-one_of_either x (s ∷ ss) ts (later m) = elim (one_of_either x ss ts m) [ inl a ↦ inl (later a) | inr b ↦ inr b ]
+one_of_append : (x : Store) (ss ts : List Store) → IsOneOf x (ss ++ ts) → IsOneOf x ss ⊎ IsOneOf x ts
+one_of_append x [] ts is = inr is
+one_of_append x (s ∷ ss) ts (first e) = inl (first e)
+one_of_append x (s ∷ ss) ts (later m) = elim (one_of_append x ss ts m) [ inl a ↦ inl (later a) | inr b ↦ inr b ]
 
 of_first : (x : Store) (ss ts : List Store) → IsOneOf x ss → IsOneOf x (ss ++ ts)
 of_first x [] ts none = elim none [ ]
@@ -99,13 +100,14 @@ of_second x [] ts is = is
 of_second x (s ∷ ss) ts is = later (of_second x ss ts is)
 
 -- moves of two lists
-moves_of_both : (ss ts : List Store) → store_moves (ss ++ ts) ≡ store_moves ss ++ store_moves ts
+store_moves_append : (ss ts : List Store) → store_moves (ss ++ ts) ≡ store_moves ss ++ store_moves ts
 unfolding store_moves
-moves_of_both [] ts = refl
-moves_of_both (s ∷ ss) ts = ap (λ l. moves_by s.from s.by s.to ++ l) (moves_of_both ss ts)
+store_moves_append [] ts = refl
+store_moves_append (s ∷ ss) ts = ap (λ l. moves_by s.from s.by s.to ++ l) (store_moves_append ss ts)
     ∙ sym (append_assoc (moves_by s.from s.by s.to) (store_moves ss) (store_moves ts))
 
--- The move of the store i is from where the branch leaves the value, to the slot of the vreg, as the tables have them at the end.
+-- The move of the store i is from where the branch leaves the value, to the slot of the vreg, as the tables have them
+-- at the end.
 record MovesValue (operands : List OperandValue) (slots : SpillSlotsValue) (d : StoredDef) (m : StoreMove) : Type 0 where
   from : m.from ≡ defined_place slots (op_at operands d.index)
   there : m.from ≢ NoPlace
@@ -259,7 +261,7 @@ module _ (t : StateValue) (apart : RegsAvoidStack t) where
       ap Memory r.1 ∙ elim r.2 [ inl own ↦ apart.dedicated_scratch m.class r.0 own | inr may ↦ apart.allocatable r.0 may.allocatable ],
       λ none. (let y : InRegister r.0 ≡ NoPlace = sym r.1 ∙ none in cc),
     )),
-    λ x one. elim (one_of_either x ts rest one) [
+    λ x one. elim (one_of_append x ts rest one) [
       | inl here ↦ (
           let o = made_of fm ns ts more x here in
           let lt = o.1 in
@@ -288,8 +290,8 @@ module _ (t : StateValue) (apart : RegsAvoidStack t) where
         | inr none ↦ (let x : None ≡ Some q = sym (made.direct none) ∙ by in absurd cc)
       ]
 
--- The edge k of the block e into the block b, and what is stored on it: the definitions that are listed from the tables t, the moves that are made of
--- them, and the slots then, each of one number.
+-- The edge k of the block e into the block b, and what is stored on it: the definitions that are listed from the tables
+-- t, the moves that are made of them, and the slots then, each of one number.
 pub record EdgeStores : Type 0 where
   pub f : FunctionValue
   pub may : MayBeAllocated f
@@ -448,7 +450,7 @@ module _ (at_edge : EdgeStores) where
               let zz : true ≡ false = sym o.2 ∙ z in cc)) in
               (λ e. sep.0 (e ∙ o.3.to), λ e. sep.1 (sym o.3.from ∙ e)),
         ));
-    each = λ x one. elim (one_of_either x q.stores p.stores one) [
+    each = λ x one. elim (one_of_append x q.stores p.stores one) [
       | inl r ↦ (let o = made_of t apart false ms q.stores from_registers x r in
           ((store_at ds o.0).index, (store_at ds o.0).to, is_for_vreg w slots_are o.0 o.1 x o.3))
       | inr m ↦ (let o = made_of t apart true ms p.stores from_memory x m in
@@ -470,7 +472,7 @@ module _ (at_edge : EdgeStores) where
     places = ap (λ (z : StateValue). z.places) after_both;
     edits = ap (λ (z : StateValue). z.edits) after_both ∙ append_assoc t.edits (pushed_moves point (store_moves p.stores)) (pushed_moves point (store_moves
         q.stores))
-        ∙ ap (λ l. t.edits ++ l) (sym (ap (pushed_moves point) (moves_of_both q.stores p.stores) ∙ pushed_append point (store_moves q.stores) (store_moves
+        ∙ ap (λ l. t.edits ++ l) (sym (ap (pushed_moves point) (store_moves_append q.stores p.stores) ∙ pushed_append point (store_moves q.stores) (store_moves
         p.stores)));
     machine = subst (SameMachine t) (sym after_both) (record {
       allocatable = refl;

@@ -20,8 +20,8 @@ use Rattle.regalloc2_fastalloc_walk.specs.declared.state.State.{State}
 use Rattle.regalloc2_fastalloc_walk.specs.declared.walk.Found.{Found}
 use Rattle.regalloc2_fastalloc_walk.specs.StateView.{tables_of}
 
--- the instruction i, which has these operands, is next, with fresh instruction registers; the places of the operands begin at an index of the list of
--- all operands' places
+-- the instruction i, which has these operands, is next, with fresh instruction registers; the places of the operands
+-- begin at an index of the list of all operands' places
 pub record IsBeforeOperands {A : Type 0} (i : ℕ) (operands : List OperandValue) (at : ℕ) (t : InstRegs) (places : List Place) (s : State A) : Type 0 where
   pub inst : i < inst_limit
   pub later : AllAtOrAfter (after i) s.edits
@@ -70,7 +70,8 @@ pub record IsBeforePassing {A C : Type 0} (f : FunctionValue) (d : BranchDefs C)
   pub differ : ParametersDiffer f b
   pub apart : RegsAvoidStack (tables_of s)
 
--- the instruction i of the block b is next; the places of its operands begin at an index of the list of all operands' places
+-- the instruction i of the block b is next; the places of its operands begin at an index of the list of all operands'
+-- places
 pub record IsBeforeInst {A C : Type 0} (f : FunctionValue) (d : BranchDefs C) (b i at : ℕ) (places : List Place) (s : State A) : Type 0 where
   pub block : b < length f.blocks
   pub inst : i < length f.insts
@@ -92,8 +93,8 @@ pub record IsBeforeNoting {A B C : Type 0} (f : FunctionValue) (d : BranchDefs C
   pub located : LocatedAreUsed f (i + 1) (tables_of s)
   pub found : IsFound f (IsWanted s.places.watched) (i + 1) noted
 
--- the block b is next, from its last instruction, and the instructions after the block are noted; the list of offsets says where the places of each instruction's
--- operands begin
+-- the block b is next, from its last instruction, and the instructions after the block are noted; the list of offsets
+-- says where the places of each instruction's operands begin
 pub record IsBeforeBlock {A B C : Type 0} (f : FunctionValue) (d : BranchDefs C) (b : ℕ) (starts : List ℕ) (places : List Place) (s : State A)
     (noted : Found B) : Type 0 where
   pub block : b < length f.blocks

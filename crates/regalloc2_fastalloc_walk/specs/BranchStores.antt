@@ -1,4 +1,5 @@
--- How a block's beginning stores what the branch into it defined: which values, by which moves, and through which registers.
+-- How a block's beginning stores what the branch into it defined: which values, by which moves, and through which
+-- registers.
 use Rattle.std.specs.Prelude.{ℕ, ◌≡◌, ◌≢◌, ◌+◌, ◌<◌, ◌≤◌, ◌++◌, ◌∷◌, [], Bool, false, true, not, List, All, Contains, length, sum_by, nat_eq, if◌then◌else◌}
 use Rattle.std.specs.Prelude.{None, Some, slice_index_or}
 use Rattle.regalloc2_names.specs.Register.{Register, VirtualRegister, no_vreg}
@@ -49,7 +50,8 @@ pub record ListsStores (f : FunctionValue) (e k : ℕ) (slots : SpillSlotsValue)
   pub all : (j : ℕ) (v : VirtualRegister) → IsStoredFor f e k slots j v → Contains stores (record { index = j; to = v })
   pub once : (n : ℕ) → sum_by (is_for n) stores ≤ 1
 
--- a branch leaves what an operand defines in the register that it is fixed to, or in its vreg's slot, which is made if need be
+-- a branch leaves what an operand defines in the register that it is fixed to, or in its vreg's slot, which is made if
+-- need be
 pub data FindsDefined (o : OperandValue) (p : Place) (old new : SpillSlotsValue) : Type 0 where
   held : (r : Register) → fixed_definition o ≡ Some r → p ≡ InRegister r → new ≡ old → FindsDefined o p old new
   in_slot : fixed_definition o ≡ None → GetsSpillSlot old new o.vreg p → new.num_temp_slots ≡ old.num_temp_slots → FindsDefined o p old new
@@ -62,6 +64,7 @@ pub record FindsStore (o : OperandValue) (to : VirtualRegister) (m : StoreMove) 
   pub temps : new.num_temp_slots ≡ middle.num_temp_slots
   pub class : m.class ≡ o.vreg.class
 
+-- the default of an index past the end of a list of stores
 abbrev pub no_store : StoredDef
 no_store = record { index = 0; to = no_vreg }
 
@@ -98,6 +101,7 @@ pub record PushesStores (point : ℕ) (from_memory : Bool) (ms : List StoreMove)
 abbrev pub LacksStoreReg : StateValue → List StoreMove → Type 0
 LacksStoreReg t ms = (m : StoreMove) × Contains ms m × NoneIsFrom t.allocatable m.class 0
 
+-- the stores from the stack, or those from registers, are pushed at a point, or one lacks a register
 abbrev pub PushStores : ℕ → Bool → List StoreMove → StateValue → Outcome (Unit {0}) → Type 0
 PushStores point from_memory ms old (next x new) = PushesStores point from_memory ms old new
 PushStores point from_memory ms old no_register = LacksStoreReg old ms

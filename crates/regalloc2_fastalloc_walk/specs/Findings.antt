@@ -6,14 +6,16 @@ use Rattle.regalloc2_function.specs.WellFormed.{BranchDefinesInPlace}
 use Rattle.regalloc2_fastalloc_state.specs.Validate.NoLimits.{IsTakenOperand}
 use Rattle.regalloc2_fastalloc_walk.specs.declared.walk.Found.{Found}
 
--- the instructions from `i` on that may add something to the live ranges of requested numbers are in a list, the last instruction first
+-- the instructions from `i` on that may add something to the live ranges of requested numbers are in a list, the last
+-- instruction first
 pub record ListsAddingFrom (f : FunctionValue) (Asked : ℕ → Type 0) (i : ℕ) (listed : List ℕ) : Type 0 where
   pub falling : (j k : ℕ) → j < k → k < length listed → slice_index_or listed k 0 < slice_index_or listed j 0
   pub from : (j : ℕ) → j < length listed → i ≤ slice_index_or listed j 0
   pub below : (j : ℕ) → j < length listed → slice_index_or listed j 0 < length f.insts
   pub all : (k : ℕ) → i ≤ k → k < length f.insts → AddsNothing f Asked k ⊎ ((j : ℕ) × (j < length listed) × (slice_index_or listed j 0 ≡ k))
 
--- an instruction passes the tests of operands: none has a limit, and a branch defines only in registers that it names and in stack places
+-- an instruction passes the tests of operands: none has a limit, and a branch defines only in registers that it names
+-- and in stack places
 pub record PassesTests (i : InstValue) : Type 0 where
   pub taken : All IsTakenOperand i.operands
   pub branch : BranchDefinesInPlace i

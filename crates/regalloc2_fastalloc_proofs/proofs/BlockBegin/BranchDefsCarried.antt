@@ -1,4 +1,5 @@
--- The start of a block with the stores of what the branch into it defines: its listing carries each vreg from its location on entry.
+-- The start of a block with the stores of what the branch into it defines: its listing carries each vreg from its
+-- location on entry.
 use Rattle.std.proofs.Common.{ℕ, zero, suc, ◌≡◌, ◌≢◌, ◌<◌, ◌⊎◌, inl, inr, true, false, List, [], ◌∷◌, length, refl, sym, ap, ◌∙◌, subst, arith}
 use Rattle.std.specs.Prelude.{Option, None, Some, IsSome, slice_index_or}
 use Rattle.std.proofs.lemmas.Bool.{cases_Bool}
@@ -60,8 +61,9 @@ fixed_none : (o : OperandValue) → is_def o.kind ≡ true → IsAnyOrStack o.co
 fixed_none o def (inl any) = (let x : fixed_register o.constraint ≡ None = ap fixed_register any in rw def x)
 fixed_none o def (inr stack) = (let x : fixed_register o.constraint ≡ None = ap fixed_register stack in rw def x)
 
--- A block whose start stores what branches define, between the tables middle and new. F: the slots at the walk's end, each of one vreg; stand: where
--- vregs are on entry to a block, as branches leave them; v: a vreg that is needed, with a slot if it is one of the block's parameters.
+-- A block whose start stores what branches define, between the tables middle and new. F: the slots at the walk's end,
+-- each of one vreg; stand: where vregs are on entry to a block, as branches leave them; v: a vreg that is needed, with
+-- a slot if it is one of the block's parameters.
 pub record StoredAtBegin : Type 0 where
   pub f : FunctionValue
   pub once : DefinedOnce f

@@ -1,4 +1,5 @@
--- The start of a block, for one vreg: its listing carries the vreg from its slot at the end of the whole walk, unless the block writes the vreg.
+-- The start of a block, for one vreg: its listing carries the vreg from its slot at the end of the whole walk, unless
+-- the block writes the vreg.
 use Rattle.std.proofs.Common.{ℕ, suc, ◌≡◌, ◌⊎◌, inl, inr, Bool, true, false, List, [], ◌∷◌, ◌++◌, nat_eq, refl, sym, ap, ◌∙◌, subst, eq-eqb}
 use Rattle.std.specs.Prelude.{Option, None, Some, ◌&&◌, is_some}
 use Rattle.std.proofs.lemmas.Bool.{and_right, and_from, and_parts}
@@ -19,31 +20,31 @@ use Rattle.regalloc2_carry.proofs.BlockBackward.{Relied}
 use Rattle.regalloc2_fastalloc_proofs.specs.InstSteps.{StateValue}
 use Rattle.regalloc2_fastalloc_proofs.specs.BlockStart.{ReloadsAtBegin}
 use Rattle.regalloc2_fastalloc_proofs.proofs.Safety.StepsKeepState.{place_in, slot_in}
-use Rattle.regalloc2_fastalloc_proofs.proofs.Operands.RecordOverState.{opt, stands_at, slots_at}
+use Rattle.regalloc2_fastalloc_proofs.proofs.Operands.RecordOverState.{opt, location_at, slots_at}
 use Rattle.regalloc2_fastalloc_proofs.proofs.Inst.AcrossInst.{lives_in}
 use Rattle.regalloc2_fastalloc_proofs.proofs.Inst.OneInstCarries.{IsBetweenInsts}
 use Rattle.regalloc2_fastalloc_proofs.proofs.Moves.StepsAppendEdits.{AppendsEdits, none_pushed, one_pushed}
 use Rattle.regalloc2_fastalloc_proofs.proofs.BlockBegin.ReloadAtBegin.{IsReload, Begun, block_start_places, reloads_at_begin_carried}
 
 -- whether an option is the given place
-abbrev pub is_there : Option Place → Place → Bool
-is_there None p = false
-is_there (Some q) p = is_place q p
+abbrev pub at_location : Option Place → Place → Bool
+at_location None p = false
+at_location (Some q) p = is_place q p
 
 -- an option that passes the test for a place is that place
-pub is_there-true : (x : Option Place) (p : Place) → is_there x p ≡ true → x ≡ Some p
-is_there-true None p h = absurd cc
-is_there-true (Some q) p h = ap Some (is_place-true q p h)
+pub at_location-true : (x : Option Place) (p : Place) → at_location x p ≡ true → x ≡ Some p
+at_location-true None p h = absurd cc
+at_location-true (Some q) p h = ap Some (is_place-true q p h)
 
 -- an option that is a place passes the test for that place
-pub is_there-same : (x : Option Place) (p : Place) → x ≡ Some p → is_there x p ≡ true
-is_there-same None p h = absurd cc
-is_there-same (Some q) p h = (let same : q ≡ p = cc in subst (λ y. is_place q y ≡ true) same (is_place-same q))
+pub at_location-same : (x : Option Place) (p : Place) → x ≡ Some p → at_location x p ≡ true
+at_location-same None p h = absurd cc
+at_location-same (Some q) p h = (let same : q ≡ p = cc in subst (λ y. is_place q y ≡ true) same (is_place-same q))
 
 -- an option that isn't a place fails the test for that place
-pub is_there-none : (x : Option Place) (p : Place) → (x ≡ Some p → ⊥) → is_there x p ≡ false
-is_there-none None p h = refl
-is_there-none (Some q) p h = is_place-other q p (λ e. h (ap Some e))
+pub at_location-none : (x : Option Place) (p : Place) → (x ≡ Some p → ⊥) → at_location x p ≡ false
+at_location-none None p h = refl
+at_location-none (Some q) p h = is_place-other q p (λ e. h (ap Some e))
 
 module _ (insts : ℕ → InstValue) (placesf : ℕ → List Place) (i n : ℕ) (v : VirtualRegister) (E : Place → Type 0) where
   -- the listing from the block's first instruction on
@@ -71,48 +72,49 @@ module _ (insts : ℕ → InstValue) (placesf : ℕ → List Place) (i n : ℕ) 
       (F : Option Place) (slot : (r : Register) → F ≡ Some (InRegister r) → ⊥)
       (stays : (p : Place) → slots_at new v.number ≡ Some p → F ≡ Some p) where
     -- if the block doesn't write v
-    unwritten : Carries v (from_first old) (Relied false false (stands_at old v.number) (slots_at old v.number) F) E →
+    unwritten : Carries v (from_first old) (Relied false false (location_at old v.number) (slots_at old v.number) F) E →
         Carries v (from_first new) (λ p. F ≡ Some p) E
     unwritten c =
-        let X : Place → ℕ → Bool = λ p x. nat_eq x v.number && is_there F p in
+        let X : Place → ℕ → Bool = λ p x. nat_eq x v.number && at_location F p in
         let b : Begun i params old new = block_start_places i params old new begins between in
-        carries_weaken v (from_first new) (λ p. Need (lives_in new) (λ x. false) X (stands_at new) (slots_at new) v.number p) (λ p. F ≡ Some p) E E
+        carries_weaken v (from_first new) (λ p. Need (lives_in new) (λ x. false) X (location_at new) (slots_at new) v.number p) (λ p. F ≡ Some p) E E
         (λ p h. elim h [
           | located l at ↦ stays p (by_place p (b.in_slot_or_nowhere v.number) at)
           | in_slot o at ↦ stays p at
-          | made x ↦ is_there-true F p ((and_parts (nat_eq v.number v.number) (is_there F p) x).1)
+          | made x ↦ at_location-true F p ((and_parts (nat_eq v.number v.number) (at_location F p) x).1)
         ])
         (λ p h. h)
         (reloads_at_begin_carried (λ w. w ≡ v) insts placesf i n (λ w. E) (λ x. false) X params old new
-        (λ r x. and_right (nat_eq x v.number) (is_there F (InRegister r)) (is_there-none F (InRegister r) (slot r))) (λ x e. absurd cc) begins between
-        (λ w same. subst (λ (u : VirtualRegister). Carries u (from_first old) (Need (lives_in old) (λ x. false) X (stands_at old) (slots_at old) u.number) E)
+        (λ r x. and_right (nat_eq x v.number) (at_location F (InRegister r)) (at_location-none F (InRegister r) (slot r))) (λ x e. absurd cc) begins between
+        (λ w same. subst (λ (u : VirtualRegister). Carries u (from_first old) (Need (lives_in old) (λ x. false) X (location_at old) (slots_at old) u.number) E)
         (sym same)
-        (carries_weaken v (from_first old) (Relied false false (stands_at old v.number) (slots_at old v.number) F)
-        (λ p. Need (lives_in old) (λ x. false) X (stands_at old) (slots_at old) v.number p) E E
+        (carries_weaken v (from_first old) (Relied false false (location_at old v.number) (slots_at old v.number) F)
+        (λ p. Need (lives_in old) (λ x. false) X (location_at old) (slots_at old) v.number p) E E
         (λ p h. elim h.1 [
           | inl at ↦ located (ap is_some at) at
           | inr (inl at) ↦ in_slot refl at
-          | inr (inr at) ↦ made (and_from (nat_eq v.number v.number) (is_there F p) (eq-eqb v.number v.number refl) (is_there-same F p at.1))
+          | inr (inr at) ↦ made (and_from (nat_eq v.number v.number) (at_location F p) (eq-eqb v.number v.number refl) (at_location-same F p at.1))
         ])
         (λ p h. h) c)) v refl)
       where
         by_place : (p : Place) → (place_in new v.number ≡ NoPlace) ⊎ ((k : ℕ) × (place_in new v.number ≡ InSlot k) × (slot_in new v.number ≡ InSlot k)) →
-            stands_at new v.number ≡ Some p → slots_at new v.number ≡ Some p
+            location_at new v.number ≡ Some p → slots_at new v.number ≡ Some p
         by_place p (inl none) at = (let x : None ≡ Some p = ap opt (sym none) ∙ at in absurd cc)
         by_place p (inr k) at = ap opt k.2 ∙ ap opt (sym k.1) ∙ at
 
-    -- with the block's start in front, its listing carries v from its final slot, or from nowhere if the block writes it
-    pub entered_carried : Carries v (from_first old) (Relied block block (stands_at old v.number) (slots_at old v.number) F) E →
+    -- with the block's start in front, its listing carries v from its final slot, or from nowhere if the block writes
+    -- it
+    pub entered_carried : Carries v (from_first old) (Relied block block (location_at old v.number) (slots_at old v.number) F) E →
         Carries v (from_first new) (λ p. (block ≡ false) × (F ≡ Some p)) E
     entered_carried = by_test block refl
       where
-        by_test : (b : Bool) → block ≡ b → Carries v (from_first old) (Relied block block (stands_at old v.number) (slots_at old v.number) F) E →
+        by_test : (b : Bool) → block ≡ b → Carries v (from_first old) (Relied block block (location_at old v.number) (slots_at old v.number) F) E →
             Carries v (from_first new) (λ p. (block ≡ false) × (F ≡ Some p)) E
         by_test true is c =
             carries_weaken v (from_first new) (λ p. ⊥) (λ p. (block ≡ false) × (F ≡ Some p)) E E (λ p h. absurd h) (λ p h. h)
             (reloaded old.edits new.edits (block_start_places i params old new begins between).leads.pushes
-            (carries_weaken v (from_first old) (Relied block block (stands_at old v.number) (slots_at old v.number) F) (λ p. ⊥) E E
+            (carries_weaken v (from_first old) (Relied block block (location_at old v.number) (slots_at old v.number) F) (λ p. ⊥) E E
             (λ p h. (let x : true ≡ false = sym is ∙ h.0 in absurd cc)) (λ p h. h) c))
         by_test false is c =
             carries_weaken v (from_first new) (λ p. F ≡ Some p) (λ p. (block ≡ false) × (F ≡ Some p)) E E (λ p h. (is, h)) (λ p h. h)
-            (unwritten (subst (λ x. Carries v (from_first old) (Relied x x (stands_at old v.number) (slots_at old v.number) F) E) is c))
+            (unwritten (subst (λ x. Carries v (from_first old) (Relied x x (location_at old v.number) (slots_at old v.number) F) E) is c))

@@ -17,7 +17,7 @@ use Rattle.regalloc2_fastalloc_state.specs.declared.inst_regs.InstRegs.{InstRegs
 use Rattle.regalloc2_fastalloc_state.specs.StateParts.{slot_name, units_of}
 use Rattle.regalloc2_fastalloc_proofs.specs.Safety.{IsWhole}
 use Rattle.regalloc2_fastalloc_proofs.proofs.Safety.StepsKeepState.{slot_in, slot_no_register}
-use Rattle.regalloc2_fastalloc_proofs.proofs.Operands.RecordOverState.{opt_from, opt_real, opt_none, stands_at, slots_at, slot_below, grown_slots}
+use Rattle.regalloc2_fastalloc_proofs.proofs.Operands.RecordOverState.{opt_from, opt_real, opt_none, location_at, slots_at, slot_below, grown_slots}
 use Rattle.regalloc2_fastalloc_proofs.proofs.Slots.StepsKeepSlots.{Grown, IsAt, changes_grow}
 use Rattle.regalloc2_fastalloc_proofs.proofs.Operands.DefinedNumbers.{defined_by, defined_by-at}
 use Rattle.regalloc2_fastalloc_proofs.proofs.Inst.OneInstCarries.{IsBetweenInsts, Needed, carries_by_itself}
@@ -27,7 +27,8 @@ use Rattle.regalloc2_fastalloc_proofs.proofs.BlockEnd.BranchAlone.{IsUseMove, Br
 use Rattle.regalloc2_fastalloc_proofs.proofs.Inst.ProperInsts.{ProperCode}
 use Rattle.regalloc2_fastalloc_proofs.proofs.Changes.InstChanges.{allocs_inst_changes, any_operand}
 
--- what is known of the slots at the end of the whole walk: each has one owner, and the slots made after t are at or above its count
+-- what is known of the slots at the end of the whole walk: each has one owner, and the slots made after t are at or
+-- above its count
 pub record ToCome (F : ℕ → Option Place) (t : StateValue) : Type 0 where
   pub only : (x : ℕ) (p : Place) → F x ≡ Some p → (n : ℕ) × (p ≡ InSlot n)
   pub own : (x y n : ℕ) → F x ≡ Some (InSlot n) → F y ≡ Some (InSlot n) → x ≡ y
@@ -35,10 +36,10 @@ pub record ToCome (F : ℕ → Option Place) (t : StateValue) : Type 0 where
   pub fresh : (x n : ℕ) → F x ≡ Some (InSlot n) → slots_at t x ≡ None → t.slots.count ≤ n
 
 -- a slot is one below the count
-pub slot_there : (t : StateValue) → IsWhole t → (x : ℕ) (p : Place) → slots_at t x ≡ Some p → (n : ℕ) × (p ≡ InSlot n) × (n < t.slots.count)
-slot_there t w x NoPlace at = absurd (opt_real (slot_in t x) NoPlace at refl)
-slot_there t w x (InRegister r) at = absurd (slot_no_register t.slots.count (slot_in t x) r (w.below x) (opt_from (slot_in t x) (InRegister r) at))
-slot_there t w x (InSlot n) at = (n, refl, slot_below t.slots.count (slot_in t x) n (w.below x) (opt_from (slot_in t x) (InSlot n) at))
+pub slot_is_below_count : (t : StateValue) → IsWhole t → (x : ℕ) (p : Place) → slots_at t x ≡ Some p → (n : ℕ) × (p ≡ InSlot n) × (n < t.slots.count)
+slot_is_below_count t w x NoPlace at = absurd (opt_real (slot_in t x) NoPlace at refl)
+slot_is_below_count t w x (InRegister r) at = absurd (slot_no_register t.slots.count (slot_in t x) r (w.below x) (opt_from (slot_in t x) (InRegister r) at))
+slot_is_below_count t w x (InSlot n) at = (n, refl, slot_below t.slots.count (slot_in t x) n (w.below x) (opt_from (slot_in t x) (InSlot n) at))
 
 -- a place or none
 pub cases_opt : (x : Option Place) → (x ≡ None) ⊎ ((p : Place) × (x ≡ Some p))
@@ -60,8 +61,9 @@ to_come-back At F a b units g h = record {
   ];
 }
 
--- A branch at the end of its block, the only writer of the slots of its definitions: the function and the places of its operands; F: the slots at the
--- walk's end; the branch, allocated between the tables old and middle; u: the registers of the instruction after it.
+-- A branch at the end of its block, the only writer of the slots of its definitions: the function and the places of its
+-- operands; F: the slots at the walk's end; the branch, allocated between the tables old and middle; u: the registers
+-- of the instruction after it.
 pub record LastBranch : Type 1 where
   pub code : ProperCode
   open code use {Known, f, placesf, proper}
@@ -130,14 +132,15 @@ module _ (at_end : LastBranch) where
             (none_below (InSlot n.0) (before last) (before (last + 1)) old.edits (omega arith) between.later) br.pushes;
       })
 
-  -- what it carries with its own moves, of a vreg that it doesn't define: from any place that must hold the vreg before it to the vreg's slot
+  -- what it carries with its own moves, of a vreg that it doesn't define: from any place that must hold the vreg before
+  -- it to the vreg's slot
   module _ (h : ToCome F middle) (v : VirtualRegister) (known : Known v) (undefined : defined_by (inst_at f last).operands v.number ≡ false) (block : Bool)
       (E : Place → Type 0) (mine : (p : Place) → E p → F v.number ≡ Some p) (there : block ≡ true → (p : Place) → E p → slots_at old v.number ≡ Some p) where
     abbrev L : List Item
     L = walked (inst_at f) (at_point (listed middle.edits)) placesf last 1
 
     abbrev On : Place → Type 0
-    On = Relied false block (stands_at middle v.number) (slots_at middle v.number) (F v.number)
+    On = Relied false block (location_at middle v.number) (slots_at middle v.number) (F v.number)
 
     abbrev Has : Place → Type 0
     Has = Needed (defined_by (inst_at f last).operands) middle v

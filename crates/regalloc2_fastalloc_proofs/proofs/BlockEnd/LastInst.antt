@@ -13,7 +13,7 @@ use Rattle.regalloc2_carry.proofs.CarryRules.{carries_weaken}
 use Rattle.regalloc2_carry.proofs.BlockBackward.{Relied}
 use Rattle.regalloc2_fastalloc_proofs.specs.InstSteps.{StateValue, ends_block}
 use Rattle.regalloc2_fastalloc_proofs.proofs.Safety.StepsKeepState.{place_in, slot_in}
-use Rattle.regalloc2_fastalloc_proofs.proofs.Operands.RecordOverState.{opt, stands_at, slots_at}
+use Rattle.regalloc2_fastalloc_proofs.proofs.Operands.RecordOverState.{opt, location_at, slots_at}
 use Rattle.regalloc2_fastalloc_proofs.proofs.Operands.DefinedNumbers.{defined_by}
 use Rattle.regalloc2_fastalloc_proofs.proofs.Inst.OneInstCarries.{CarriesByItself, Needed}
 use Rattle.regalloc2_fastalloc_proofs.proofs.Walk.InstForOneVReg.{needed_parts}
@@ -32,14 +32,14 @@ module _ (code : ProperCode) (F : ℕ → Option Place) where
   pub return_owes : (last : ℕ) (old new : StateValue) (v : VirtualRegister) → Known v → (block : Bool) (E : Place → Type 0) →
       CarriesByItself code last old new → ends_block (inst_at f last) ≡ true → ((p : Place) → E p → ⊥) →
       Carries v (walked (inst_at f) (at_point (listed new.edits)) placesf last 1)
-      (Relied (defined_from f v.number last 1) block (stands_at new v.number) (slots_at new v.number) (F v.number)) E
+      (Relied (defined_from f v.number last 1) block (location_at new v.number) (slots_at new v.number) (F v.number)) E
   return_owes last old new v known block E a ret nowhere_needed =
       carries_weaken v (walked (inst_at f) (at_point (listed new.edits)) placesf last 1) (Needed (defined_by (inst_at f last).operands) new v)
-      (Relied (defined_from f v.number last 1) block (stands_at new v.number) (slots_at new v.number) (F v.number))
+      (Relied (defined_from f v.number last 1) block (location_at new v.number) (slots_at new v.number) (F v.number))
       (λ p. ⊥) E relied (λ p e. nowhere_needed p e) (a.returns ret v known)
     where
       relied : (p : Place) → Needed (defined_by (inst_at f last).operands) new v p →
-          Relied (defined_from f v.number last 1) block (stands_at new v.number) (slots_at new v.number) (F v.number) p
+          Relied (defined_from f v.number last 1) block (location_at new v.number) (slots_at new v.number) (F v.number) p
       relied p h = elim (cases_Bool (defined_by (inst_at f last).operands v.number)) [
         | inl d ↦ elim (needed_parts (defined_by (inst_at f last).operands) new v p h) [
           | inl at ↦ (let x : None ≡ Some p = sym (a.ends.gone v.number d) ∙ at in absurd cc)
@@ -58,14 +58,14 @@ module _ (code : ProperCode) (F : ℕ → Option Place) where
 abbrev pub OwedOwn : FunctionValue → (ℕ → Option Place) → ℕ → VirtualRegister → Place → Type 0
 OwedOwn f F b v p = ((k : ℕ) → HasEdge f b k → names v (block_at f (target_at f b k)).params ≡ false) × IsWantedBehind f b v × (F v.number ≡ Some p)
 
--- at a block's end, where each vreg is in its slot or nowhere: what is needed in v's own slot is there, if v has a location
--- if another block uses what this one writes
-pub owed_there : (f : FunctionValue) (F : ℕ → Option Place) (b : ℕ) (v : VirtualRegister) (block : Bool) (t : StateValue) →
+-- at a block's end, where each vreg is in its slot or nowhere: what is needed in v's own slot is there, if v has a
+-- location if another block uses what this one writes
+pub owed_is_relied : (f : FunctionValue) (F : ℕ → Option Place) (b : ℕ) (v : VirtualRegister) (block : Bool) (t : StateValue) →
     ((p : Place) → slots_at t v.number ≡ Some p → F v.number ≡ Some p)
     → (place_in t v.number ≡ NoPlace) ⊎ ((k : ℕ) × (place_in t v.number ≡ InSlot k) × (slot_in t v.number ≡ InSlot k))
     → (block ≡ true → IsUnwritten f b v → ⊥) → (block ≡ true → (c : ℕ) → c < length f.blocks → c ≢ b → IsUsedIn f c v → place_in t v.number ≢ NoPlace)
-    → (p : Place) → OwedOwn f F b v p → Relied false block (stands_at t v.number) (slots_at t v.number) (F v.number) p
-owed_there f F b v block t stays in_slot_or_nowhere writes lives p (none, (edge, requirement), own) = elim (cases_Bool block) [
+    → (p : Place) → OwedOwn f F b v p → Relied false block (location_at t v.number) (slots_at t v.number) (F v.number) p
+owed_is_relied f F b v block t stays in_slot_or_nowhere writes lives p (none, (edge, requirement), own) = elim (cases_Bool block) [
   | inr free ↦ (refl, inr (inr (free, own)))
   | inl is ↦ elim requirement [
     | inl unwritten ↦ absurd (writes is unwritten)

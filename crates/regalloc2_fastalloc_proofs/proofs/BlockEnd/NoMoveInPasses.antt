@@ -22,8 +22,8 @@ use Rattle.regalloc2_fastalloc_state.specs.Positions.{positions_of}
 use Rattle.regalloc2_function.specs.FunctionValue.{op_at}
 use Rattle.regalloc2_fastalloc_proofs.specs.InstSteps.{StateValue, use_request, def_request, reuse_request, LocatesUse, stays, located, AllocsUse}
 use Rattle.regalloc2_fastalloc_proofs.specs.InstSteps.{AllocsDefOp, ProcessesOperand, a_register, a_use, a_def, a_reuse, own, named}
-use Rattle.regalloc2_fastalloc_proofs.proofs.Safety.StepsKeepSafe.{settled_holder}
-use Rattle.regalloc2_fastalloc_proofs.proofs.Operands.AllocsSoFar.{at_place, AreSoundOperands, reads_allocated, asked_fixed, asked_as_fixed}
+use Rattle.regalloc2_fastalloc_proofs.proofs.Safety.StepsKeepSafe.{holder_after_set_alloc}
+use Rattle.regalloc2_fastalloc_proofs.proofs.Operands.AllocsSoFar.{at_place, AreSoundOperands, reads_allocated, requires_fixed_reg, reuse_requires_fixed_reg}
 use Rattle.regalloc2_fastalloc_proofs.proofs.BlockEnd.NoMoveForOperand.{Overlap, Asks, claims, chosen, NoMovePushed, Awaiting, Origin, stood_there, asked}
 use Rattle.regalloc2_fastalloc_proofs.proofs.BlockEnd.NoMoveForOperand.{was_free, in_a_slot, Got, no_register_slot, none_some, allocs_operand_no_move}
 use Rattle.regalloc2_fastalloc_proofs.proofs.BlockEnd.NoMoveForOperand.{SamePlaces, same_places, frees_alloc_no_move}
@@ -38,30 +38,30 @@ no_move_pushed_on ops pass edits t u old new later same s = record {
   edits_are = same.edits ∙ s.edits_are;
   early = λ r v small held. later.early r (s.early r v small (sym (same.held_by r small) ∙ held));
   late = λ yes_pass r v small held. later.late r (s.late yes_pass r v small (sym (same.held_by r small) ∙ held));
-  holds = λ r v small held. same.stands_at v.number r (s.holds r v small (sym (same.held_by r small) ∙ held));
+  holds = λ r v small held. same.location_at v.number r (s.holds r v small (sym (same.held_by r small) ∙ held));
   located = λ n r at. (let x = s.located n r (same.stood_at n r at) in (x.0, (x.1.0, x.1.1, same.held_by r x.0 ∙ x.1.2)));
   away = λ k r less def at. s.away k r less def (same.stood_at (op_at ops k).vreg.number r at);
 }
 
 -- the walk of the last instruction goes on without moves if a vreg without a location gets one
-settled_still : (ops : List OperandValue) (pass : Bool) (edits : List (ℕ × MoveValue)) (v : VirtualRegister) (p : Place) (t u : InstRegs)
+no_move_after_use_located : (ops : List OperandValue) (pass : Bool) (edits : List (ℕ × MoveValue)) (v : VirtualRegister) (p : Place) (t u : InstRegs)
     (old new : StateValue) → Less t u → SetsAlloc old.places new.places v p → new.edits ≡ old.edits
     → alloc_of old.places v.number ≡ NoPlace
     → ((q : Register) → p ≡ InRegister q → (q.number < 64) × (vreg_of_preg old.places q ≡ None) × (has_register u.early q ≡ false)
     × (pass ≡ true → has_register u.late q ≡ false))
     → ((k : ℕ) → k < length ops → is_def (op_at ops k).kind ≡ true → (op_at ops k).vreg.number ≢ v.number)
     → NoMovePushed ops pass edits t old → NoMovePushed ops pass edits u new
-settled_still ops pass edits v p t u old new later z pushed nowhere mine other s = record {
+no_move_after_use_located ops pass edits v p t u old new later z pushed nowhere mine other s = record {
   edits_are = pushed ∙ s.edits_are;
-  early = λ r w small held. elim (settled_holder old.places new.places v w p r small z held) [
+  early = λ r w small held. elim (holder_after_set_alloc old.places new.places v w p r small z held) [
     | inl a ↦ (mine r a.0).2
     | inr h ↦ later.early r (s.early r w small h)
   ];
-  late = λ yes_pass r w small held. elim (settled_holder old.places new.places v w p r small z held) [
+  late = λ yes_pass r w small held. elim (holder_after_set_alloc old.places new.places v w p r small z held) [
     | inl a ↦ (mine r a.0).3 yes_pass
     | inr h ↦ later.late r (s.late yes_pass r w small h)
   ];
-  holds = λ r w small held. elim (settled_holder old.places new.places v w p r small z held) [
+  holds = λ r w small held. elim (holder_after_set_alloc old.places new.places v w p r small z held) [
     | inl a ↦ (ap (λ (x : VirtualRegister). alloc_of new.places x.number) (sym a.1) ∙ z.here ∙ a.0)
     | inr h ↦ (let at : alloc_of old.places w.number ≡ InRegister r = s.holds r w small h in
         z.others w.number (λ e. (let x : NoPlace ≡ InRegister r = sym nowhere ∙ ap (alloc_of old.places) (sym e) ∙ at in cc)) ∙ at)
@@ -87,9 +87,9 @@ settled_still ops pass edits v p t u old new later z pushed nowhere mine other s
 }
 
 -- no vreg arrives in a register other than this one
-settled_none : (v : VirtualRegister) (p : Place) (old new : VRegAllocsValue) (r : Register) → r.number < 64 → SetsAlloc old new v p → (p ≡ InRegister r → ⊥) →
+other_register_stays_empty : (v : VirtualRegister) (p : Place) (old new : VRegAllocsValue) (r : Register) → r.number < 64 → SetsAlloc old new v p → (p ≡ InRegister r → ⊥) →
     vreg_of_preg old r ≡ None → vreg_of_preg new r ≡ None
-settled_none v p old new r small z ne none = z.holders r small ∙ (let a : is_place p (InRegister r) ≡ false = is_place-other p (InRegister r) ne in
+other_register_stays_empty v p old new r small z ne none = z.holders r small ∙ (let a : is_place p (InRegister r) ≡ false = is_place-other p (InRegister r) ne in
     rw a (either (is_place (alloc_of old v.number) (InRegister r))))
   where
     either : (b : Bool) → cond b None (vreg_of_preg old r) ≡ None
@@ -106,13 +106,14 @@ asks_back : (ops : List OperandValue) (here there : List Place) (k : ℕ) (r : R
 asks_back ops here there k r p e (claims c) = claims c
 asks_back ops here there k r p e (chosen at is) = chosen (sym e ∙ at) is
 
--- operands that wait for their registers go on waiting, if fewer are left, no register becomes available, and their registers stay empty
+-- operands that wait for their registers go on waiting, if fewer are left, no register becomes available, and their
+-- registers stay empty
 pub awaiting_on : (ops : List OperandValue) (D E : ℕ → Type 0) (here there : List Place) (t u : InstRegs) (old new : StateValue) →
     ((j : ℕ) → j < length ops → (E j → ⊥) → D j → ⊥)
     → ((j : ℕ) → j < length ops → (E j → ⊥) → at_place there j ≡ at_place here j) → Less t u
     → ((j : ℕ) (r : Register) (p : Positions) → j < length ops → (E j → ⊥) → Asks ops here j r p → vreg_of_preg new.places r ≡ None) →
     Awaiting ops D here t old → Awaiting ops E there u new
-awaiting_on ops D E here there t u old new back same later nobody a = record {
+awaiting_on ops D E here there t u old new back same later none_held a = record {
   held_early = λ k r p less not_e asks early. later.early r (a.held_early k r p less (back k less not_e)
       (asks_back ops here there k r p (same k less not_e) asks) early);
   held_late = λ k r p less not_e asks late. later.late r (a.held_late k r p less (back k less not_e) (asks_back ops here there k r p (same k less not_e) asks)
@@ -120,7 +121,7 @@ awaiting_on ops D E here there t u old new back same later nobody a = record {
   small = λ k r p less not_e asks. a.small k r p less (back k less not_e) (asks_back ops here there k r p (same k less not_e) asks);
   one = λ j k r p q lj lk ej ek x y both. a.one j k r p q lj lk (back j lj ej) (back k lk ek) (asks_back ops here there j r p (same j lj ej) x)
       (asks_back ops here there k r q (same k lk ek) y) both;
-  nobody = λ k r p less not_e asks. nobody k r p less not_e (asks_back ops here there k r p (same k less not_e) asks);
+  none_held = λ k r p less not_e asks. none_held k r p less not_e (asks_back ops here there k r p (same k less not_e) asks);
   lates = λ k less not_e late. same k less not_e ∙ a.lates k less (back k less not_e) late;
 }
 
@@ -153,7 +154,7 @@ awaiting_reuse : (ops : List OperandValue) (D E : ℕ → Type 0) (n : ℕ) (p :
     × ((j : ℕ) (w : Positions) → j < length ops → (E j → ⊥) → j ≢ n → Asks ops here j q w → w.early ≡ true → ⊥))
     → ((j : ℕ) (r : Register) (w : Positions) → j < length ops → (E j → ⊥) → Asks ops here j r w → vreg_of_preg new.places r ≡ None) →
     Awaiting ops D here t old → Awaiting ops E there u new
-awaiting_reuse ops D E n p here there t u old new within reads early_n back at_n same later newly nobody a = record {
+awaiting_reuse ops D E n p here there t u old new within reads early_n back at_n same later newly none_held a = record {
   held_early = λ k r w less not_e asks early. elim (split k r w less not_e asks) [
     | inl x ↦ later.early r (a.held_early k r w less (back k less not_e) x early)
     | inr x ↦ (newly r x.1).1
@@ -182,8 +183,8 @@ awaiting_reuse ops D E n p here there t u old new within reads early_n back at_n
       ]
     ]
   ];
-  nobody = λ k r w less not_e asks. elim (split k r w less not_e asks) [
-    | inl x ↦ nobody k r w less not_e x
+  none_held = λ k r w less not_e asks. elim (split k r w less not_e asks) [
+    | inl x ↦ none_held k r w less not_e x
     | inr x ↦ (newly r x.1).3
   ];
   lates = λ k less not_e late. elim (cases_eq k n) [
@@ -217,9 +218,9 @@ awaiting_reuse ops D E n p here there t u old new within reads early_n back at_n
 
 -- what a use requires, and what it holds
 use_asks : (o : OperandValue) (here : Place) (q : Register) → (use_request o here).requirement ≡ InPReg q → (here ≡ InRegister q) ⊎ (o.constraint ≡ FixedReg q)
-use_asks o NoPlace q h = inr (asked_fixed o.constraint q h)
+use_asks o NoPlace q h = inr (requires_fixed_reg o.constraint q h)
 use_asks o (InRegister r) q h = inl (let e : InPReg r ≡ InPReg q = h in let same : r ≡ q = cc in ap InRegister same)
-use_asks o (InSlot n) q h = inr (asked_fixed o.constraint q h)
+use_asks o (InSlot n) q h = inr (requires_fixed_reg o.constraint q h)
 
 use_positions : (o : OperandValue) (here : Place) → (use_request o here).positions ≡ positions_of o
 use_positions o NoPlace = refl
@@ -240,7 +241,8 @@ module _ (Known : VirtualRegister → Type 0) (ops : List OperandValue) (sound_o
   not_free t old p (inl early) no_move q v small held is_free = both_ways (has_register t.early q) (no_move.early q v small held) (is_free.early early)
   not_free t old p (inr late) no_move q v small held is_free = both_ways (has_register t.late q) (no_move.late late.0 q v small held) (is_free.late late.1)
 
-  -- no edit was added in the pass, operands that wait still have their registers, and the list of places is as long as before
+  -- no edit was added in the pass, operands that wait still have their registers, and the list of places is as long as
+  -- before
   abbrev pub NoMoveSoFar : (ℕ → Type 0) → List Place → InstRegs → StateValue → Type 0
   NoMoveSoFar D there u t = NoMovePushed ops pass edits u t × Awaiting ops D there u t × (length there ≡ length ops)
 
@@ -251,7 +253,7 @@ module _ (Known : VirtualRegister → Type 0) (ops : List OperandValue) (sound_o
     no_move_pushed_on ops pass edits t u old new later same c.0,
     awaiting_on ops D E here (set here k p) t u old new (λ j less not_e. (next.back j not_e).0)
         (λ j less not_e. get_or-set_other here k j p NoPlace (next.back j not_e).1) later
-        (λ j r w less not_e asks. same.held_by r (c.1.small j r w less (next.back j not_e).0 asks) ∙ c.1.nobody j r w less (next.back j not_e).0 asks) c.1,
+        (λ j r w less not_e asks. same.held_by r (c.1.small j r w less (next.back j not_e).0 asks) ∙ c.1.none_held j r w less (next.back j not_e).0 asks) c.1,
     length-set here k p ∙ c.2,
   )
 
@@ -262,7 +264,7 @@ module _ (Known : VirtualRegister → Type 0) (ops : List OperandValue) (sound_o
   def_no_move D E k p here t u old new less next reach def d c =
       let o : OperandValue = op_at ops k in
       let g = allocs_operand_no_move (after i) ops pass edits (def_request o) p t d.inst_regs old d.middle d.gets c.0
-      (λ q wants. c.1.nobody k q (positions_of o) less next.before_it (claims (own (sound_ops.allocated k less def) (asked_fixed o.constraint q wants) refl)))
+      (λ q wants. c.1.none_held k q (positions_of o) less next.before_it (claims (own (sound_ops.allocated k less def) (requires_fixed_reg o.constraint q wants) refl)))
       (not_free t old (positions_of o) reach c.0) in
       let z = frees_alloc_no_move (after i) o.vreg ends_block p d.inst_regs u d.middle new (only_at_end k less def) d.defines
       (λ q at. c.0.away k q less def (ap (λ (x : VRegAllocsValue). alloc_of x o.vreg.number) (sym g.places) ∙ at)) in
@@ -270,7 +272,7 @@ module _ (Known : VirtualRegister → Type 0) (ops : List OperandValue) (sound_o
       let both : SamePlaces old new = record {
         edits = z.1.edits ∙ g.edits;
         stood_at = λ n r h. ap (λ (x : VRegAllocsValue). alloc_of x n) (sym g.places) ∙ z.1.stood_at n r h;
-        stands_at = λ n r h. z.1.stands_at n r (ap (λ (x : VRegAllocsValue). alloc_of x n) g.places ∙ h);
+        location_at = λ n r h. z.1.location_at n r (ap (λ (x : VRegAllocsValue). alloc_of x n) g.places ∙ h);
         held_by = λ r small. z.1.held_by r small ∙ ap (λ (x : VRegAllocsValue). vreg_of_preg x r) g.places;
       } in
       same_no_move D E k p here t u old new next later both c
@@ -285,9 +287,9 @@ module _ (Known : VirtualRegister → Type 0) (ops : List OperandValue) (sound_o
       let name = sound_ops.named k n less reuses in
       let use_it : is_def m.kind ≡ false = reads_use m name.2 in
       let mine : (q : Register) → (reuse_request o m).requirement ≡ InPReg q →
-      Asks ops here k q (record { early = false; late = true }) = λ q wants. claims (named n reuses name.0 (asked_as_fixed m.constraint q wants) refl) in
+      Asks ops here k q (record { early = false; late = true }) = λ q wants. claims (named n reuses name.0 (reuse_requires_fixed_reg m.constraint q wants) refl) in
       let none : (q : Register) → (reuse_request o m).requirement ≡ InPReg q →
-      vreg_of_preg old.places q ≡ None = λ q wants. c.1.nobody k q (record { early = false; late = true }) less next.before_it (mine q wants) in
+      vreg_of_preg old.places q ≡ None = λ q wants. c.1.none_held k q (record { early = false; late = true }) less next.before_it (mine q wants) in
       let taken : (q : Register) (v : VirtualRegister) → q.number < 64 → vreg_of_preg old.places q ≡ Some v → IsAvailableAt t (reuse_request o m).positions q →
       ⊥ = λ q v small held f. both_ways (has_register t.early q) (c.0.early q v small held) (f.early refl) in
       let g = allocs_operand_no_move (after i) ops pass edits (reuse_request o m) p t d.inst_regs old d.middle d.gets c.0 none taken in
@@ -297,7 +299,7 @@ module _ (Known : VirtualRegister → Type 0) (ops : List OperandValue) (sound_o
       let both : SamePlaces old new = record {
         edits = z.1.edits ∙ g.edits;
         stood_at = λ x r h. ap (λ (y : VRegAllocsValue). alloc_of y x) (sym g.places) ∙ z.1.stood_at x r h;
-        stands_at = λ x r h. z.1.stands_at x r (ap (λ (y : VRegAllocsValue). alloc_of y x) g.places ∙ h);
+        location_at = λ x r h. z.1.location_at x r (ap (λ (y : VRegAllocsValue). alloc_of y x) g.places ∙ h);
         held_by = λ r small. z.1.held_by r small ∙ ap (λ (x : VRegAllocsValue). vreg_of_preg x r) g.places;
       } in
       let long_enough : (q : Register) → p ≡ InRegister q → (q.number < 64) × (vreg_of_preg old.places q ≡ None)
@@ -314,7 +316,7 @@ module _ (Known : VirtualRegister → Type 0) (ops : List OperandValue) (sound_o
               both.held_by q (long_enough q is).0 ∙ (long_enough q is).1,
               (long_enough q is).2,
             ))
-            (λ j r w within not_e asks. both.held_by r (c.1.small j r w within (next.back j not_e).0 asks) ∙ c.1.nobody j r w within (next.back j not_e).0 asks)
+            (λ j r w within not_e asks. both.held_by r (c.1.small j r w within (next.back j not_e).0 asks) ∙ c.1.none_held j r w within (next.back j not_e).0 asks)
             c.1,
         length-set (set here k p) n p ∙ length-set here k p ∙ c.2,
       )
@@ -332,7 +334,7 @@ module _ (Known : VirtualRegister → Type 0) (ops : List OperandValue) (sound_o
           let asks : (reuse_request (op_at ops k) (op_at ops n)).requirement ≡ InPReg q = wants ∙ ap InPReg same in
           let name = sound_ops.named k n less reuses in
           let claim : Asks ops here n q (positions_of (op_at ops n)) = claims
-          (own (reads_allocated (op_at ops n) name.2) (asked_as_fixed (op_at ops n).constraint q asks) refl) in (
+          (own (reads_allocated (op_at ops n) name.2) (reuse_requires_fixed_reg (op_at ops n).constraint q asks) refl) in (
             c.1.small k q (record { early = false; late = true }) less next.before_it (mine q asks),
             none q asks,
             λ j w within not_e ne x early. ne (c.1.one j n q w (positions_of (op_at ops n)) within name.0 (next.back j not_e).0 not_n x claim
@@ -364,7 +366,7 @@ module _ (Known : VirtualRegister → Type 0) (ops : List OperandValue) (sound_o
       ]
 
       none : (q : Register) → (use_request (op_at ops k) (at_place here k)).requirement ≡ InPReg q → vreg_of_preg old.places q ≡ None
-      none q wants = c.1.nobody k q (positions_of (op_at ops k)) less next.before_it (asks_it q wants)
+      none q wants = c.1.none_held k q (positions_of (op_at ops k)) less next.before_it (asks_it q wants)
 
       taken : (q : Register) (v : VirtualRegister) → q.number < 64 → vreg_of_preg old.places q ≡ Some v →
           IsAvailableAt t (use_request (op_at ops k) (at_place here k)).positions q → ⊥
@@ -413,14 +415,14 @@ module _ (Known : VirtualRegister → Type 0) (ops : List OperandValue) (sound_o
       by_use : LocatesUse (use_request (op_at ops k) (at_place here k)).vreg p d.middle new → NoMoveSoFar E (set here k p) u new
       by_use (stays there en) = same_no_move D E k p here t u old new next g.later
           (same_places old new (ap (λ (x : StateValue). x.places) en ∙ g.places) (ap (λ (x : StateValue). x.edits) en ∙ g.edits)) c
-      by_use (located stood_nowhere settles slots pushed machine order) =
+      by_use (located stood_nowhere sets_alloc slots pushed machine order) =
           let nowhere : alloc_of old.places (op_at ops k).vreg.number ≡ NoPlace = ap (alloc_of old.places) (sym same_number)
           ∙ ap (λ (x : VRegAllocsValue). alloc_of x (use_request (op_at ops k) (at_place here k)).vreg.number) (sym g.places) ∙ stood_nowhere in
           let z : SetsAlloc old.places new.places (use_request (op_at ops k) (at_place here k)).vreg
-          p = subst (λ (x : VRegAllocsValue). SetsAlloc x new.places (use_request (op_at ops k) (at_place here k)).vreg p) g.places settles in
+          p = subst (λ (x : VRegAllocsValue). SetsAlloc x new.places (use_request (op_at ops k) (at_place here k)).vreg p) g.places sets_alloc in
           let positions : (use_request (op_at ops k) (at_place here k)).positions ≡ positions_of (op_at ops k) = use_positions (op_at ops k)
           (at_place here k) in (
-            settled_still ops pass edits (use_request (op_at ops k) (at_place here k)).vreg p t u old new g.later z (pushed ∙ g.edits)
+            no_move_after_use_located ops pass edits (use_request (op_at ops k) (at_place here k)).vreg p t u old new g.later z (pushed ∙ g.edits)
                 (ap (alloc_of old.places) same_number ∙ nowhere)
                 (λ q is. let m = mine nowhere q is g.origin in (
                   m.0,
@@ -432,9 +434,9 @@ module _ (Known : VirtualRegister → Type 0) (ops : List OperandValue) (sound_o
                 c.0,
             awaiting_on ops D E here (set here k p) t u old new (λ j within not_e. (next.back j not_e).0)
                 (λ j within not_e. get_or-set_other here k j p NoPlace (next.back j not_e).1) g.later
-                (λ j r w within not_e x. settled_none (use_request (op_at ops k) (at_place here k)).vreg p old.places new.places r
+                (λ j r w within not_e x. other_register_stays_empty (use_request (op_at ops k) (at_place here k)).vreg p old.places new.places r
                 (c.1.small j r w within (next.back j not_e).0 x) z (λ is. (mine nowhere r is g.origin).2 j w within not_e x)
-                (c.1.nobody j r w within (next.back j not_e).0 x)) c.1,
+                (c.1.none_held j r w within (next.back j not_e).0 x)) c.1,
             length-set here k p ∙ c.2,
           )
 

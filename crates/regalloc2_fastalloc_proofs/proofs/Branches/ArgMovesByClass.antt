@@ -41,7 +41,8 @@ pub record Stepped (point : ℕ) (inst_regs : InstRegs) (class : RegClass) (give
   pub high : (n : ℕ) → new.slots.count ≤ n → IsNoTarget given (InSlot n) → came_from made (InSlot n) ≡ InSlot n
   pub assigned : (m : Place × Place × Unit {0}) → Contains given m → came_from made m.1 ≡ m.0
 
--- the ordered moves of one class bring each target the value of its source, and leave all but scratch and temporary places alone
+-- the ordered moves of one class bring each target the value of its source, and leave all but scratch and temporary
+-- places alone
 pub class_moves_done : (point : ℕ) (inst_regs : InstRegs) (class : RegClass) (given : Moves) (old new : StateValue) → Pushes point inst_regs class given old new →
     Stepped point inst_regs class given old new
 class_moves_done point inst_regs class given old new p =
@@ -94,7 +95,8 @@ spare_back inst_regs class old new q a d s = (
   ],
 )
 
--- The moves of a branch's arguments, class after class, at a point: the tables before them (g), and the tables once the moves of each class are pushed.
+-- The moves of a branch's arguments, class after class, at a point: the tables before them (g), and the tables once the
+-- moves of each class are pushed.
 pub record ClassSteps : Type 0 where
   pub point : ℕ
   pub inst_regs : InstRegs

@@ -1,4 +1,5 @@
--- The moves of a branch's arguments: which places of a vreg they leave alone, and which values they bring to the parameters.
+-- The moves of a branch's arguments: which places of a vreg they leave alone, and which values they bring to the
+-- parameters.
 use Rattle.std.proofs.Common.{ℕ, zero, suc, ◌≡◌, ◌≢◌, ◌<◌, ◌≤◌, inl, inr, Bool, true, false, List, [], ◌∷◌, length, refl, sym, ap, ◌∙◌, subst, arith}
 use Rattle.std.specs.Prelude.{Option, None, Some, Contains, slice_index_or}
 use Rattle.std.proofs.lemmas.Bool.{or_left, or_right}
@@ -15,11 +16,11 @@ use Rattle.regalloc2_carry.proofs.BlockBackward.{Relied}
 use Rattle.regalloc2_fastalloc_proofs.specs.BranchSteps.{IsScratchRegFor, ClassMove, of_class, IsOwnDef}
 use Rattle.regalloc2_fastalloc_proofs.specs.Safety.{IsWhole}
 use Rattle.regalloc2_fastalloc_proofs.proofs.Safety.StepsKeepState.{place_in}
-use Rattle.regalloc2_fastalloc_proofs.proofs.Operands.RecordOverState.{opt, opt_from, stands_at, slots_at}
+use Rattle.regalloc2_fastalloc_proofs.proofs.Operands.RecordOverState.{opt, opt_from, location_at, slots_at}
 use Rattle.regalloc2_fastalloc_proofs.proofs.Branches.ArgMovesByClass.{IsNoTarget, all_moves, all_kept, all_above, all_moved, ClassSteps}
 use Rattle.regalloc2_fastalloc_proofs.proofs.Branches.EdgeArgsGathered.{of_class-has, of_class-from, passes_at, argument_at, IsArgued, params_on}
 use Rattle.regalloc2_fastalloc_proofs.proofs.BlockEnd.BranchAlone.{IsHeldHere}
-use Rattle.regalloc2_fastalloc_proofs.proofs.BlockEnd.BranchEndsBlock.{ToCome, cases_opt, slot_there}
+use Rattle.regalloc2_fastalloc_proofs.proofs.BlockEnd.BranchEndsBlock.{ToCome, cases_opt, slot_is_below_count}
 
 -- a list names each vreg in it
 pub names_at : (ps : List VirtualRegister) (j : ℕ) (v : VirtualRegister) → j < length ps → argument_at ps j ≡ v → names v ps ≡ true
@@ -28,12 +29,13 @@ names_at [] j v lt e = absurd (omega arith)
 names_at (p ∷ ps) zero v lt e = or_left (is_vreg p v) (names v ps) (subst (λ q. is_vreg p q ≡ true) e (is_vreg-same p))
 names_at (p ∷ ps) (suc j) v lt e = or_right (is_vreg p v) (names v ps) (names_at ps j v (omega arith) e)
 
-pub one_slot : (m n : ℕ) → InSlot m ≡ InSlot n → m ≡ n
-one_slot m n e = cc
+pub in_slot_injective : (m n : ℕ) → InSlot m ≡ InSlot n → m ≡ n
+in_slot_injective m n e = cc
 
--- The moves of the arguments of the block b's branch, class after class. F: the slots at the walk's end, each of one vreg; the parameters of the block's
--- successors are known, of the classes of their arguments; the tables before the moves are whole, with no vreg in a register reserved for moves; and
--- each given move is of an argument that the branch doesn't define itself.
+-- The moves of the arguments of the block b's branch, class after class. F: the slots at the walk's end, each of one
+-- vreg; the parameters of the block's successors are known, of the classes of their arguments; the tables before the
+-- moves are whole, with no vreg in a register reserved for moves; and each given move is of an argument that the branch
+-- doesn't define itself.
 pub record ArgMoves : Type 1 where
   pub Known : VirtualRegister → Type 0
   pub same : (v w : VirtualRegister) → Known v → Known w → v.number ≡ w.number → v ≡ w
@@ -108,7 +110,7 @@ module _ (args : ArgMoves) where
       let g0 = of_class-from c given m has in
       let o = origin g0.0 g0.1 in
       let arg : IsArgued (params_on f b o.0) (arguments_at f b o.0) o.1 g g0.0 = o.3 in
-      let s = slot_there g whole (argument_at (params_on f b o.0) o.1).number g0.0.to arg.3 in
+      let s = slot_is_below_count g whole (argument_at (params_on f b o.0) o.1).number g0.0.to arg.3 in
       let x : InSlot s.0 ≡ InRegister r = sym s.1 ∙ sym g0.4 ∙ to in cc
 
   -- a register in which a vreg is located is no scratch register
@@ -132,15 +134,15 @@ module _ (args : ArgMoves) where
     slot_kept : ((e : ℕ) → HasEdge f b e → names v (params_on f b e) ≡ false) → (p : Place) → slots_at g v.number ≡ Some p → (c : Cells) →
         after_moves ms c p ≡ c p
     slot_kept free p at c =
-        let s = slot_there g whole v.number p at in
+        let s = slot_is_below_count g whole v.number p at in
         let mine : F v.number ≡ Some (InSlot s.0) = come.stays v.number (InSlot s.0) (at ∙ ap Some s.1) in
         subst (λ q. after_moves (all_moves steps) c q ≡ c q) (sym s.1)
         (all_kept steps (InSlot s.0) (λ e. cc) (slot_not_spare s.0)
-        (λ k e. subst (λ x. x < g.slots.count) (one_slot s.0 k e) s.2) (no_parameter v known free s.0 mine) c)
+        (λ k e. subst (λ x. x < g.slots.count) (in_slot_injective s.0 k e) s.2) (no_parameter v known free s.0 mine) c)
 
     -- a place that must hold v keeps its value
     pub relied_kept : ((e : ℕ) → HasEdge f b e → names v (params_on f b e) ≡ false) → (block : Bool) (p : Place) →
-        Relied false block (stands_at g v.number) (slots_at g v.number) (F v.number) p → (c : Cells) → after_moves ms c p ≡ c p
+        Relied false block (location_at g v.number) (slots_at g v.number) (F v.number) p → (c : Cells) → after_moves ms c p ≡ c p
     relied_kept free block p h c = elim h.1 [
       | inl at ↦ by_place p (place_in g v.number) refl at
       | inr (inl at) ↦ slot_kept free p at c
@@ -154,7 +156,7 @@ module _ (args : ArgMoves) where
       ]
     ]
       where
-        by_place : (p q : Place) → place_in g v.number ≡ q → stands_at g v.number ≡ Some p →
+        by_place : (p q : Place) → place_in g v.number ≡ q → location_at g v.number ≡ Some p →
             after_moves (all_moves steps) c p ≡ c p
         by_place p NoPlace is at = (let x : None ≡ Some p = ap opt (sym is) ∙ at in absurd cc)
         by_place p (InRegister r) is at = (
@@ -172,8 +174,8 @@ module _ (args : ArgMoves) where
         let arg : IsArgued (params_on f b k) (arguments_at f b k) j.0 g m.0 = m.2 in
         let from_at : slots_at g v.number ≡ Some m.0.from = subst (λ (x : VirtualRegister). slots_at g x.number ≡ Some m.0.from) j.3 arg.2 in
         let to_at : slots_at g w.number ≡ Some m.0.to = subst (λ (x : VirtualRegister). slots_at g x.number ≡ Some m.0.to) j.2 arg.3 in
-        let from = slot_there g whole v.number m.0.from from_at in
-        let to = slot_there g whole w.number m.0.to to_at in
+        let from = slot_is_below_count g whole v.number m.0.from from_at in
+        let to = slot_is_below_count g whole w.number m.0.to to_at in
         let class_is : m.0.class ≡ v.class = arg.1 ∙ ap (λ (x : VirtualRegister). x.class) j.3 in
         let as_param : w.class ≡ v.class = ap (λ (x : VirtualRegister). x.class) (sym j.2) ∙ sym (classes k j.0 edge j.1)
         ∙ ap (λ (x : VirtualRegister). x.class) j.3 in

@@ -23,8 +23,9 @@ left_at f placesf e j = place_at (placesf (last_of (block_at f e))) j
 abbrev pub IsUsedBeyondBranch : FunctionValue → VirtualRegister → Type 0
 IsUsedBeyondBranch f v = (b e k : ℕ) → IsEdgeInto f b e k → IsOwnDef f e v → IsUsedElsewhere f v
 
--- The places that hold vregs at a block's start: those that the branch into it defines in the places of its operands, the parameters to which they
--- are passed there too, and all others in their slots. A vreg that only its own branch passes is nowhere.
+-- The places that hold vregs at a block's start: those that the branch into it defines in the places of its operands,
+-- the parameters to which they are passed there too, and all others in their slots. A vreg that only its own branch
+-- passes is nowhere.
 pub record Arrive (f : FunctionValue) (placesf : ℕ → List Place) (F : ℕ → Option Place) (stand : ℕ → VirtualRegister → Option Place) : Type 0 where
   pub own : (b e k j : ℕ) (v : VirtualRegister) → IsEdgeInto f b e k → DefinesNumber (branch_operands f e) v.number j → IsUsedElsewhere f v →
       stand b v ≡ Some (left_at f placesf e j)
@@ -36,7 +37,8 @@ pub record Arrive (f : FunctionValue) (placesf : ℕ → List Place) (F : ℕ �
       IsOwnDef f e (slice_index_or (arguments_at f e k) n no_vreg) → ⊥) → stand b v ≡ F v.number
   pub unused : (b d e k : ℕ) (v : VirtualRegister) → IsEdgeInto f d e k → IsOwnDef f e v → (IsUsedElsewhere f v → ⊥) → stand b v ≡ None
 
--- where the branch at the end of the block e leaves what it defines: in the fixed register, one for each, or in the vreg's slot
+-- where the branch at the end of the block e leaves what it defines: in the fixed register, one for each, or in the
+-- vreg's slot
 pub record DefsPlaced (f : FunctionValue) (placesf : ℕ → List Place) (F : ℕ → Option Place) (e : ℕ) : Type 0 where
   pub kinds : (j : ℕ) → j < length (branch_operands f e) → is_def (op_at (branch_operands f e) j).kind ≡ true →
       ((r : Register) × ((op_at (branch_operands f e) j).constraint ≡ FixedReg r)) ⊎ IsAnyOrStack (op_at (branch_operands f e) j).constraint

@@ -27,19 +27,19 @@ use Rattle.regalloc2_fastalloc_proofs.specs.InstSteps.{StateValue, AllocsInst, e
 use Rattle.regalloc2_fastalloc_proofs.specs.BranchSteps.{of_class, ProcessesBranch, IsOwnDef}
 use Rattle.regalloc2_fastalloc_proofs.specs.Safety.{IsWhole}
 use Rattle.regalloc2_fastalloc_proofs.proofs.Safety.StepsKeepState.{place_in, slot_in}
-use Rattle.regalloc2_fastalloc_proofs.proofs.Operands.RecordOverState.{opt, stands_at, slots_at, grown_slots}
+use Rattle.regalloc2_fastalloc_proofs.proofs.Operands.RecordOverState.{opt, location_at, slots_at, grown_slots}
 use Rattle.regalloc2_fastalloc_proofs.proofs.Moves.ScratchRegTaken.{of_machine, Fit}
 use Rattle.regalloc2_fastalloc_proofs.proofs.Operands.AllocsSoFar.{AreSoundOperands}
 use Rattle.regalloc2_fastalloc_proofs.proofs.Slots.StepsKeepSlots.{IsAt, changes_grow}
 use Rattle.regalloc2_fastalloc_proofs.proofs.Operands.DefinedNumbers.{defined_by, defined_by-at}
 use Rattle.regalloc2_fastalloc_proofs.proofs.BlockEnd.NoMoveForOperand.{IsOutside}
-use Rattle.regalloc2_fastalloc_proofs.proofs.Moves.StepsAppendEdits.{AppendsEdits, pushes_then, pushes_weaken, changes_push}
+use Rattle.regalloc2_fastalloc_proofs.proofs.Moves.StepsAppendEdits.{AppendsEdits, appends_edits_trans, pushes_weaken, changes_push}
 use Rattle.regalloc2_fastalloc_proofs.proofs.Changes.WalkChanges.{any_passed, gathers_moves_changes}
 use Rattle.regalloc2_fastalloc_proofs.proofs.Inst.OneInstCarries.{IsBetweenInsts, CarriesByItself, carries_by_itself}
 use Rattle.regalloc2_fastalloc_proofs.proofs.Walk.InstForOneVReg.{undefined_by}
 use Rattle.regalloc2_fastalloc_proofs.proofs.Walk.InstsBeforeLastCarry.{defined_from}
 use Rattle.regalloc2_fastalloc_proofs.proofs.Walk.BlockObligations.{defined_from-some}
-use Rattle.regalloc2_fastalloc_proofs.proofs.BlockEnd.LastInst.{OwedOwn, owed_there}
+use Rattle.regalloc2_fastalloc_proofs.proofs.BlockEnd.LastInst.{OwedOwn, owed_is_relied}
 use Rattle.regalloc2_fastalloc_proofs.proofs.BlockBegin.ReloadAtBegin.{IsReload}
 use Rattle.regalloc2_fastalloc_proofs.proofs.Branches.ArgMovesPushed.{walked_made}
 use Rattle.regalloc2_fastalloc_proofs.proofs.Branches.ArgMovesByClass.{Stepped, class_moves_done, all_moves, all_at, all_other, all_places, all_slots}
@@ -48,7 +48,7 @@ use Rattle.regalloc2_fastalloc_proofs.proofs.Branches.EdgeArgsGathered.{passes_a
 use Rattle.regalloc2_fastalloc_proofs.proofs.BlockEnd.BranchAlone.{IsHeldHere, IsUseMove, Branched, branch_moves_uses_only, no_move_added_to, none_below}
 use Rattle.regalloc2_fastalloc_proofs.proofs.BlockEnd.BranchEndsBlock.{LastBranch, ToCome, to_come-back, reads_own, own_moves}
 use Rattle.regalloc2_fastalloc_proofs.proofs.Branches.ArgMovesEffect.{ArgMoves, names_at, relied_kept, passed_moved}
-use Rattle.regalloc2_fastalloc_proofs.proofs.Branches.BranchInParts.{settled_carries, Parted, branch_in_parts}
+use Rattle.regalloc2_fastalloc_proofs.proofs.Branches.BranchInParts.{carries_after_spills, Parted, branch_in_parts}
 use Rattle.regalloc2_fastalloc_proofs.proofs.Inst.ProperInsts.{ProperCode}
 use Rattle.regalloc2_fastalloc_proofs.proofs.Changes.InstChanges.{allocs_inst_changes, any_operand}
 
@@ -100,9 +100,10 @@ param_cases f b v (suc k) = elim (param_cases f b v k) [
   ]
 ]
 
--- A branch at the end of the block b, in a function with the places of its operands. F: the slots at the walk's end, in which the branch's definitions are
--- placed accordingly; old, middle and new: the tables after it, before its arguments are passed, and once they are. It neither defines nor
--- reads the parameters of the block's successors, which are known, of the classes of their arguments.
+-- A branch at the end of the block b, in a function with the places of its operands. F: the slots at the walk's end, in
+-- which the branch's definitions are placed accordingly; old, middle and new: the tables after it, before its arguments
+-- are passed, and once they are. It neither defines nor reads the parameters of the block's successors, which are
+-- known, of the classes of their arguments.
 pub record BlockBranch : Type 1 where
   pub code : ProperCode
   open code use {Known, f, placesf}
@@ -195,7 +196,7 @@ module _ (branch : BlockBranch) where
   slots_same : (x : ℕ) → slots_at new x ≡ slots_at p.gathered x
   slots_same x = ap (λ l. opt (slice_index_or l x NoPlace)) same_slots
 
-  stands_same : (x : ℕ) → stands_at new x ≡ stands_at p.gathered x
+  stands_same : (x : ℕ) → location_at new x ≡ location_at p.gathered x
   stands_same x = ap (λ (y : VRegAllocsValue). opt (alloc_of y x)) same_places
 
   -- the slots that are made after each of the tables
@@ -263,7 +264,7 @@ module _ (branch : BlockBranch) where
   slot_untouched e w edge known named n mine =
       let P : (ℕ × MoveValue) → Type 0 = λ d. IsUseMove last (inst_at f last).operands here d ⊎ IsReload (before last) d in
       let pushes : AppendsEdits P old.edits p.gathered.edits =
-      pushes_then P old.edits middle.edits p.gathered.edits (pushes_weaken (IsUseMove last (inst_at f last).operands here) P old.edits middle.edits
+      appends_edits_trans P old.edits middle.edits p.gathered.edits (pushes_weaken (IsUseMove last (inst_at f last).operands here) P old.edits middle.edits
       (λ d x. inl x) br.pushes)
       (pushes_weaken (IsReload (before last)) P middle.edits p.gathered.edits (λ d x. inr x)
       (changes_push (IsReload (before last)) (gathers_moves_changes (λ q r. (refl, (r, refl))) (any_passed (IsReload (before last)) f b) p.gathers))) in
@@ -305,7 +306,7 @@ module _ (branch : BlockBranch) where
       place_in old v.number ≢ NoPlace) where
     -- the places that must hold v
     abbrev On : StateValue → Place → Type 0
-    On t = Relied false block (stands_at t v.number) (slots_at t v.number) (F v.number)
+    On t = Relied false block (location_at t v.number) (slots_at t v.number) (F v.number)
 
     abbrev Own : Place → Type 0
     Own = OwedOwn f F b v
@@ -313,21 +314,21 @@ module _ (branch : BlockBranch) where
     -- the listing with the reloads
     reloaded : Carries v L (On p.gathered) Own
     reloaded =
-        settled_carries (inst_at f) placesf last v block (F v.number) (λ r e. let n = come.only v.number (InRegister r) e in
+        carries_after_spills (inst_at f) placesf last v block (F v.number) (λ r e. let n = come.only v.number (InRegister r) e in
         let x : InRegister r ≡ InSlot n.0 = n.1 in cc) Own p.gathers by_itself.between
         br.scratch_reserve
         (own_moves at_end come_middle v known
         free block Own (λ q o. o.2)
-        (λ yes_block q o. elim (owed_there f F b v block old (stays_old v.number) in_slot_or_nowhere writes_it lives q o).1 [
-          | inl at ↦ by_settled in_slot_or_nowhere q at
+        (λ yes_block q o. elim (owed_is_relied f F b v block old (stays_old v.number) in_slot_or_nowhere writes_it lives q o).1 [
+          | inl at ↦ slot_of_location in_slot_or_nowhere q at
           | inr (inl at) ↦ at
           | inr (inr at) ↦ (let x : block ≡ false = at.0 in cc)
         ]))
       where
-        by_settled : (place_in old v.number ≡ NoPlace) ⊎ ((k : ℕ) × (place_in old v.number ≡ InSlot k) × (slot_in old v.number ≡ InSlot k)) → (q : Place) →
-            stands_at old v.number ≡ Some q → slots_at old v.number ≡ Some q
-        by_settled (inl none) q at = (let x : None ≡ Some q = ap opt (sym none) ∙ at in absurd cc)
-        by_settled (inr k) q at = ap opt k.2 ∙ ap opt (sym k.1) ∙ at
+        slot_of_location : (place_in old v.number ≡ NoPlace) ⊎ ((k : ℕ) × (place_in old v.number ≡ InSlot k) × (slot_in old v.number ≡ InSlot k)) → (q : Place) →
+            location_at old v.number ≡ Some q → slots_at old v.number ≡ Some q
+        slot_of_location (inl none) q at = (let x : None ≡ Some q = ap opt (sym none) ∙ at in absurd cc)
+        slot_of_location (inr k) q at = ap opt k.2 ∙ ap opt (sym k.1) ∙ at
 
     abbrev Slot : Place → Type 0
     Slot q = slots_at p.gathered v.number ≡ Some q
@@ -376,7 +377,7 @@ module _ (branch : BlockBranch) where
 
     -- what the branch carries
     pub branch_carries : Carries v (walked (inst_at f) (at_point (listed new.edits)) placesf last 1)
-        (Relied (defined_from f v.number last 1) block (stands_at new v.number) (slots_at new v.number) (F v.number)) (StandsAfter f (λ u. F u.number) b v)
+        (Relied (defined_from f v.number last 1) block (location_at new v.number) (slots_at new v.number) (F v.number)) (StandsAfter f (λ u. F u.number) b v)
     branch_carries =
         let all : Carries v (with_moves moves L) (On new) (StandsAfter f (λ u. F u.number) b v) = elim (param_cases f b v edges) [
           | inl free ↦ carries_weaken v (with_moves moves L) (λ q. On p.gathered q ⊎ Slot q) (On new) (StandsAfter f (λ u. F u.number) b v)
@@ -387,5 +388,5 @@ module _ (branch : BlockBranch) where
               (λ q h. elim h [ inl x ↦ absurd x | inr x ↦ slot_on q x ]) (λ q h. h) (carries_param at.0 at.1 at.2)
         ] in
         subst (λ d. Carries v (walked (inst_at f) (at_point (listed new.edits)) placesf last 1)
-        (Relied d block (stands_at new v.number) (slots_at new v.number) (F v.number)) (StandsAfter f (λ u. F u.number) b v)) (sym undefined_last)
+        (Relied d block (location_at new v.number) (slots_at new v.number) (F v.number)) (StandsAfter f (λ u. F u.number) b v)) (sym undefined_last)
         (subst (λ l. Carries v l (On new) (StandsAfter f (λ u. F u.number) b v)) (sym listed_moves) all)

@@ -31,7 +31,7 @@ use Rattle.regalloc2_fastalloc_proofs.specs.InstSteps.{StateValue, ends_block}
 use Rattle.regalloc2_fastalloc_proofs.specs.BranchSteps.{IsOwnDef}
 use Rattle.regalloc2_fastalloc_proofs.specs.StoreSteps.{branch_operands}
 use Rattle.regalloc2_fastalloc_proofs.proofs.Safety.StepsKeepState.{slot_in}
-use Rattle.regalloc2_fastalloc_proofs.proofs.Operands.RecordOverState.{stands_at, slots_at, opt_real}
+use Rattle.regalloc2_fastalloc_proofs.proofs.Operands.RecordOverState.{location_at, slots_at, opt_real}
 use Rattle.regalloc2_fastalloc_proofs.proofs.Operands.DefinedNumbers.{defined_by, defined_by-number, number_defined}
 use Rattle.regalloc2_fastalloc_proofs.proofs.Moves.StepsAppendEdits.{pushed_at}
 use Rattle.regalloc2_fastalloc_proofs.proofs.Safety.WellFormedKeepsSafe.{sound_ops_at}
@@ -46,7 +46,7 @@ use Rattle.regalloc2_fastalloc_proofs.proofs.Branches.BranchCarries.{branch_carr
 use Rattle.regalloc2_fastalloc_proofs.proofs.Branches.WellFormedBranch.{unread_parameters, argument_classes}
 use Rattle.regalloc2_fastalloc_proofs.proofs.Walk.InstBoundaries.{grown_pushes}
 use Rattle.regalloc2_fastalloc_proofs.proofs.Walk.InstsBeforeLastCarry.{defined_from}
-use Rattle.regalloc2_fastalloc_proofs.proofs.Walk.DefsBeforeUses.{used_made, used_somewhere}
+use Rattle.regalloc2_fastalloc_proofs.proofs.Walk.DefsBeforeUses.{used_made, used_in_some_block}
 use Rattle.regalloc2_fastalloc_proofs.proofs.Walk.BlockCarries.{BlockEnd, EndCarries, BranchCarries, IsPassedOnly, writes_in}
 use Rattle.regalloc2_fastalloc_proofs.proofs.Inst.ProperInsts.{all_proper, proper_of}
 use Rattle.regalloc2_fastalloc_proofs.proofs.Slots.StepsKeepSlots.{changes_grow, Grown}
@@ -197,10 +197,10 @@ module _ (env : MachineValue) (f : FunctionValue) (limited : IsLimited f) (ok : 
         L = walked (inst_at f) (at_point (listed new.edits)) placesf last 1
 
         abbrev On : Place → Type 0
-        On = Relied (defined_from f v.number last 1) (writes_in f b last v.number) (stands_at new v.number) (slots_at new v.number) (slots_at final v.number)
+        On = Relied (defined_from f v.number last 1) (writes_in f b last v.number) (location_at new v.number) (slots_at new v.number) (slots_at final v.number)
 
         made : Made f v
-        made = (let there = used_somewhere f v used in used_made f ok.defined_once ok.follow ok.uses_defined v there.0 there.1 there.2)
+        made = (let there = used_in_some_block f v used in used_made f ok.defined_once ok.follow ok.uses_defined v there.0 there.1 there.2)
 
         -- the branch carries what it defines
         own_carries : (j : ℕ) → DefinesNumber (branch_operands f b) v.number j → Carries v L On (GoesOut f stand b v)

@@ -19,7 +19,7 @@ use Rattle.regalloc2_fastalloc_proofs.specs.BranchSteps.{GathersMoves, no_edge, 
 use Rattle.regalloc2_fastalloc_proofs.proofs.Operands.RecordOverState.{opt, opt_some, slots_at, changes_slots}
 use Rattle.regalloc2_fastalloc_proofs.proofs.Changes.OneChange.{slot_given, changed, in_order}
 use Rattle.regalloc2_fastalloc_proofs.proofs.Changes.WalkChanges.{spills_argument_changes, gathers_edge_moves_changes}
-use Rattle.regalloc2_fastalloc_proofs.proofs.Branches.ArgsSpilled.{Comes, comes_all, comes_then, Stage, gets_spillslot_stage, argument_spilled}
+use Rattle.regalloc2_fastalloc_proofs.proofs.Branches.ArgsSpilled.{Comes, comes_refl, comes_trans, Stage, gets_spillslot_stage, argument_spilled}
 use Rattle.regalloc2_fastalloc_proofs.proofs.Operands.BlockTail.{BlockTail}
 
 contains_cases : {X : Type 0} → (x y : X) (xs : List X) → Contains (x ∷ xs) y → (x ≡ y) ⊎ Contains xs y
@@ -99,7 +99,8 @@ passes_at (p ∷ ps) (x ∷ xs) v a (inr h) = (0, omega arith, h.0, h.1)
 abbrev pub argument_at : List VirtualRegister → ℕ → VirtualRegister
 argument_at xs j = slice_index_or xs j no_vreg
 
--- a gathered move goes from the slot of the edge's argument j to that of its parameter j, and is of the argument's class
+-- a gathered move goes from the slot of the edge's argument j to that of its parameter j, and is of the argument's
+-- class
 abbrev pub IsArgued : List VirtualRegister → List VirtualRegister → ℕ → StateValue → ClassMove → Type 0
 IsArgued params arguments j t g =
     (j < length params) × (g.class ≡ (argument_at arguments j).class) × (slots_at t (argument_at arguments j).number ≡ Some g.from)
@@ -126,7 +127,8 @@ module _ (tail : BlockTail) (item : Item) (X : Place → ℕ → Bool) (clear : 
     pub origin : (g : ClassMove) → Contains given g → Contains before_it g ⊎ ((j : ℕ) × IsArgued params arguments j new g)
     pub all : (j : ℕ) → j < k → (Own (argument_at arguments j) → ⊥) → (g : ClassMove) × Contains given g × IsArgued params arguments j new g
 
-  -- gathering the first k arguments of an edge keeps the state at the branch, and its moves go from the arguments' slots to the parameters'
+  -- gathering the first k arguments of an edge keeps the state at the branch, and its moves go from the arguments'
+  -- slots to the parameters'
   pub gathers_edge_moves_done : {Own : VirtualRegister → Type 0} (params arguments : List VirtualRegister) (t : InstRegs) (old : StateValue)
       (before_it : List ClassMove) →
       Stage tail item X clear t old
@@ -134,29 +136,29 @@ module _ (tail : BlockTail) (item : Item) (X : Place → ℕ → Bool) (clear : 
       EdgeDone Own params arguments before_it k t u old new given
   gathers_edge_moves_done params arguments t old before_it h k u new given none_gathered = record {
     stage = h;
-    comes = comes_all t old;
+    comes = comes_refl t old;
     kept = λ g has. has;
     origin = λ g has. inl has;
     all = λ j lt not_own. absurd (omega arith);
   }
   gathers_edge_moves_done params arguments t old before_it h k w o given (one_gathered j had to from u x m p q lt prev gives places edits machine order
-      settles foreign) =
+      sets_alloc foreign) =
       let a = gathers_edge_moves_done params arguments t old before_it h j u m had prev in
       let g = gets_spillslot_stage tail item X clear (argument_at params j) to u m p gives places edits machine a.stage in
-      let s = argument_spilled tail item X clear (argument_at arguments j) from u w p o settles g.0 in
+      let s = argument_spilled tail item X clear (argument_at arguments j) from u w p o sets_alloc g.0 in
       let slots : (x : ℕ) (r : Place) → slots_at m x ≡ Some r → slots_at o x ≡ Some r = changes_slots (in_order p
-      (changed (slot_given (argument_at params j) to tt gives places edits machine)) (spills_argument_changes (λ q b. tt) tt tt settles)) in
+      (changed (slot_given (argument_at params j) to tt gives places edits machine)) (spills_argument_changes (λ q b. tt) tt tt sets_alloc)) in
       let one : ClassMove = record { class = (argument_at arguments j).class; from = from; to = to } in
       let is : IsArgued params arguments j o one = (
         lt,
         refl,
         s.slot,
-        changes_slots (spills_argument_changes (λ q b. tt) tt tt settles) (argument_at params j).number to
+        changes_slots (spills_argument_changes (λ q b. tt) tt tt sets_alloc) (argument_at params j).number to
             (ap opt gives.gives ∙ opt_some to gives.there),
       ) in
       record {
         stage = s.stage;
-        comes = comes_then t u w old m o a.comes (comes_then u u w m p o g.1 s.comes);
+        comes = comes_trans t u w old m o a.comes (comes_trans u u w m p o g.1 s.comes);
         kept = λ d has. Contains-append_left had (one ∷ []) d (a.kept d has);
         origin = λ d has. elim (Contains-append_cases had (one ∷ []) d has) [
           | inl before ↦ elim (a.origin d before) [
@@ -198,13 +200,14 @@ module _ (tail : BlockTail) (item : Item) (X : Place → ℕ → Bool) (clear : 
     pub all : (e j : ℕ) → e < k → j < length (params_on f b e) → (IsOwnDef f b (argument_at (arguments_at f b e) j) → ⊥) → (g : ClassMove) × Contains given g
         × IsArgued (params_on f b e) (arguments_at f b e) j new g
 
-  -- gathering the arguments of the first k edges keeps the state at the branch, and gives the moves of all their arguments
+  -- gathering the arguments of the first k edges keeps the state at the branch, and gives the moves of all their
+  -- arguments
   pub arguments_gathered : (f : FunctionValue) (b : ℕ) (t : InstRegs) (old : StateValue) → Stage tail item X clear t old
       → (k : ℕ) (u : InstRegs) (new : StateValue) (given : List ClassMove) → GathersMoves f b (before i) t old k u new given
       → MovesByClass f b k t u old new given
   arguments_gathered f b t old h k u new given no_edge = record {
     stage = h;
-    comes = comes_all t old;
+    comes = comes_refl t old;
     origin = λ g has. absurd (let lt : has.0 < 0 = has.1 in omega (arith, lt));
     all = λ e j lt less not_own. absurd (omega arith);
   }
@@ -215,7 +218,7 @@ module _ (tail : BlockTail) (item : Item) (X : Place → ℕ → Bool) (clear : 
       changes_slots (gathers_edge_moves_changes (λ q r. tt) (λ j less. record { target = tt; source = tt; spills = tt }) edge) in
       record {
         stage = g.stage;
-        comes = comes_then t x u old m new a.comes g.comes;
+        comes = comes_trans t x u old m new a.comes g.comes;
         origin = λ y has. elim (g.origin y has) [
           | inl before ↦ (let z = a.origin y before in (
             z.0,

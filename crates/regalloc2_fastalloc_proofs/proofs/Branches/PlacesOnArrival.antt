@@ -1,5 +1,6 @@
--- Each vreg's location at a block's start, as a function of block and vreg: what the branch into the block defines, and the parameters it is passed to, in
--- the operand's place; a vreg that only its own branch passes nowhere; every other vreg in its slot.
+-- Each vreg's location at a block's start, as a function of block and vreg: what the branch into the block defines, and
+-- the parameters it is passed to, in the operand's place; a vreg that only its own branch passes nowhere; every other
+-- vreg in its slot.
 use Rattle.std.proofs.Common.{ℕ, ◌≡◌, ◌<◌, ◌⊎◌, inl, inr, true, List, [], length, refl, sym, ap, ◌∙◌, subst, arith}
 use Rattle.std.specs.Prelude.{Option, None, Some, slice_index_or}
 use Rattle.std.proofs.lemmas.Bool.{cases_eq, cases_lt}

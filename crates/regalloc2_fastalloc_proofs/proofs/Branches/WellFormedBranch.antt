@@ -22,8 +22,8 @@ few_or_more (suc (suc n)) = inr (omega arith)
 unread_none : (ops : List OperandValue) (v : VirtualRegister) → ops ≡ [] → ReadsOthersOnly ops v
 unread_none ops v none j lt reads is = (let n : length ops ≡ 0 = ap length none in omega (arith, lt, n))
 
--- the last instruction of a block doesn't read the parameters of its successors: the branches into a block with several edges have no operands and
--- the parameters of other successors are silent in the block
+-- the last instruction of a block doesn't read the parameters of its successors: the branches into a block with several
+-- edges have no operands and the parameters of other successors are silent in the block
 pub unread_parameters : (f : FunctionValue) (b last : ℕ) → EachBlock f (PredecessorsAt f) → EachBlock f (NoOperandsAt f) → ExcusedAreSilent f b → b < length f.blocks →
     ((e : ℕ) → HasEdge f b e → target_at f b e < length f.blocks)
     → (block_at f b).range.first ≤ last → last + 1 ≡ (block_at f b).range.end → (e : ℕ) (w : VirtualRegister) → HasEdge f b e →

@@ -72,7 +72,8 @@ module _ (env : MachineValue) (f : FunctionValue) (ok : IsWellFormed env f) (b :
       let same = one_param f ok.defined_once n t u i j one two in
       (one_edge_each k l x y same.0, same.1)
 
-  -- in a well-formed function each branch may pass its arguments: edges lead to blocks, with as many arguments as parameters
+  -- in a well-formed function each branch may pass its arguments: edges lead to blocks, with as many arguments as
+  -- parameters
   pub may_pass : (t : StateValue) → DefinesBelow f (length t.places.vreg_allocs) → MayBranch f b t
   may_pass t below = record {
     targets = λ k edge. sound.targets b k edge;

@@ -74,7 +74,8 @@ module _ (walk : WholeWalk) (m : IsOutputOfWalk walk.f walk.env (Made walk.f) (M
   by_proper written v (by_definition o never d) none = operand_proper v o d.inst d.index
       (((all_proper env f limited ok).orderly o.inst d.inst).allocated o.index d.index d.definition) d.vreg
 
-  -- if each read is definitely assigned (`IsWrittenFirst`), the place that a debugger is shown for a vreg is valid for its class
+  -- if each read is definitely assigned (`IsWrittenFirst`), the place that a debugger is shown for a vreg is valid for
+  -- its class
   pub place_proper : IsWrittenFirst f → (v : VirtualRegister) {by : Option InstOperand} → IsShownBy f v by →
       IsProperPlace env out v.class (shown_place out (slot_name last.slots v.number) by)
   place_proper written v {by} is = by_slot (slot_name last.slots v.number) refl (m.kept.safe.slots v.number)

@@ -1,5 +1,6 @@
 -- An instruction that defines a vreg leaves what it writes in its slot, once the moves after it have run.
--- The fold in `Changes` of regalloc2_fastalloc_proofs doesn't apply: an operand's place is passed from its selection to the steps that follow.
+-- The fold in `Changes` of regalloc2_fastalloc_proofs doesn't apply: an operand's place is passed from its selection to
+-- the steps that follow.
 use Rattle.std.proofs.Common.{ℕ, ◌≡◌, ◌≢◌, ◌+◌, ◌<◌, ◌≤◌, inl, inr, Bool, true, false, List, length, refl, sym, ap, ◌∙◌, subst, arith}
 use Rattle.std.specs.Prelude.{slice_index_or, slice_set}
 use Rattle.std.proofs.lemmas.Bool.{cases_eq}
@@ -24,11 +25,11 @@ use Rattle.regalloc2_fastalloc_proofs.specs.InstSteps.{StateValue, FreesAlloc, P
 use Rattle.regalloc2_fastalloc_proofs.specs.InstSteps.{none_placed, of_other, one_placed}
 use Rattle.regalloc2_fastalloc_proofs.specs.Safety.{IsWhole}
 use Rattle.regalloc2_fastalloc_proofs.proofs.Safety.StepsKeepState.{place_in, slot_in}
-use Rattle.regalloc2_fastalloc_proofs.proofs.Operands.RecordOverState.{stands_at, slots_at, opt_none}
+use Rattle.regalloc2_fastalloc_proofs.proofs.Operands.RecordOverState.{location_at, slots_at, opt_none}
 use Rattle.regalloc2_fastalloc_proofs.proofs.Operands.RecordOfInst.{Orderly, Turned, LayingContext, laying_of}
 use Rattle.regalloc2_fastalloc_proofs.proofs.Operands.UsesAndPlainDefs.{laid_pass}
 use Rattle.regalloc2_fastalloc_proofs.proofs.Operands.AllOperands.{LaidAt, laid_one_more, laid_all}
-use Rattle.regalloc2_fastalloc_proofs.proofs.Moves.StepsAppendEdits.{AppendsEdits, none_pushed, pushes_then}
+use Rattle.regalloc2_fastalloc_proofs.proofs.Moves.StepsAppendEdits.{AppendsEdits, none_pushed, appends_edits_trans}
 use Rattle.regalloc2_fastalloc_proofs.proofs.Slots.StepsKeepSlots.{Grown, grown_then, changes_grow, AnyPlace}
 use Rattle.regalloc2_fastalloc_proofs.proofs.Changes.InstChanges.{free_operand, adds_move_if_changes, processes_operand_changes, frees_alloc_changes}
 use Rattle.regalloc2_fastalloc_proofs.specs.Located.{Absent}
@@ -37,9 +38,9 @@ use Rattle.regalloc2_fastalloc_proofs.proofs.Debug.DefStoresIntoSlot.{Off, alloc
 use Rattle.regalloc2_fastalloc_proofs.proofs.Debug.DefStoresIntoSlot.{frees_alloc_into, off_none, moves_of}
 use Rattle.regalloc2_fastalloc_proofs.proofs.Operands.BlockTail.{tail_of}
 
--- A definition of an instruction that doesn't end its block, and its vreg's slot: the known vregs; the instructions and the places of their
--- operands; the instruction i; its operands, which are orderly, with the numbers that had a location and the clobbered places; the
--- operand d; and the slot's number n.
+-- A definition of an instruction that doesn't end its block, and its vreg's slot: the known vregs; the instructions and
+-- the places of their operands; the instruction i; its operands, which are orderly, with the numbers that had a
+-- location and the clobbered places; the operand d; and the slot's number n.
 pub record DefSlot : Type 1 where
   pub Known : VirtualRegister → Type 0
   pub insts : ℕ → InstValue
@@ -126,9 +127,9 @@ module _ (def_slot : DefSlot) where
     written = L.written;
   }
     where
-      claims : Claims Known (after_part insts (listed t.edits) placesf i 0) (Need lived L.out L.X (stands_at t) (slots_at t)) Into
+      claims : Claims Known (after_part insts (listed t.edits) placesf i 0) (Need lived L.out L.X (location_at t) (slots_at t)) Into
       claims u known =
-          let N : Place → Type 0 = Need lived L.out L.X (stands_at t) (slots_at t) u.number in
+          let N : Place → Type 0 = Need lived L.out L.X (location_at t) (slots_at t) u.number in
           carries_moves u (moves t) (walked insts (at_point (listed t.edits)) placesf (i + 1) 0) (Into u) N (Into u)
           (λ m c holds p h.
           let mine : N (L.here d) = made (ap (λ (w : VirtualRegister). L.X (L.here d) w.number) h.0 ∙ L.written d done def) in
@@ -154,15 +155,15 @@ module _ (def_slot : DefSlot) where
     processes_operand_off k here there t u old new ne lt (a_register r silent is at eu en) h g =
         subst (λ (y : StateValue). AppendsEdits (Off s slotted) old.edits y.edits) (sym en) none_pushed
     processes_operand_off k here there t u old new ne lt (a_use p reads y at) h g =
-        pushes_then (Off s slotted) old.edits y.middle.edits new.edits (allocs_operand_off s slotted (after i) _ p t u old y.middle y.gets)
+        appends_edits_trans (Off s slotted) old.edits y.middle.edits new.edits (allocs_operand_off s slotted (after i) _ p t u old y.middle y.gets)
         (locates_use_off s slotted (after i) _ p y.middle new y.uses)
     processes_operand_off k here there t u old new ne lt (a_def p is_def_k free y at) h g =
-        pushes_then (Off s slotted) old.edits y.middle.edits new.edits (allocs_operand_off s slotted (after i) _ p t y.inst_regs old y.middle y.gets)
+        appends_edits_trans (Off s slotted) old.edits y.middle.edits new.edits (allocs_operand_off s slotted (after i) _ p t y.inst_regs old y.middle y.gets)
         (another_off (op_at ops k).vreg p y.inst_regs u y.middle new y.defines (ne (lt, inl is_def_k))
         (allocs_operand_whole (after i) _ p t y.inst_regs old y.middle y.gets h)
         (grown_then AnyPlace y.middle new final (changes_grow AnyPlace (frees_alloc_changes (λ q s. tt) (λ q. tt) (λ q. tt) tt y.defines)) g))
     processes_operand_off k here there t u old new ne lt (a_reuse m p is_def_k reuses y at) h g =
-        pushes_then (Off s slotted) old.edits y.middle.edits new.edits (allocs_operand_off s slotted (after i) _ p t y.inst_regs old y.middle y.gets)
+        appends_edits_trans (Off s slotted) old.edits y.middle.edits new.edits (allocs_operand_off s slotted (after i) _ p t y.inst_regs old y.middle y.gets)
         (another_off (op_at ops k).vreg p y.inst_regs u y.middle new y.defines (ne (lt, inl is_def_k))
         (allocs_operand_whole (after i) _ p t y.inst_regs old y.middle y.gets h)
         (grown_then AnyPlace y.middle new final (changes_grow AnyPlace (frees_alloc_changes (λ q s. tt) (λ q. tt) (λ q. tt) tt y.defines)) g))
@@ -223,7 +224,7 @@ module _ (def_slot : DefSlot) where
         let at : Bare late j there w z = laid_all asks_nowhere late here t old j there w z prev
         (omega (arith, le)) L in
         let ne : j ≢ d = λ e. out (omega (arith, e)) (ap (λ (a : ℕ). is_late (op_at ops a).position) (sym e) ∙ inst_regs) in
-        pushes_then (Off s slotted) old.edits z.edits m.edits
+        appends_edits_trans (Off s slotted) old.edits z.edits m.edits
         (before_off prev (omega (arith, le)) (λ lt e. out (omega (arith, lt)) e) L grows)
         (processes_operand_off j there list w u z m (other_number j ne) (omega (arith, le)) one at.ready.located.whole g)
 

@@ -17,13 +17,13 @@ use Rattle.regalloc2_carry.proofs.UnwrittenPlaces.{NoMoveTo}
 use Rattle.regalloc2_fastalloc_state.specs.declared.inst_regs.InstRegs.{InstRegs}
 use Rattle.regalloc2_fastalloc_proofs.specs.InstSteps.{StateValue, AllocsInst, ends_block}
 use Rattle.regalloc2_fastalloc_proofs.proofs.Safety.StepsKeepState.{place_in, slot_in}
-use Rattle.regalloc2_fastalloc_proofs.proofs.Operands.RecordOverState.{stands_at, slots_at, opt_none}
+use Rattle.regalloc2_fastalloc_proofs.proofs.Operands.RecordOverState.{location_at, slots_at, opt_none}
 use Rattle.regalloc2_fastalloc_proofs.proofs.Inst.AcrossInst.{lives_in}
 use Rattle.regalloc2_fastalloc_proofs.proofs.Inst.BoundaryToFirstOperand.{CarriedBut, ready_for_operands}
 use Rattle.regalloc2_fastalloc_proofs.proofs.Inst.LastOperandToBoundary.{listing_carries}
 use Rattle.regalloc2_fastalloc_proofs.proofs.Operands.DefinedNumbers.{defined_by, defined_by-at}
 use Rattle.regalloc2_fastalloc_proofs.proofs.Operands.AllOperands.{laid_all, laid_over}
-use Rattle.regalloc2_fastalloc_proofs.proofs.Moves.StepsAppendEdits.{pushes_then}
+use Rattle.regalloc2_fastalloc_proofs.proofs.Moves.StepsAppendEdits.{appends_edits_trans}
 use Rattle.regalloc2_fastalloc_proofs.proofs.Slots.StepsKeepSlots.{Grown, grown_then, changes_grow, AnyPlace}
 use Rattle.regalloc2_fastalloc_proofs.proofs.Changes.InstChanges.{free_operand, processes_operands_at_changes, moves_uses_changes}
 use Rattle.regalloc2_fastalloc_proofs.proofs.Inst.OneInstCarries.{IsBetweenInsts, CarriesByItself, carries_by_itself, carried_nil, Needed}
@@ -108,7 +108,7 @@ module _ (code : ProperCode) where
 
     none_begun : NoMoveTo (InSlot n) (at_point (listed a.after_clobbers.edits) (after i))
     none_begun = off_none (InSlot n) in_slots (after i) old.edits a.after_clobbers.edits
-        (pushes_then (Off (InSlot n) in_slots) old.edits a.prepares.middle.edits a.after_clobbers.edits
+        (appends_edits_trans (Off (InSlot n) in_slots) old.edits a.prepares.middle.edits a.after_clobbers.edits
         (evicts_fixed_off (InSlot n) in_slots (after i) ops a.prepares.held old (length ops) a.prepares.cleared a.prepares.middle a.prepares.fixed)
         (evicts_each_off (InSlot n) in_slots (after i) (registers_of (inst_at f i).clobbers) a.prepares.cleared a.prepares.middle a.quiet a.after_clobbers
         a.prepares.emptied)) none_old
@@ -174,12 +174,12 @@ module _ (code : ProperCode) where
     stores =
         let E : VirtualRegister → Place → Type 0 = Into def_slot in
         let is : defined_by ops v.number ≡ true = defined_by-at ops d within def in
-        let nowhere : stands_at new v.number ≡ None = by_itself.ends.gone v.number is in
+        let nowhere : location_at new v.number ≡ None = by_itself.ends.gone v.number is in
         let c : CarriedBut Known (inst_at f) placesf E (defined_by ops) i 1 new =
         listing_carries (tail_of Known (inst_at f) placesf i 0 E) (lives_in old) (ends_block (inst_at f i)) here a.early a.ended a.after_early new (orderly i lt)
         (knows i lt) at all_placed a.moves in
         carries_weaken v (walked (inst_at f) (at_point (listed new.edits)) placesf i 1)
-        (Need (lives_in new) (defined_by ops) (λ p x. false) (stands_at new) (slots_at new) v.number) (λ p. ⊥) (E v) (λ p. p ≡ InSlot n)
+        (Need (lives_in new) (defined_by ops) (λ p x. false) (location_at new) (slots_at new) v.number) (λ p. ⊥) (E v) (λ p. p ≡ InSlot n)
         (λ p y. elim y [
           | located l e ↦ (let z : None ≡ Some p = sym nowhere ∙ e in cc)
           | in_slot o e ↦ (let z : true ≡ false = sym is ∙ o in cc)

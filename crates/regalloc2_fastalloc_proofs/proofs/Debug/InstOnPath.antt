@@ -11,7 +11,7 @@ use Rattle.regalloc2_carry.specs.Carry.{Carries, CarriesFrom}
 use Rattle.regalloc2_carry.specs.BlockByPoints.{at_point, walked, Rising}
 use Rattle.regalloc2_carry.proofs.CarryRules.{after_their_moves}
 use Rattle.regalloc2_carry.proofs.Points.{moves_before-first, moves_before-later}
-use Rattle.regalloc2_carry.proofs.StoresInFront.{after_both}
+use Rattle.regalloc2_carry.proofs.StoresInFront.{after_append}
 
 module _ (f : FunctionValue) (out : OutputValue) (rising : Rising out.edits) where
   abbrev pub moves_on : ℕ → List MoveValue
@@ -35,7 +35,7 @@ module _ (f : FunctionValue) (out : OutputValue) (rising : Rising out.edits) whe
   onward_front ws le = front (
       ap (λ ms. after_moves ms (cells_before f out (Onward ∷ ws))) (moves_before-later out (block_at f (end_of f ws).block).range.first (end_of f ws).inst le
       rising)
-      ∙ after_both (moves_on (after (end_of f ws).inst)) (moves_on (before ((end_of f ws).inst + 1))) (cells_before f out (Onward ∷ ws)))
+      ∙ after_append (moves_on (after (end_of f ws).inst)) (moves_on (before ((end_of f ws).inst + 1))) (cells_before f out (Onward ∷ ws)))
 
   -- what the listing of the instruction carries
   pub carried_on : (v : VirtualRegister) (P E : Place → Type 0) (ws : List Way) (c : Cells) →

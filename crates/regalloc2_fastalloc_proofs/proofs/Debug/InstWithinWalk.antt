@@ -1,4 +1,5 @@
--- One instruction of the walk, with the tables after and before it; a number that it defines has the same slot from there to the walk's end.
+-- One instruction of the walk, with the tables after and before it; a number that it defines has the same slot from
+-- there to the walk's end.
 -- The fold in `Changes` of regalloc2_fastalloc_proofs doesn't apply: what holds depends on how far the walk is.
 use Rattle.std.proofs.Common.{ℕ, ◌≡◌, ◌≢◌, ◌+◌, ◌<◌, ◌≤◌, ◌⊎◌, inl, inr, List, length, refl, ap, ◌∙◌, subst, arith}
 use Rattle.std.specs.Prelude.{slice_index_or}

@@ -15,7 +15,7 @@ use Rattle.regalloc2_fastalloc_proofs.specs.Located.{Absent, LocatedAreUsed}
 use Rattle.regalloc2_fastalloc_proofs.specs.BlockSteps.{AllocsInstInBlock, AllocsBlockInsts, at_end, one_in, BeginsBlock}
 use Rattle.regalloc2_fastalloc_proofs.proofs.Safety.InitialState.{begun_empty}
 use Rattle.regalloc2_fastalloc_proofs.proofs.Safety.StateKept.{ends_in_branch}
-use Rattle.regalloc2_fastalloc_proofs.proofs.Safety.StepsKeepSafe.{settled_holder}
+use Rattle.regalloc2_fastalloc_proofs.proofs.Safety.StepsKeepSafe.{holder_after_set_alloc}
 use Rattle.regalloc2_fastalloc_proofs.proofs.Changes.OneChange.{Act, slot_for, spill_of, end_of, start_of, move, Change, evicted, slot_given, spilled}
 use Rattle.regalloc2_fastalloc_proofs.proofs.Changes.OneChange.{param_left, def_left, use_located, edits_pushed, temps_added, registers_used, Changes}
 use Rattle.regalloc2_fastalloc_proofs.proofs.Changes.OneChange.{changed, changes_keep}
@@ -39,21 +39,21 @@ module _ (x : ℕ) where
       | inl e ↦ ap (alloc_of new.places) e ∙ z.here
       | inr ne ↦ z.others x ne ∙ a.nowhere
     ];
-    unheld = λ r w small held. elim (settled_holder old.places new.places v w NoPlace r small z held) [
+    unheld = λ r w small held. elim (holder_after_set_alloc old.places new.places v w NoPlace r small z held) [
       | inl y ↦ absurd (let no : NoPlace ≡ InRegister r = y.0 in cc)
       | inr h ↦ a.unheld r w small h
     ];
   }
 
   one_stays : (old new : StateValue) → Change Elsewhere old new → Absent x old → Absent x new
-  one_stays old new (evicted r v s lt held gives settles edits machine) a = changes_absent x (changed (evicted r v s lt held gives settles edits machine)) a
+  one_stays old new (evicted r v s lt held gives sets_alloc edits machine) a = changes_absent x (changed (evicted r v s lt held gives sets_alloc edits machine)) a
   one_stays old new (slot_given v s may gives places edits machine) a = changes_absent x (changed (slot_given v s may gives places edits machine)) a
-  one_stays old new (spilled v s may away gives settles edits machine) a =
-      changes_absent x (changed (spilled v s may away gives settles edits machine)) a
-  one_stays old new (param_left v s may there gives settles edits machine) a = absent_left old new v settles a
-  one_stays old new (def_left v may settles slots edits machine) a = absent_left old new v settles a
-  one_stays old new (use_located v p may nowhere settles slots edits machine) a =
-      changes_absent x (changed (use_located v p may nowhere settles slots edits machine)) a
+  one_stays old new (spilled v s may away gives sets_alloc edits machine) a =
+      changes_absent x (changed (spilled v s may away gives sets_alloc edits machine)) a
+  one_stays old new (param_left v s may there gives sets_alloc edits machine) a = absent_left old new v sets_alloc a
+  one_stays old new (def_left v may sets_alloc slots edits machine) a = absent_left old new v sets_alloc a
+  one_stays old new (use_located v p may nowhere sets_alloc slots edits machine) a =
+      changes_absent x (changed (use_located v p may nowhere sets_alloc slots edits machine)) a
   one_stays old new (edits_pushed es all e) a = changes_absent x (changed (edits_pushed es (λ k d lt. tt) e)) a
   one_stays old new (temps_added inst_regs class given made o) a = changes_absent x (changed (temps_added inst_regs class given made o)) a
   one_stays old new (registers_used e) a = changes_absent x (changed (registers_used e)) a
@@ -70,7 +70,7 @@ module _ (x : ℕ) where
 pub none_located : (f : FunctionValue) (i n : ℕ) (watched : List Bool) (t : StateValue) → t.places ≡ no_allocs n watched → LocatedAreUsed f i t
 none_located f i n watched t e x unused =
     let empty = begun_empty t n e in
-    record { nowhere = empty.nowhere x; unheld = λ r v small held. absurd (no_some v (sym (empty.nobody r small) ∙ held)) }
+    record { nowhere = empty.nowhere x; unheld = λ r v small held. absurd (no_some v (sym (empty.none_held r small) ∙ held)) }
 
 module _ (f : FunctionValue) (follow : BlocksFollow f) (ends : EachBlock f (EndsAt f)) (counted : EachBlock f (CountedAt f)) (b : ℕ) (lt : b < length f.blocks) where
   -- an instruction more

@@ -1,5 +1,7 @@
--- A vreg with no location after an instruction that reads it is, before it, in the place of the operand that is allocated first, or has a slot.
--- The fold in `Changes` of regalloc2_fastalloc_proofs doesn't apply: an operand's place is passed from its selection to the steps that follow.
+-- A vreg with no location after an instruction that reads it is, before it, in the place of the operand that is
+-- allocated first, or has a slot.
+-- The fold in `Changes` of regalloc2_fastalloc_proofs doesn't apply: an operand's place is passed from its selection to
+-- the steps that follow.
 use Rattle.std.proofs.Common.{ℕ, ◌≡◌, ◌≢◌, ◌<◌, ◌≤◌, ◌⊎◌, inl, inr, Bool, true, false, List, length, refl, sym, ap, ◌∙◌, subst, arith}
 use Rattle.std.specs.Prelude.{slice_index_or, slice_set}
 use Rattle.std.proofs.lemmas.Bool.{cases_eq}
@@ -92,7 +94,7 @@ module _ (i : ℕ) (ends_block : Bool) (ops : List OperandValue) (orderly : Orde
       used : LocatesUse (use_request (op_at ops k) (slice_index_or here k NoPlace)).vreg p d.middle new → place_in new x ≡ p
       used (use_stays there_it en) = absurd (there_it (ap (alloc_of d.middle.places) number
           ∙ (changes_absent x (allocs_operand_changes (λ q r. tt) tt d.gets) absent).nowhere))
-      used (located none settles slots edits machine order) = ap (alloc_of new.places) (sym number) ∙ settles.here
+      used (located none sets_alloc slots edits machine order) = ap (alloc_of new.places) (sym number) ∙ sets_alloc.here
 
   -- one operand more keeps the location
   hold_one : (j : ℕ) (here there : List Place) (t u : InstRegs) (old new : StateValue) → j < length ops → ProcessesOperand i ends_block ops j here there t u old new →

@@ -1,5 +1,5 @@
--- The location of a vreg without a slot along the walk: none after its last use, and from there to its definition the place of
--- the operand that reads it last.
+-- The location of a vreg without a slot along the walk: none after its last use, and from there to its definition the
+-- place of the operand that reads it last.
 use Rattle.std.proofs.Common.{ℕ, ◌≡◌, ◌≢◌, ◌+◌, ◌<◌, ◌≤◌, inl, inr, true, List, length, sym, ◌∙◌, subst, arith}
 use Rattle.std.specs.Prelude.{slice_index_or}
 use Rattle.std.proofs.lemmas.Bool.{cases_eq}
@@ -26,7 +26,8 @@ use Rattle.regalloc2_fastalloc_proofs.proofs.Debug.LocationBeforeFirstRead.{Come
 use Rattle.regalloc2_fastalloc_proofs.proofs.Walk.FunctionLaws.{PlacedCode}
 use Rattle.regalloc2_fastalloc_proofs.proofs.Changes.WalkChanges.{allocs_inst_in_block_changes, any_inst}
 
--- x is defined at the instruction id, used last at il, where its operand ko reads it and is placed first, and has no slot at the walk's end
+-- x is defined at the instruction id, used last at il, where its operand ko reads it and is placed first, and has no
+-- slot at the walk's end
 pub record IsUnslotted (f : FunctionValue) (placesf : ℕ → List Place) (final : StateValue) (x id il ko : ℕ) : Type 0 where
   pub within : ko < length (inst_at f il).operands
   pub reads : is_reading (op_at (inst_at f il).operands ko) ≡ true

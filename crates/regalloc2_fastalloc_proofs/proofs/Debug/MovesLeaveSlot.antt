@@ -19,8 +19,8 @@ use Rattle.regalloc2_fastalloc_proofs.specs.Debug.SlotHoldsValue.{ReadsInPlace, 
 use Rattle.regalloc2_fastalloc_proofs.specs.Debug.SlotWrites.{MayWrite, after_definition, before_read, before_branch, at_begin, IsSlotOfValue}
 
 -- the points that are listed before an instruction
-listed_where : (first i q : ℕ) → is_listed_at first i q ≡ true → (q ≡ before i) ⊎ ((first < i) × (q + 1 ≡ before i))
-listed_where first i q h = by (or_cases (nat_eq q (before i)) (nat_lt first i && nat_eq (q + 1) (before i)) h)
+listed_at_points : (first i q : ℕ) → is_listed_at first i q ≡ true → (q ≡ before i) ⊎ ((first < i) × (q + 1 ≡ before i))
+listed_at_points first i q h = by (or_cases (nat_eq q (before i)) (nat_lt first i && nat_eq (q + 1) (before i)) h)
   where
     by : (nat_eq q (before i) ≡ true) ⊎ ((nat_lt first i && nat_eq (q + 1) (before i)) ≡ true) → (q ≡ before i) ⊎ ((first < i) × (q + 1 ≡ before i))
     by (inl e) = inl (eqb-true q (before i) e)
@@ -75,7 +75,7 @@ module _ (f : FunctionValue) (out : OutputValue) (v : VirtualRegister) (p : Plac
           Fine i (map (λ x. x.1) (filter (λ x. is_listed_at first i x.0) (e ∷ es)))
       by false is rest = rw is rest
       by true is rest = rw is (elim (cases_place p e.1.to) [
-        | inl same ↦ inr (listed_reads first i e.0 plain inner quiet (h 0 e (omega arith) (sym same)) (listed_where first i e.0 is))
+        | inl same ↦ inr (listed_reads first i e.0 plain inner quiet (h 0 e (omega arith) (sym same)) (listed_at_points first i e.0 is))
         | inr ne ↦ one_more i e.1 (map (λ x. x.1) (filter (λ x. is_listed_at first i x.0) es)) ne rest
       ])
 

@@ -1,4 +1,5 @@
--- If a vreg has no slot, the place of the operand that reads it last holds its value on every path from its definition to each use.
+-- If a vreg has no slot, the place of the operand that reads it last holds its value on every path from its definition
+-- to each use.
 use Rattle.std.proofs.Common.{ℕ, ◌≡◌, ◌<◌, ◌≤◌, inl, inr, true, false, List, ◌∷◌, length, refl, sym, ap, ◌∙◌, subst, arith}
 use Rattle.std.specs.Prelude.{None, Some}
 use Rattle.std.proofs.lemmas.Bool.{cases_lt}
@@ -123,7 +124,7 @@ module _ (walk : WholeWalk) (m : IsOutputOfWalk walk.f walk.env (Made walk.f) (M
       omega (arith, e, is, first, low)
 
   begins : Absent v.number begin
-  begins = record { nowhere = empty.nowhere v.number; unheld = λ r u small held. absurd (let y : None ≡ Some u = sym (empty.nobody r small) ∙ held in cc) }
+  begins = record { nowhere = empty.nowhere v.number; unheld = λ r u small held. absurd (let y : None ≡ Some u = sym (empty.none_held r small) ∙ held in cc) }
 
   old_at : (j : ℕ) (w : MetAt j) → id ≤ j → j < il → place_in w.old v.number ≡ p
   old_at j w low high =

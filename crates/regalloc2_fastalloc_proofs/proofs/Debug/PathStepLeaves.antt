@@ -61,7 +61,8 @@ read_shows f out ws v p k agree r undefined spares =
     ∙ (agree k r.within r.reading).1
     ∙ read_both o.position (source_before f ws o.vreg) (source_after f ws o.vreg) (source_before f ws v) b a
 
--- a place that holds v's last write before the moves holds it after them, if no move writes the place, or the instruction reads v there
+-- a place that holds v's last write before the moves holds it after them, if no move writes the place, or the
+-- instruction reads v there
 pub shows_after : (f : FunctionValue) (out : OutputValue) (ws : List Way) (v : VirtualRegister) (p : Place) → ReadsAgree f out ws →
     Undefined (inst_at f (end_of f ws).inst).operands v →
     Spares (inst_at f (end_of f ws).inst).operands (allocs_of out (end_of f ws).inst) (inst_at f (end_of f ws).inst).clobbers p →

@@ -22,7 +22,7 @@ use Rattle.regalloc2_carry.proofs.CarryRules.{carries_nil, carries_moves, carrie
 use Rattle.regalloc2_carry.proofs.BothRuns.{early-other}
 use Rattle.regalloc2_fastalloc_proofs.specs.InstSteps.{StateValue, AllocsInst, ends_block}
 use Rattle.regalloc2_fastalloc_proofs.proofs.Safety.StepsKeepState.{place_in, slot_in}
-use Rattle.regalloc2_fastalloc_proofs.proofs.Operands.RecordOverState.{stands_at, slots_at, opt, opt_some, opt_from}
+use Rattle.regalloc2_fastalloc_proofs.proofs.Operands.RecordOverState.{location_at, slots_at, opt, opt_some, opt_from}
 use Rattle.regalloc2_fastalloc_proofs.proofs.Evictions.EvictVReg.{kept_all}
 use Rattle.regalloc2_fastalloc_proofs.proofs.Inst.AcrossInst.{lives_in}
 use Rattle.regalloc2_fastalloc_proofs.proofs.Operands.RecordOfInst.{progress, Laid, laying_of}
@@ -43,8 +43,8 @@ abbrev observer : VirtualRegister → OperandValue
 observer v = record { vreg = v; constraint = Any; kind = Use; position = Early }
 
 -- nothing but moves carries nothing
-nothing_carried : (v : VirtualRegister) (ms : List MoveValue) (L : List Item) → L ≡ [] → Carries v (with_moves ms L) (λ p. ⊥) (λ p. ⊥)
-nothing_carried v ms L e = carries_moves v ms L (λ p. ⊥) (λ p. ⊥) (λ p. ⊥) (λ s c holds p h. absurd h)
+carries_empty_listing : (v : VirtualRegister) (ms : List MoveValue) (L : List Item) → L ≡ [] → Carries v (with_moves ms L) (λ p. ⊥) (λ p. ⊥)
+carries_empty_listing v ms L e = carries_moves v ms L (λ p. ⊥) (λ p. ⊥) (λ p. ⊥) (λ s c holds p h. absurd h)
     (subst (λ l. Carries v l (λ p. ⊥) (λ p. ⊥)) (sym e) (carries_nil v (λ p. ⊥) (λ p. ⊥) (λ p h. h)))
 
 -- a vreg that is located in the place p, and has no slot
@@ -108,11 +108,11 @@ module _ (code : ProperCode) where
 
     reads_it : (u : VirtualRegister) (j : ℕ) → j < 1 → is_reading (op_at (observer v ∷ []) j) ≡ true → is_late (op_at (observer v ∷ []) j).position ≡ false →
         (op_at (observer v ∷ []) j).vreg ≡ u →
-        Pending (what_of ops) laid.here laid.done laid.out (stands_at t) (slots_at t) 0 u.number (place_at (p ∷ []) j)
+        Pending (what_of ops) laid.here laid.done laid.out (location_at t) (slots_at t) 0 u.number (place_at (p ∷ []) j)
         × ((k : ℕ) → k < 1 → is_def (op_at (observer v ∷ []) k).kind ≡ true → is_late (op_at (observer v ∷ []) k).position ≡ false →
         place_at (p ∷ []) k ≡ place_at (p ∷ []) j → ⊥)
     reads_it u zero less reads early same =
-        (still (ap (λ (w : VirtualRegister). stands_at t w.number) (sym same) ∙ ap opt stood_then ∙ opt_some p real), defines_none)
+        (still (ap (λ (w : VirtualRegister). location_at t w.number) (sym same) ∙ ap opt stood_then ∙ opt_some p real), defines_none)
       where
         defines_none : (k : ℕ) → k < 1 → is_def (op_at (observer v ∷ []) k).kind ≡ true → is_late (op_at (observer v ∷ []) k).position ≡ false →
             place_at (p ∷ []) k ≡ p → ⊥
@@ -130,11 +130,11 @@ module _ (code : ProperCode) where
     moved : UsesMovedFrom (tail_of Known (inst_at f) placesf i 0 (λ w q. ⊥)) item (what_of ops) far (length ops) a.ended t new
     moved =
         let crossed : Claims Known (item ∷ after_part (inst_at f) (listed t.edits) placesf i 0)
-        (Pending (what_of ops) laid.here laid.done laid.out (stands_at t) (slots_at t) 0) (λ w q. ⊥) =
+        (Pending (what_of ops) laid.here laid.done laid.out (location_at t) (slots_at t) 0) (λ w q. ⊥) =
         λ u k. carries_exec u (observer v ∷ []) (p ∷ []) (inst_at f i).clobbers (after_part (inst_at f) (listed t.edits) placesf i 0) (λ q. ⊥)
-        (Pending (what_of ops) laid.here laid.done laid.out (stands_at t) (slots_at t) 0 u.number) (λ q. ⊥)
+        (Pending (what_of ops) laid.here laid.done laid.out (location_at t) (slots_at t) 0 u.number) (λ q. ⊥)
         (reads_it u) (λ j less reads late same. absurd (never_late j less late)) (λ q h. absurd h)
-        (nothing_carried u (at_point (listed t.edits) (after i)) (walked (inst_at f) (at_point (listed t.edits)) placesf (i + 1) 0)
+        (carries_empty_listing u (at_point (listed t.edits) (after i)) (walked (inst_at f) (at_point (listed t.edits)) placesf (i + 1) 0)
         (walked-none (inst_at f) (at_point (listed t.edits)) placesf (i + 1))) in
         let all_done : (j : ℕ) → Counts ops j → laid.done j ≡ true = λ j c. laid.all j c (turned_all ops j c) in
         moves_uses_done (tail_of Known (inst_at f) placesf i 0 (λ w q. ⊥)) item ops here far a.early t
@@ -143,7 +143,7 @@ module _ (code : ProperCode) where
           located = laid.ready.located;
           pends = record {
             later = all_from-less (before i) (after i) (listed t.edits) (omega arith) laid.ready.owes.later;
-            claims = subst (λ y. Claims Known y (Pending (what_of ops) laid.here laid.done laid.out (stands_at t) (slots_at t) 0) (λ w q. ⊥))
+            claims = subst (λ y. Claims Known y (Pending (what_of ops) laid.here laid.done laid.out (location_at t) (slots_at t) 0) (λ w q. ⊥))
                 (sym (before_part-clean (inst_at f) (listed t.edits) placesf i 0 item laid.ready.owes.later)) crossed;
           };
           held = laid.ready.held;
@@ -156,7 +156,7 @@ module _ (code : ProperCode) where
     pub value_kept_over_moves : (s : Source) (c : Cells) → c p ≡ s v → after_moves (at_point (listed new.edits) (before i)) c p ≡ s v
     unfolding Carries CarriesFrom
     value_kept_over_moves s c held =
-        let there : (q : Place) → Pending (what_of ops) laid.here laid.done laid.out (stands_at new) (slots_at new) (length ops) v.number q →
+        let there : (q : Place) → Pending (what_of ops) laid.here laid.done laid.out (location_at new) (slots_at new) (length ops) v.number q →
         c q ≡ s v = λ q y. elim y [
           | still e ↦ (let z : q ≡ p = sym (opt_from (place_in new v.number) q e) ∙ alloc_of in ap c z ∙ held)
           | slotted o e ↦ (let z : None ≡ Some q = sym (ap opt unslotted) ∙ e in absurd cc)

@@ -1,4 +1,5 @@
--- The place that debug locations name for a vreg holds its value: its slot, or the place of the operand that reads it last.
+-- The place that debug locations name for a vreg holds its value: its slot, or the place of the operand that reads it
+-- last.
 use Rattle.std.proofs.Common.{ℕ, ◌≡◌, ◌<◌, ◌≤◌, inl, inr, true, false, List, length, refl, sym, ap, subst, arith}
 use Rattle.std.specs.Prelude.{Option, Contains, slice_index_or}
 use Rattle.std.proofs.lemmas.List.{get_or_default}
@@ -42,7 +43,7 @@ use Rattle.regalloc2_fastalloc_proofs.proofs.Debug.InstWithinWalk.{Met}
 use Rattle.regalloc2_fastalloc_proofs.proofs.Debug.LocationBeforeFirstRead.{ComesFirst, late_first, early_first}
 use Rattle.regalloc2_fastalloc_proofs.proofs.Debug.LocationWithoutSlot.{IsUnslotted}
 use Rattle.regalloc2_fastalloc_proofs.proofs.Walk.WholeWalk.{WholeWalk}
-use Rattle.regalloc2_fastalloc_proofs.proofs.Safety.StepsKeepSafe.{stand_there}
+use Rattle.regalloc2_fastalloc_proofs.proofs.Safety.StepsKeepSafe.{may_be_located_is_place}
 
 late_is : (q : OperandPos) → is_late q ≡ true → q ≡ Late
 late_is Early h = absurd cc
@@ -130,7 +131,7 @@ module _ (walk : WholeWalk) (m : IsOutputOfWalk walk.f walk.env (Made walk.f) (M
         );
         params = λ b lb k few e. not_both f ok.defined_once v.number id d b k at (record { block = lb; param = few; number = e });
         undefined = λ j low jl k less def e. never_defined j k low jl less def (sym e);
-        real = stand_there env last.slots (op_at (inst_at f il).operands ko).vreg (place_at (allocs_of out il) ko)
+        real = may_be_located_is_place env last.slots (op_at (inst_at f il).operands ko).vreg (place_at (allocs_of out il) ko)
             ((operand_good f env (Made f) (MayInBlocks f) last out m il lt ko within).place (reads_allocated (op_at (inst_at f il).operands ko) reads));
         unslotted = none;
       }

@@ -63,7 +63,8 @@ module _ (env : MachineValue) (f : FunctionValue) (once : DefinedOnce f) (t : St
       let x = owner_known f env (Made f) (MayInBlocks f) t out m owned sound_ops w n i k names is in
       one_made f once w v x.0 known (owned.own w.number v.number n x.1 mine)
 
--- after a definition of v, once the moves before the next instruction have run, the slot holds v's value, if v is live there and it is no branch
+-- after a definition of v, once the moves before the next instruction have run, the slot holds v's value, if v is live
+-- there and it is no branch
 abbrev pub DefinedShows : FunctionValue → OutputValue → VirtualRegister → ℕ → Type 0
 DefinedShows f out v n = (ws : List Way) → IsPath f (Onward ∷ ws) → DefinesAt f v (end_of f ws).inst → IsLive f v (end_of f (Onward ∷ ws)) →
     (inst_at f ((end_of f ws).inst + 1)).is_branch ≡ false → ShowsAt f out v (InSlot n) (Onward ∷ ws)

@@ -1,4 +1,5 @@
--- A path enters a block: once the moves before its first instruction have run, the slot of a vreg that is live there holds its value.
+-- A path enters a block: once the moves before its first instruction have run, the slot of a vreg that is live there
+-- holds its value.
 use Rattle.regalloc2_parts.proofs.Resolving.{All-reversed}
 use Rattle.std.proofs.Common.{ℕ, ◌≡◌, ◌≢◌, ◌+◌, ◌<◌, ◌⊎◌, inl, inr, true, false, List, length, refl, sym, ap, ◌∙◌, subst, arith}
 use Rattle.std.specs.Prelude.{All, Option, Some, slice_index_or}
@@ -22,7 +23,7 @@ use Rattle.regalloc2_carry.proofs.Order.{ends_before}
 use Rattle.regalloc2_carry.proofs.Paths.{UsedSomewhere}
 use Rattle.regalloc2_carry.proofs.Points.{moves_before-first}
 use Rattle.regalloc2_carry.proofs.SingleDef.{Made, one_made}
-use Rattle.regalloc2_carry.proofs.StoresInFront.{stores_there, stores_else, in_order, after_both}
+use Rattle.regalloc2_carry.proofs.StoresInFront.{targets_after_stores, stores_else, in_order, after_append}
 use Rattle.regalloc2_carry.proofs.UnwrittenPlaces.{NoMoveTo, moves_kept}
 use Rattle.regalloc2_analysis.specs.BranchDefs.BranchDefs.{IsUsedElsewhere}
 use Rattle.regalloc2_fastalloc_state.specs.StateParts.{SlotsHaveOneOwner, slot_name}
@@ -66,7 +67,8 @@ use Rattle.regalloc2_fastalloc_proofs.proofs.Safety.StepsKeepSafe.{rules_of}
 use Rattle.regalloc2_fastalloc_proofs.proofs.Walk.WholeWalk.{WholeWalk}
 use Rattle.regalloc2_fastalloc_proofs.proofs.Walk.FunctionLaws.{laws_of, code_of}
 
--- What is known at block starts: the places that hold vregs, on every path, and that the tables are safe along the whole walk.
+-- What is known at block starts: the places that hold vregs, on every path, and that the tables are safe along the
+-- whole walk.
 pub record AreAtBegin (env : MachineValue) (f : FunctionValue) (blank : List Place) (begin last : StateValue) (out : OutputValue)
     (stand : ℕ → VirtualRegister → Option Place) : Type 0 where
   pub arrive : Arrive f (allocs_of out) (slots_at last) stand
@@ -220,14 +222,14 @@ module _ (walk : WholeWalk) (fits : MachineFits walk.f walk.env) (m : IsOutputOf
             has_slot = has_slot;
           }) e k edge s
           (λ d j into. one_edge_into env f ok b e k d j edge into) (InSlot n) mine_there) [
-            | inl y ↦ subst (λ (q : Place). then q ≡ x) y.2 (stores_there s.stores (in_order
+            | inl y ↦ subst (λ (q : Place). then q ≡ x) y.2 (targets_after_stores s.stores (in_order
                 (is_memory reloaded.fixed_stack) refl s.stores s.in_order) c y.0 y.1
                 ∙ holds y.0.from y.3)
             | inr y ↦ stores_else s.stores c (InSlot n) y.1 ∙ holds (InSlot n) y.0
           ] in
           ap (λ ms. after_moves ms c (InSlot n)) (ap (λ es. at_point (listed es) (before first)) s.edits
           ∙ pushed_front (before first) (store_moves s.stores) reloaded.edits)
-          ∙ ap (λ (d : Cells). d (InSlot n)) (after_both (store_moves s.stores) M c)
+          ∙ ap (λ (d : Cells). d (InSlot n)) (after_append (store_moves s.stores) M c)
           ∙ moves_kept (InSlot n) M then none ∙ there
 
   module _ (agree : ReadsAgreeOnPaths f out) (owned : SlotsHaveOneOwner last.slots)

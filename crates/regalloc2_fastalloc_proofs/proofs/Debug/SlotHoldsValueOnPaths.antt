@@ -14,7 +14,8 @@ use Rattle.regalloc2_fastalloc_proofs.proofs.Debug.SlotHoldsToUses.{slot_holds}
 use Rattle.regalloc2_fastalloc_proofs.proofs.Debug.WellFormedPaths.{plain_function, inst_lt, next_inside}
 use Rattle.regalloc2_fastalloc_proofs.proofs.Debug.MovesLeaveSlot.{kept_in_slot}
 
--- in a well-formed function whose reads agree, a vreg's slot holds its value from each write to later uses, but at branches
+-- in a well-formed function whose reads agree, a vreg's slot holds its value from each write to later uses, but at
+-- branches
 pub slot_shows_value : (env : MachineValue) (f : FunctionValue) (out : OutputValue) (v : VirtualRegister) (n : ℕ) → IsWellFormed env f → IsWrittenFirst f →
     ReadsAgreeOnPaths f out → IsSlotOfValue f out v n → ShowsValue f out v (InSlot n)
 slot_shows_value env f out v n ok written agree slot =

@@ -1,4 +1,5 @@
--- A number that has no location, and that nothing in the walked part names, stays without a location, and its slot stays.
+-- A number that has no location, and that nothing in the walked part names, stays without a location, and its slot
+-- stays.
 use Rattle.std.proofs.Common.{ℕ, ◌≡◌, ◌≢◌, ◌<◌, ◌≤◌, inl, inr, Bool, true, List, length, refl, sym, ap, ◌∙◌, arith}
 use Rattle.std.specs.Prelude.{None, Some, slice_index_or}
 use Rattle.regalloc2_names.specs.Register.{VirtualRegister, no_vreg}
@@ -17,7 +18,7 @@ use Rattle.regalloc2_fastalloc_proofs.specs.BlockSteps.{AllocsInstInBlock, Begin
 use Rattle.regalloc2_fastalloc_proofs.specs.Located.{Absent}
 use Rattle.regalloc2_fastalloc_proofs.proofs.Evictions.PushedAndRemoved.{sets_alloc_empties}
 use Rattle.regalloc2_fastalloc_proofs.specs.Safety.{IsWhole}
-use Rattle.regalloc2_fastalloc_proofs.proofs.Safety.StepsKeepSafe.{settled_holder}
+use Rattle.regalloc2_fastalloc_proofs.proofs.Safety.StepsKeepSafe.{holder_after_set_alloc}
 use Rattle.regalloc2_fastalloc_proofs.proofs.Changes.OneChange.{Act, slot_for, spill_of, end_of, start_of, move, Change, evicted, slot_given, spilled}
 use Rattle.regalloc2_fastalloc_proofs.proofs.Changes.OneChange.{param_left, def_left, use_located, edits_pushed, temps_added, registers_used, Changes}
 use Rattle.regalloc2_fastalloc_proofs.proofs.Changes.OneChange.{changes_keep, change_weaken}
@@ -64,10 +65,10 @@ module _ (x : ℕ) where
   }
 
   -- another one's location is set
-  absent_settled : (old new : StateValue) (v : VirtualRegister) (p : Place) → SetsAlloc old.places new.places v p → Other v → Absent x old → Absent x new
-  absent_settled old new v p z ne a = record {
+  absent_after_set_alloc : (old new : StateValue) (v : VirtualRegister) (p : Place) → SetsAlloc old.places new.places v p → Other v → Absent x old → Absent x new
+  absent_after_set_alloc old new v p z ne a = record {
     nowhere = z.others x (λ e. ne (sym e)) ∙ a.nowhere;
-    unheld = λ r w small held. elim (settled_holder old.places new.places v w p r small z held) [
+    unheld = λ r w small held. elim (holder_after_set_alloc old.places new.places v w p r small z held) [
       | inl y ↦ (λ e. ne (ap (λ (u : VirtualRegister). u.number) y.1 ∙ e))
       | inr h ↦ a.unheld r w small h
     ];
@@ -75,12 +76,12 @@ module _ (x : ℕ) where
 
   -- any change that doesn't give it a location keeps it absent
   one_absent : (old new : StateValue) → Change Sets old new → Absent x old → Absent x new
-  one_absent old new (evicted r v s lt held gives settles edits machine) a = absent_settled old new v s settles (a.unheld r v lt held) a
+  one_absent old new (evicted r v s lt held gives sets_alloc edits machine) a = absent_after_set_alloc old new v s sets_alloc (a.unheld r v lt held) a
   one_absent old new (slot_given v s may gives places edits machine) a = absent_still old new places a
-  one_absent old new (spilled v s may away gives settles edits machine) a = absent_settled old new v s settles may a
-  one_absent old new (param_left v s may there gives settles edits machine) a = absent_settled old new v NoPlace settles may a
-  one_absent old new (def_left v may settles slots edits machine) a = absent_settled old new v NoPlace settles may a
-  one_absent old new (use_located v p may nowhere settles slots edits machine) a = absent_settled old new v p settles may a
+  one_absent old new (spilled v s may away gives sets_alloc edits machine) a = absent_after_set_alloc old new v s sets_alloc may a
+  one_absent old new (param_left v s may there gives sets_alloc edits machine) a = absent_after_set_alloc old new v NoPlace sets_alloc may a
+  one_absent old new (def_left v may sets_alloc slots edits machine) a = absent_after_set_alloc old new v NoPlace sets_alloc may a
+  one_absent old new (use_located v p may nowhere sets_alloc slots edits machine) a = absent_after_set_alloc old new v p sets_alloc may a
   one_absent old new (edits_pushed es all e) a = absent_still old new (ap (λ (t : StateValue). t.places) e) a
   one_absent old new (temps_added inst_regs class given made o) a = absent_still old new o.places a
   one_absent old new (registers_used e) a = absent_still old new (ap (λ (t : StateValue). t.places) e) a
@@ -90,12 +91,12 @@ module _ (x : ℕ) where
 
   -- x keeps its slot over a change that doesn't give it one
   one_slot : (old new : StateValue) → Change Names old new → Absent x old → slot_name new.slots x ≡ slot_name old.slots x
-  one_slot old new (evicted r v s lt held gives settles edits machine) a = other_slot old.slots new.slots v s gives (a.unheld r v lt held)
+  one_slot old new (evicted r v s lt held gives sets_alloc edits machine) a = other_slot old.slots new.slots v s gives (a.unheld r v lt held)
   one_slot old new (slot_given v s may gives places edits machine) a = other_slot old.slots new.slots v s gives may
-  one_slot old new (spilled v s may away gives settles edits machine) a = other_slot old.slots new.slots v s gives may
-  one_slot old new (param_left v s may there gives settles edits machine) a = other_slot old.slots new.slots v s gives may
-  one_slot old new (def_left v may settles slots edits machine) a = ap (λ (s : SpillSlotsValue). slot_name s x) slots
-  one_slot old new (use_located v p may nowhere settles slots edits machine) a = ap (λ (s : SpillSlotsValue). slot_name s x) slots
+  one_slot old new (spilled v s may away gives sets_alloc edits machine) a = other_slot old.slots new.slots v s gives may
+  one_slot old new (param_left v s may there gives sets_alloc edits machine) a = other_slot old.slots new.slots v s gives may
+  one_slot old new (def_left v may sets_alloc slots edits machine) a = ap (λ (s : SpillSlotsValue). slot_name s x) slots
+  one_slot old new (use_located v p may nowhere sets_alloc slots edits machine) a = ap (λ (s : SpillSlotsValue). slot_name s x) slots
   one_slot old new (edits_pushed es all e) a = ap (λ (t : StateValue). slot_name t.slots x) e
   one_slot old new (temps_added inst_regs class given made o) a = ap (λ (l : List Place). slice_index_or l x NoPlace) o.lends.2.vreg_spillslots
   one_slot old new (registers_used e) a = ap (λ (t : StateValue). slot_name t.slots x) e
@@ -174,12 +175,12 @@ module _ (x : ℕ) where
   pub defined_absent : (point : ℕ) (v : VirtualRegister) (ends_block : Bool) (p : Place) (t u : InstRegs) (old new : StateValue) → v.number ≡ x →
       (d : FreesAlloc point v ends_block p t u old new) → IsWhole old → Absent x d.left
   defined_absent point v ends_block p t u old new same d w = record {
-    nowhere = ap (alloc_of d.left.places) (sym same) ∙ d.settles.here;
-    unheld = λ r y small held e. elim (settled_holder old.places d.left.places v y NoPlace r small d.settles held) [
+    nowhere = ap (alloc_of d.left.places) (sym same) ∙ d.sets_alloc.here;
+    unheld = λ r y small held e. elim (holder_after_set_alloc old.places d.left.places v y NoPlace r small d.sets_alloc held) [
       | inl a ↦ absurd (let z : NoPlace ≡ InRegister r = a.0 in cc)
       | inr h ↦ (
           let at : alloc_of old.places v.number ≡ InRegister r = ap (alloc_of old.places) (same ∙ sym e) ∙ w.holds r y small h in
-          let none : vreg_of_preg d.left.places r ≡ None = sets_alloc_empties old.places d.left.places v NoPlace r small (λ z. cc) at d.settles in
+          let none : vreg_of_preg d.left.places r ≡ None = sets_alloc_empties old.places d.left.places v NoPlace r small (λ z. cc) at d.sets_alloc in
           let z : None ≡ Some y = sym none ∙ held in absurd cc)
     ];
   }

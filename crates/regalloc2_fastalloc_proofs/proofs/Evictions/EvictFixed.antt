@@ -17,10 +17,10 @@ use Rattle.regalloc2_fastalloc_proofs.specs.InstSteps.{StateValue, SameMachine, 
 use Rattle.regalloc2_fastalloc_proofs.specs.InstSteps.{EvictsPReg, empty, cleared, EvictsOtherVRegs, own, others, NeedsFixedReg, own as of_its_own}
 use Rattle.regalloc2_fastalloc_proofs.specs.InstSteps.{named as of_named, EvictsFixed, none_cleared, not_fixed, of_fixed, of_reuse}
 use Rattle.regalloc2_fastalloc_proofs.proofs.Safety.StepsKeepState.{place_in}
-use Rattle.regalloc2_fastalloc_proofs.proofs.Operands.RecordOverState.{stands_at, Located}
+use Rattle.regalloc2_fastalloc_proofs.proofs.Operands.RecordOverState.{location_at, Located}
 use Rattle.regalloc2_fastalloc_proofs.proofs.Evictions.EvictVReg.{Kept, kept_all, kept_used}
-use Rattle.regalloc2_fastalloc_proofs.proofs.Moves.ScratchRegTaken.{IsScratch, of_machine, taken, Fit, Less, less_same, less_then, set_found}
-use Rattle.regalloc2_fastalloc_proofs.proofs.Evictions.EvictPReg.{kept_then}
+use Rattle.regalloc2_fastalloc_proofs.proofs.Moves.ScratchRegTaken.{IsScratch, of_machine, taken, Fit, Less, less_same, less_trans, set_found}
+use Rattle.regalloc2_fastalloc_proofs.proofs.Evictions.EvictPReg.{kept_trans}
 use Rattle.regalloc2_fastalloc_proofs.proofs.Operands.ClaimAndUse.{covers_at, claim_register}
 use Rattle.regalloc2_fastalloc_proofs.proofs.Operands.RecordOfInst.{Orderly, Ready, ready_used}
 use Rattle.regalloc2_fastalloc_proofs.proofs.Evictions.EvictKeepsRecord.{ready_evicts_preg, ready_evicts_other_vregs}
@@ -97,7 +97,7 @@ pub evicts_preg_free : (b : InstRegs) (point : ℕ) (r : Register) (t u : InstRe
     WereFree b t
     → WereFree b u
 evicts_preg_free b point r t u old new (empty none eu en) less f = free_same b t u eu f
-evicts_preg_free b point r t u old new (cleared v s m lt held gives settles edits machine order c) less f =
+evicts_preg_free b point r t u old new (cleared v s m lt held gives sets_alloc edits machine order c) less f =
     adds_move_free b point v.class s (InRegister r) t u m new c less f
 
 -- the scratch register of an eviction that spares one vreg was available in b
@@ -181,7 +181,7 @@ begun here claimed lived = record (at_begin here lived) { claimed = claimed }
 
 -- the live vregs, while no operand is allocated: the vregs that have a location
 pub all_lived : (what : ℕ → What) (here : ℕ → Place) (claimed lived : ℕ → Bool) (t : StateValue) →
-    Located what (begun here claimed lived) t → (x : ℕ) (p : Place) → stands_at t x ≡ Some p → lived x ≡ true
+    Located what (begun here claimed lived) t → (x : ℕ) (p : Place) → location_at t x ≡ Some p → lived x ≡ true
 all_lived what here claimed lived t st x p e = ⊎_elim
     (λ (l : lived x ≡ true). l)
     (λ (l : lived x ≡ false). let w = st.placed.newly x p l e in let y : false ≡ true = w.1 in absurd cc)
@@ -204,7 +204,8 @@ module _ (tail : BlockTail) where
   abbrev pub Start : List OperandValue → (ℕ → Place) → (ℕ → Bool) → (ℕ → Bool) → Bool → InstRegs → StateValue → Type 0
   Start ops here claimed lived ends_block u t = Ready tail ops (begun here claimed lived) ends_block u t
 
-  -- The fixed registers of the first k operands are emptied and claimed; b has the available registers from which all are removed.
+  -- The fixed registers of the first k operands are emptied and claimed; b has the available registers from which all
+  -- are removed.
   pub record FixedUpTo (ops : List OperandValue) (lived : ℕ → Bool) (ends_block : Bool) (b : InstRegs) (old : StateValue) (k : ℕ) (u : InstRegs)
       (t : StateValue) : Type 0 where
     pub here : ℕ → Place
@@ -229,8 +230,8 @@ module _ (tail : BlockTail) where
     here = x.here;
     claimed = x.claimed;
     ready = ready;
-    kept = kept_then old m t x.kept kept;
-    less = less_then b u w x.less less;
+    kept = kept_trans old m t x.kept kept;
+    less = less_trans b u w x.less less;
     free = free;
     took = λ j c. let y = x.took j c in let lt : j < k = y.0 in (omega arith, y.1);
     fixed = λ j r lt c e. elim (cases_eq j k) [
@@ -256,8 +257,8 @@ module _ (tail : BlockTail) where
       let fresh : x.claimed k ≡ false = ⊎_elim (λ (c : x.claimed k ≡ true). let y = x.took k c in let lt : k < k = y.0 in absurd (omega arith))
       (λ (c : x.claimed k ≡ false). c) (cases_Bool (x.claimed k)) in
       let puts : Puts x.here there x.claimed claimed2 k (InRegister r) = puts_one x.here x.claimed k (InRegister r) fresh in
-      let all : Kept old t = kept_then old m t x.kept kept in
-      let far : Less b w = less_then b u w x.less less in
+      let all : Kept old t = kept_trans old m t x.kept kept in
+      let far : Less b w = less_trans b u w x.less less in
       let clear : Clear (what_of ops) x.here x.claimed k (InRegister r) = λ j c e.
       let y = (x.took j c).1 in
       let at : InRegister y.0 ≡ InRegister r = sym y.1 ∙ e in let same : y.0 ≡ r = cc in
@@ -302,7 +303,8 @@ module _ (tail : BlockTail) where
         ];
       }
 
-  -- once the fixed registers of the first k operands are evicted, these operands claim them, and the record of the operands is kept
+  -- once the fixed registers of the first k operands are evicted, these operands claim them, and the record of the
+  -- operands is kept
   pub evicts_fixed_done : (ops : List OperandValue) (lived : ℕ → Bool) (ends_block : Bool) (b : InstRegs) (old : StateValue) → Orderly ops → Reserved ops b old →
       FixedUpTo ops lived ends_block b old 0 b old →
       (k : ℕ) (u : InstRegs) (t : StateValue) → EvictsFixed (after i) ops b old k u t → k ≤ length ops → FixedUpTo ops lived ends_block b old k u t

@@ -18,18 +18,18 @@ use Rattle.regalloc2_fastalloc_proofs.specs.InstSteps.{StateValue, is_stack_in, 
 use Rattle.regalloc2_fastalloc_proofs.specs.InstSteps.{others, a_move}
 use Rattle.regalloc2_fastalloc_proofs.specs.Safety.{IsWhole}
 use Rattle.regalloc2_fastalloc_proofs.proofs.Safety.StepsKeepState.{place_in, slot_in, slot_no_register}
-use Rattle.regalloc2_fastalloc_proofs.proofs.Operands.RecordOverState.{stands_at, slots_at, opt, opt_from, Located, OwesPlaces, Shifts, shifts, shift_whole}
-use Rattle.regalloc2_fastalloc_proofs.proofs.Operands.RecordOverState.{shift_stands}
+use Rattle.regalloc2_fastalloc_proofs.proofs.Operands.RecordOverState.{location_at, slots_at, opt, opt_from, Located, OwesPlaces, Shifts, shifts, shift_whole}
+use Rattle.regalloc2_fastalloc_proofs.proofs.Operands.RecordOverState.{located_after_shift}
 use Rattle.regalloc2_fastalloc_proofs.proofs.Evictions.EvictVReg.{held_early, held_late, Kept, kept_all, shift_kept, Emptied, evicts_vreg_step}
 use Rattle.regalloc2_fastalloc_proofs.proofs.Moves.ScratchRegTaken.{IsIdle, IsScratch, of_machine, taken, Fit, Spare, spare_same, spare_kept, spare_more}
 use Rattle.regalloc2_fastalloc_proofs.proofs.Moves.ScratchRegTaken.{scratch_off, fit_same}
-use Rattle.regalloc2_fastalloc_proofs.proofs.Moves.ScratchRegMidMove.{put, put_same, put_other, owes_same, ScratchedBut, scratch_but, through_items}
-use Rattle.regalloc2_fastalloc_proofs.proofs.Moves.ScratchRegMidMove.{through_later}
+use Rattle.regalloc2_fastalloc_proofs.proofs.Moves.ScratchRegMidMove.{put, put_same, put_other, owes_same, ScratchedBut, scratch_but, scratch_move_items}
+use Rattle.regalloc2_fastalloc_proofs.proofs.Moves.ScratchRegMidMove.{scratch_move_later}
 use Rattle.regalloc2_fastalloc_proofs.proofs.Operands.BlockTail.{BlockTail}
 
 -- what no eviction changes, two steps keep if each does
-pub kept_then : (a b c : StateValue) → Kept a b → Kept b c → Kept a c
-kept_then a b c x y = record {
+pub kept_trans : (a b c : StateValue) → Kept a b → Kept b c → Kept a c
+kept_trans a b c x y = record {
   slots = λ v p e. y.slots v p (x.slots v p e);
   registers = λ v q e. x.registers v q (y.registers v q e);
   nowhere = λ v e. y.nowhere v (x.nowhere v e);
@@ -54,74 +54,75 @@ scratch_of_edits t es c u b (taken e) = taken e
 module _ (tail : BlockTail) where
   open tail use {Known, insts, placesf, i, n, E}
 
-  -- after an eviction: no vreg is in the register, and the records of the operands' places, scratch registers and listing are kept
+  -- after an eviction: no vreg is in the register, and the records of the operands' places, scratch registers and
+  -- listing are kept
   pub record Cleared (what : ℕ → What) (far : Progress) (r : Register)
       (u : InstRegs) (old new : StateValue) : Type 0 where
     pub located : Located what far new
-    pub owes : OwesPlaces tail far.lived far.out far.made_at (stands_at new) (slots_at new) new.edits
+    pub owes : OwesPlaces tail far.lived far.out far.made_at (location_at new) (slots_at new) new.edits
     pub held : Held what far.here far.claimed (held_early u) (held_late u)
     pub emptied : (x : ℕ) → place_in new x ≡ InRegister r → ⊥
     pub kept : Kept old new
     pub scratch_reserve : Spare far.here far.claimed far.made_at u new
 
   -- the reload through the scratch register
-  through_owes : (what : ℕ → What) (far : Progress) (v : ℕ) (r by : Register)
+  scratch_reload_owes : (what : ℕ → What) (far : Progress) (v : ℕ) (r by : Register)
       (s : Place) (t new : StateValue) →
-      (r ≡ by → ⊥) → s ≢ NoPlace → Located what far t → IsIdle far.here far.claimed far.made_at by t → stands_at t v ≡ Some s →
+      (r ≡ by → ⊥) → s ≢ NoPlace → Located what far t → IsIdle far.here far.claimed far.made_at by t → location_at t v ≡ Some s →
       ((x : ℕ) → place_in t x ≡ InRegister r → ⊥) → ((u : ℕ) → far.made_at (InRegister r) u ≡ false) →
-      OwesPlaces tail far.lived far.out far.made_at (put (stands_at t) v (Some (InRegister r))) (slots_at t) t.edits →
-      OwesPlaces tail far.lived far.out far.made_at (stands_at t) (slots_at t)
+      OwesPlaces tail far.lived far.out far.made_at (put (location_at t) v (Some (InRegister r))) (slots_at t) t.edits →
+      OwesPlaces tail far.lived far.out far.made_at (location_at t) (slots_at t)
       (t.edits ++ a_move (after i) (InRegister by) (InRegister r) ∷ a_move (after i) s (InRegister by) ∷ [])
-  through_owes what far v r by s t new apart real st idle alloc_of nobody_there clear o =
+  scratch_reload_owes what far v r by s t new apart real st idle alloc_of empty_register_at_no_location clear o =
       let L : List Item = after_part insts (listed t.edits) placesf i n in
-      let T : ℕ → Option Place = put (stands_at t) v (Some (InRegister r)) in
+      let T : ℕ → Option Place = put (location_at t) v (Some (InRegister r)) in
       let no_slot : (x : ℕ) (q : Register) → slots_at t x ≡ Some (InRegister q) →
       ⊥ = λ x q e. slot_no_register t.slots.count (slot_in t x) q (st.whole.below x) (opt_from (slot_in t x) (InRegister q) e) in
       let moves : Claims Known (Move (record { from = s; to = InRegister by }) ∷ (Move (record { from = InRegister by; to = InRegister r }) ∷ L))
-      (Need far.lived far.out far.made_at (stands_at t) (slots_at t)) E =
-      claims_by_two_moves Known E L (Need far.lived far.out far.made_at T (slots_at t)) (Need far.lived far.out far.made_at (stands_at t) (slots_at t)) s
+      (Need far.lived far.out far.made_at (location_at t) (slots_at t)) E =
+      claims_by_two_moves Known E L (Need far.lived far.out far.made_at T (slots_at t)) (Need far.lived far.out far.made_at (location_at t) (slots_at t)) s
       (InRegister by) (InRegister r) (λ z. cc)
       (λ z. cc)
       (λ x z. elim z [
         | located l e ↦ elim (cases_eq x v) [
-          | inl d ↦ (let y : Some (InRegister r) ≡ Some (InRegister by) = sym (put_same (stands_at t) v (Some (InRegister r)) x d) ∙ e in
+          | inl d ↦ (let y : Some (InRegister r) ≡ Some (InRegister by) = sym (put_same (location_at t) v (Some (InRegister r)) x d) ∙ e in
               let same : r ≡ by = cc in apart same)
-          | inr d ↦ idle.no_allocs x (opt_from (place_in t x) (InRegister by) (sym (put_other (stands_at t) v (Some (InRegister r)) x d) ∙ e))
+          | inr d ↦ idle.no_allocs x (opt_from (place_in t x) (InRegister by) (sym (put_other (location_at t) v (Some (InRegister r)) x d) ∙ e))
         ]
         | in_slot f e ↦ no_slot x by e
         | made m ↦ (let y = idle.clear x in cc)
       ])
       (λ x z. elim z [
         | located l e ↦ elim (cases_eq x v) [
-          | inl d ↦ located l (ap (stands_at t) d ∙ alloc_of)
-          | inr d ↦ absurd (nobody_there x (opt_from (place_in t x) (InRegister r) (sym (put_other (stands_at t) v (Some (InRegister r)) x d) ∙ e)))
+          | inl d ↦ located l (ap (location_at t) d ∙ alloc_of)
+          | inr d ↦ absurd (empty_register_at_no_location x (opt_from (place_in t x) (InRegister r) (sym (put_other (location_at t) v (Some (InRegister r)) x d) ∙ e)))
         ]
         | in_slot f e ↦ absurd (no_slot x r e)
         | made m ↦ (let y = clear x in absurd cc)
       ])
       (λ x q ne z. elim z [
         | located l e ↦ elim (cases_eq x v) [
-          | inl d ↦ (let y : Some (InRegister r) ≡ Some q = sym (put_same (stands_at t) v (Some (InRegister r)) x d) ∙ e in let same : q ≡ InRegister r = cc in
+          | inl d ↦ (let y : Some (InRegister r) ≡ Some q = sym (put_same (location_at t) v (Some (InRegister r)) x d) ∙ e in let same : q ≡ InRegister r = cc in
               absurd (ne same))
-          | inr d ↦ located l (sym (put_other (stands_at t) v (Some (InRegister r)) x d) ∙ e)
+          | inr d ↦ located l (sym (put_other (location_at t) v (Some (InRegister r)) x d) ∙ e)
         ]
         | in_slot f e ↦ in_slot f e
         | made m ↦ made m
       ])
       o.claims in
       record {
-        later = through_later tail s (InRegister by) (InRegister r) t.edits o.later;
-        claims = subst (λ l. Claims Known l (Need far.lived far.out far.made_at (stands_at t) (slots_at t)) E)
-            (sym (through_items tail s (InRegister by) (InRegister r) t.edits)) moves;
+        later = scratch_move_later tail s (InRegister by) (InRegister r) t.edits o.later;
+        claims = subst (λ l. Claims Known l (Need far.lived far.out far.made_at (location_at t) (slots_at t)) E)
+            (sym (scratch_move_items tail s (InRegister by) (InRegister r) t.edits)) moves;
       }
 
   -- scratch registers aren't fixed stack slots
   pub evicts_preg_step : (what : ℕ → What) (far : Progress) (r : Register)
       (t u : InstRegs) (old new : StateValue) → EvictsPReg (after i) r t u old new →
-      ((x : ℕ) → stands_at old x ≡ Some (InRegister r) → (far.lived x ≡ true) × ((w : ℕ) → far.made_at (InRegister r) w ≡ false)) →
+      ((x : ℕ) → location_at old x ≡ Some (InRegister r) → (far.lived x ≡ true) × ((w : ℕ) → far.made_at (InRegister r) w ≡ false)) →
       Spare far.here far.claimed far.made_at t old → Fit old →
       Held what far.here far.claimed (held_early t) (held_late t) →
-      Located what far old → OwesPlaces tail far.lived far.out far.made_at (stands_at old) (slots_at old) old.edits →
+      Located what far old → OwesPlaces tail far.lived far.out far.made_at (location_at old) (slots_at old) old.edits →
       Cleared what far r u old new
   evicts_preg_step what far r t u old new (empty none eu en) may sp f h st o =
       subst (Cleared what far r u old) (sym en) (record {
@@ -132,11 +133,11 @@ module _ (tail : BlockTail) where
         kept = kept_all old;
         scratch_reserve = spare_same far.here far.claimed far.made_at t u old old eu refl sp;
       })
-  evicts_preg_step what far r t u old new (cleared v s m lt held gives settles edits machine order (direct flat eu en)) may sp f h st o =
+  evicts_preg_step what far r t u old new (cleared v s m lt held gives sets_alloc edits machine order (direct flat eu en)) may sp f h st o =
       let p : StateValue = record m { edits = m.edits ++ a_move (after i) s (InRegister r) ∷ [] } in
       let e : Emptied tail what far r old p =
       evicts_vreg_step tail what far r old p
-      (moved v s lt held gives settles (ap (λ es. es ++ a_move (after i) s (InRegister r) ∷ []) edits)
+      (moved v s lt held gives sets_alloc (ap (λ es. es ++ a_move (after i) s (InRegister r) ∷ []) edits)
       (record {
         allocatable = machine.allocatable;
         fixed_stack = machine.fixed_stack;
@@ -153,20 +154,20 @@ module _ (tail : BlockTail) where
         kept = e.kept;
         scratch_reserve = spare_same far.here far.claimed far.made_at t u p p eu refl (spare_kept far.here far.claimed far.made_at t old p e.kept sp);
       })
-  evicts_preg_step what far r t u old new (cleared v s m lt held gives settles edits machine order (through by m2 stack scratches en)) may
+  evicts_preg_step what far r t u old new (cleared v s m lt held gives sets_alloc edits machine order (through by m2 stack scratches en)) may
       sp f h st o =
-      let w : IsWhole m = shift_whole old m v r s lt held gives settles st.whole in
-      let g : Shifts old m v r s = shifts old m v r s lt held gives settles st.whole in
+      let w : IsWhole m = shift_whole old m v r s lt held gives sets_alloc st.whole in
+      let g : Shifts old m v r s = shifts old m v r s lt held gives sets_alloc st.whole in
       let ok = may v.number g.was in
-      let stm : Located what far m = shift_stands old m v r s w g what far ok.0 st in
-      let k : Kept old m = shift_kept old m v r s g settles.others settles.here gives.others machine in
+      let stm : Located what far m = located_after_shift old m v r s w g what far ok.0 st in
+      let k : Kept old m = shift_kept old m v r s g sets_alloc.others sets_alloc.here gives.others machine in
       let spm : Spare far.here far.claimed far.made_at t m = spare_kept far.here far.claimed far.made_at t old m k sp in
-      let T : ℕ → Option Place = put (stands_at m) v.number (Some (InRegister r)) in
+      let T : ℕ → Option Place = put (location_at m) v.number (Some (InRegister r)) in
       let there : OwesPlaces tail far.lived far.out far.made_at T (slots_at old) old.edits =
-      owes_same tail far.lived far.out far.made_at (stands_at old) T (slots_at old) old.edits
+      owes_same tail far.lived far.out far.made_at (location_at old) T (slots_at old) old.edits
       (λ x. elim (cases_eq x v.number) [
-        | inl d ↦ (put_same (stands_at m) v.number (Some (InRegister r)) x d ∙ sym g.was ∙ ap (stands_at old) (sym d))
-        | inr d ↦ (put_other (stands_at m) v.number (Some (InRegister r)) x d ∙ g.same x d)
+        | inl d ↦ (put_same (location_at m) v.number (Some (InRegister r)) x d ∙ sym g.was ∙ ap (location_at old) (sym d))
+        | inr d ↦ (put_other (location_at m) v.number (Some (InRegister r)) x d ∙ g.same x d)
       ]) o in
       let om : OwesPlaces tail far.lived far.out far.made_at T (slots_at m) m.edits =
       subst (OwesPlaces tail far.lived far.out far.made_at T (slots_at m)) (sym edits)
@@ -182,13 +183,13 @@ module _ (tail : BlockTail) where
       let sb : ScratchedBut tail what far far.out u by v.number (Some (InRegister r)) m m2 =
       scratch_but tail scratches
       (spm.idle v.class) h (λ e. let same : r ≡ by = cc in apart same)
-      (λ e. let y : InSlot g.number ≡ InRegister by = sym g.is_slot ∙ sym settles.here ∙ e in cc) stm om in
-      let still : stands_at m2 v.number ≡ Some s = ap opt (sb.kept.slotted v.number g.number (settles.here ∙ g.is_slot)) ∙ ap Some (sym g.is_slot) in
+      (λ e. let y : InSlot g.number ≡ InRegister by = sym g.is_slot ∙ sym sets_alloc.here ∙ e in cc) stm om in
+      let still : location_at m2 v.number ≡ Some s = ap opt (sb.kept.slotted v.number g.number (sets_alloc.here ∙ g.is_slot)) ∙ ap Some (sym g.is_slot) in
       let gone : (x : ℕ) → place_in m2 x ≡ InRegister r → ⊥ = λ x e. g.empty x (sb.kept.registers x r e) in
-      let done_it = through_owes what far v.number r by s m2 new apart g.real sb.located sb.idle still gone ok.1 sb.owes in
+      let done_it = scratch_reload_owes what far v.number r by s m2 new apart g.real sb.located sb.idle still gone ok.1 sb.owes in
       let spu : Spare far.here far.claimed far.made_at u m2 = spare_more far.here far.claimed far.made_at (after i) v.class t u by m m2 scratches sb.idle
       sb.kept spm in
-      let all : Kept old m2 = kept_then old m m2 k sb.kept in
+      let all : Kept old m2 = kept_trans old m m2 k sb.kept in
       subst (Cleared what far r u old) (sym en) (record {
         located = record {
           whole = record {
@@ -235,7 +236,7 @@ module _ (tail : BlockTail) where
   pub record Owned (what : ℕ → What) (far : Progress) (r : Register)
       (v : VirtualRegister) (u : InstRegs) (old new : StateValue) : Type 0 where
     pub located : Located what far new
-    pub owes : OwesPlaces tail far.lived far.out far.made_at (stands_at new) (slots_at new) new.edits
+    pub owes : OwesPlaces tail far.lived far.out far.made_at (location_at new) (slots_at new) new.edits
     pub held : Held what far.here far.claimed (held_early u) (held_late u)
     pub only_vreg : (x : ℕ) → place_in new x ≡ InRegister r → x ≡ v.number
     pub kept : Kept old new
@@ -244,10 +245,10 @@ module _ (tail : BlockTail) where
   -- after an eviction that spares one vreg the register has that vreg alone, or none, and the records are kept
   pub evicts_other_vregs_step : (what : ℕ → What) (far : Progress) (r : Register)
       (v : VirtualRegister) (t u : InstRegs) (old new : StateValue) → EvictsOtherVRegs (after i) r v t u old new →
-      ((x : ℕ) → stands_at old x ≡ Some (InRegister r) → (x ≡ v.number → ⊥) → (far.lived x ≡ true) × ((w : ℕ) → far.made_at (InRegister r) w ≡ false)) →
+      ((x : ℕ) → location_at old x ≡ Some (InRegister r) → (x ≡ v.number → ⊥) → (far.lived x ≡ true) × ((w : ℕ) → far.made_at (InRegister r) w ≡ false)) →
       Spare far.here far.claimed far.made_at t old → Fit old →
       Held what far.here far.claimed (held_early t) (held_late t) →
-      Located what far old → OwesPlaces tail far.lived far.out far.made_at (stands_at old) (slots_at old) old.edits →
+      Located what far old → OwesPlaces tail far.lived far.out far.made_at (location_at old) (slots_at old) old.edits →
       Owned what far r v u old new
   evicts_other_vregs_step what far r v t u old new (own w there same eu en) may sp f h st o =
       subst (Owned what far r v u old) (sym en) (record {

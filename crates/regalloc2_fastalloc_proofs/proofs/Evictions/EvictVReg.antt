@@ -8,11 +8,11 @@ use Rattle.regalloc2_names.specs.Place.{Place, NoPlace, InRegister, InSlot, afte
 use Rattle.regalloc2_function.specs.OutputValue.{MoveValue}
 use Rattle.regalloc2_carry.specs.OperandsPlaced.{What, Progress}
 use Rattle.regalloc2_fastalloc_state.specs.declared.inst_regs.InstRegs.{InstRegs}
-use Rattle.regalloc2_fastalloc_proofs.specs.InstSteps.{StateValue, SameMachine, EvictsVReg, nobody, moved}
+use Rattle.regalloc2_fastalloc_proofs.specs.InstSteps.{StateValue, SameMachine, EvictsVReg, none_held, moved}
 use Rattle.regalloc2_fastalloc_proofs.specs.Safety.{IsWhole}
 use Rattle.regalloc2_fastalloc_proofs.proofs.Safety.StepsKeepState.{place_in, slot_in}
-use Rattle.regalloc2_fastalloc_proofs.proofs.Operands.RecordOverState.{stands_at, slots_at, opt_from, Located, OwesPlaces, Shifts, shifts, shift_whole}
-use Rattle.regalloc2_fastalloc_proofs.proofs.Operands.RecordOverState.{shift_stands, shift_owes}
+use Rattle.regalloc2_fastalloc_proofs.proofs.Operands.RecordOverState.{location_at, slots_at, opt_from, Located, OwesPlaces, Shifts, shifts, shift_whole}
+use Rattle.regalloc2_fastalloc_proofs.proofs.Operands.RecordOverState.{located_after_shift, shift_owes}
 use Rattle.regalloc2_fastalloc_proofs.proofs.Operands.BlockTail.{BlockTail}
 
 -- what is held at the two positions: registers that aren't free; slots always are
@@ -110,23 +110,24 @@ shift_kept old new v r s h others here slots machine =
 module _ (tail : BlockTail) where
   open tail use {Known, insts, placesf, i, n, E}
 
-  -- a register is emptied whose vreg was live, and in which no definition is placed; what the listing carries may be stated of tables in which
-  -- another vreg is elsewhere
+  -- a register is emptied whose vreg was live, and in which no definition is placed; what the listing carries may be
+  -- stated of tables in which another vreg is elsewhere
   pub record Emptied (what : ℕ → What) (far : Progress) (r : Register)
       (old new : StateValue) : Type 0 where
     pub located : Located what far new
-    pub owes : OwesPlaces tail far.lived far.out far.made_at (stands_at new) (slots_at new) new.edits
+    pub owes : OwesPlaces tail far.lived far.out far.made_at (location_at new) (slots_at new) new.edits
     pub empty : (x : ℕ) → place_in new x ≡ InRegister r → ⊥
     pub others : (x : ℕ) → (place_in old x ≡ InRegister r → ⊥) → place_in new x ≡ place_in old x
     pub kept : Kept old new
 
-  -- evicting an allocatable register empties it, moves no other vreg, and keeps the record of the operands with the reload listed
+  -- evicting an allocatable register empties it, moves no other vreg, and keeps the record of the operands with the
+  -- reload listed
   pub evicts_vreg_step : (what : ℕ → What) (far : Progress) (r : Register)
       (old new : StateValue) → EvictsVReg (after i) r old new →
-      ((x : ℕ) → stands_at old x ≡ Some (InRegister r) → (far.lived x ≡ true) × ((u : ℕ) → far.made_at (InRegister r) u ≡ false)) →
-      Located what far old → OwesPlaces tail far.lived far.out far.made_at (stands_at old) (slots_at old) old.edits →
+      ((x : ℕ) → location_at old x ≡ Some (InRegister r) → (far.lived x ≡ true) × ((u : ℕ) → far.made_at (InRegister r) u ≡ false)) →
+      Located what far old → OwesPlaces tail far.lived far.out far.made_at (location_at old) (slots_at old) old.edits →
       Emptied what far r old new
-  evicts_vreg_step what far r old new (nobody none same) may st o =
+  evicts_vreg_step what far r old new (none_held none same) may st o =
       subst (Emptied what far r old) (sym same) (record {
         located = st;
         owes = o;
@@ -134,15 +135,15 @@ module _ (tail : BlockTail) where
         others = λ x h. refl;
         kept = kept_all old;
       })
-  evicts_vreg_step what far r old new (moved v s lt held gives settles edits machine order) may st o =
-      let w : IsWhole new = shift_whole old new v r s lt held gives settles st.whole in
-      let h : Shifts old new v r s = shifts old new v r s lt held gives settles st.whole in
+  evicts_vreg_step what far r old new (moved v s lt held gives sets_alloc edits machine order) may st o =
+      let w : IsWhole new = shift_whole old new v r s lt held gives sets_alloc st.whole in
+      let h : Shifts old new v r s = shifts old new v r s lt held gives sets_alloc st.whole in
       let m = may v.number h.was in
       record {
-        located = shift_stands old new v r s w h what far m.0 st;
-        owes = subst (OwesPlaces tail far.lived far.out far.made_at (stands_at new) (slots_at new)) (sym edits)
+        located = located_after_shift old new v r s w h what far m.0 st;
+        owes = subst (OwesPlaces tail far.lived far.out far.made_at (location_at new) (slots_at new)) (sym edits)
             (shift_owes tail old new v r s h far.lived far.out far.made_at old.edits m.1 o);
         empty = h.empty;
-        others = λ x ne. settles.others x (λ e. ne (opt_from (place_in old x) (InRegister r) (ap (stands_at old) e ∙ h.was)));
-        kept = shift_kept old new v r s h settles.others settles.here gives.others machine;
+        others = λ x ne. sets_alloc.others x (λ e. ne (opt_from (place_in old x) (InRegister r) (ap (location_at old) e ∙ h.was)));
+        kept = shift_kept old new v r s h sets_alloc.others sets_alloc.here gives.others machine;
       }

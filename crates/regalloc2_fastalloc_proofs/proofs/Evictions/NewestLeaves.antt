@@ -8,7 +8,7 @@ use Rattle.regalloc2_names.specs.Place.{Place, NoPlace, InRegister, InSlot, is_i
 use Rattle.regalloc2_fastalloc_state.specs.StateParts.{VRegAllocsValue, SetsAlloc, IsSlotOrNone, IsNewest, in_front_if, without}
 use Rattle.regalloc2_fastalloc_state.specs.declared.inst_regs.InstRegs.{InstRegs}
 use Rattle.regalloc2_fastalloc_state.proofs.TakenOut.{length_kept, shorter}
-use Rattle.regalloc2_fastalloc_proofs.specs.InstSteps.{StateValue, EvictsVReg, nobody, moved, AllocsScratchReg}
+use Rattle.regalloc2_fastalloc_proofs.specs.InstSteps.{StateValue, EvictsVReg, none_held, moved, AllocsScratchReg}
 use Rattle.regalloc2_fastalloc_proofs.specs.InstSteps.{dedicated_scratch, had, found, AddsMove, direct, through, EvictsPReg, empty, cleared}
 
 -- a slot is no register
@@ -30,9 +30,9 @@ no_longer old new v s count slot z = rw (order_after old new v s count slot z) (
 -- an eviction doesn't make the list longer
 evicts_vreg_no_longer : (point : ℕ) (by : Register) (old new : StateValue) → EvictsVReg point by old new →
     length new.places.in_registers ≤ length old.places.in_registers
-evicts_vreg_no_longer point by old new (nobody h e) = rw e (omega arith)
-evicts_vreg_no_longer point by old new (moved v s small h gives settles edits machine order) =
-    no_longer old.places new.places v s new.slots.count gives.below settles
+evicts_vreg_no_longer point by old new (none_held h e) = rw e (omega arith)
+evicts_vreg_no_longer point by old new (moved v s small h gives sets_alloc edits machine order) =
+    no_longer old.places new.places v s new.slots.count gives.below sets_alloc
 
 allocs_scratch_reg_no_longer : (point : ℕ) (class : RegClass) (t u : InstRegs) (by : Register) (old new : StateValue) →
     AllocsScratchReg point class t u by old new →
@@ -51,11 +51,11 @@ adds_move_no_longer point class from to t u old new (through by m b s e) = rw e 
 pub newest_leaves : (point : ℕ) (by : Register) (t u : InstRegs) (old new : StateValue) → EvictsPReg point by t u old new → IsNewest old.places by →
     length new.places.in_registers < length old.places.in_registers
 newest_leaves point by t u old new (empty h e f) n = absurd (let held = n.held in cc)
-newest_leaves point by t u old new (cleared v s m small h gives settles edits machine order crosses) n =
+newest_leaves point by t u old new (cleared v s m small h gives sets_alloc edits machine order crosses) n =
     let same : n.vreg ≡ v = (let e : Some n.vreg ≡ Some v = sym n.held ∙ h in cc) in
     let there : Contains old.places.in_registers v = rw n.newest (0, omega arith, same) in
     let self : nat_eq v.number v.number ≡ true = eq-eqb v.number v.number refl in
     let less : length (without v.number old.places.in_registers) < length old.places.in_registers =
     shorter (λ w. not (nat_eq w.number v.number)) old.places.in_registers v there (ap not self) in
-    let one : length m.places.in_registers < length old.places.in_registers = rw (order_after old.places m.places v s m.slots.count gives.below settles) less in
+    let one : length m.places.in_registers < length old.places.in_registers = rw (order_after old.places m.places v s m.slots.count gives.below sets_alloc) less in
     let two = adds_move_no_longer point v.class s (InRegister by) t u m new crosses in omega (arith, one, two)

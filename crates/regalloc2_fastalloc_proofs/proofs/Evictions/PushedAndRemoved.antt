@@ -10,15 +10,15 @@ use Rattle.regalloc2_function.specs.OutputValue.{MoveValue}
 use Rattle.regalloc2_semantics.proofs.Cells.{is_place-same, is_place-other}
 use Rattle.regalloc2_fastalloc_state.specs.StateParts.{VRegAllocsValue, alloc_of, vreg_of_preg, SetsAlloc, IsSlotOrNone}
 use Rattle.regalloc2_fastalloc_state.specs.declared.inst_regs.InstRegs.{InstRegs}
-use Rattle.regalloc2_fastalloc_proofs.specs.InstSteps.{StateValue, SameMachine, a_move, EvictsVReg, nobody, moved, AllocsScratchReg, dedicated_scratch, had}
+use Rattle.regalloc2_fastalloc_proofs.specs.InstSteps.{StateValue, SameMachine, a_move, EvictsVReg, none_held, moved, AllocsScratchReg, dedicated_scratch, had}
 use Rattle.regalloc2_fastalloc_proofs.specs.InstSteps.{found, AddsMove, direct, through, EvictsPReg, empty, cleared}
 
 -- a vreg whose new location is no register leaves empty registers empty
 sets_alloc_stays_empty : (old new : VRegAllocsValue) (v : VirtualRegister) (s : Place) (r : Register) → r.number < 64 → (s ≡ InRegister r → ⊥) →
     SetsAlloc old new v s →
     vreg_of_preg old r ≡ None → vreg_of_preg new r ≡ None
-sets_alloc_stays_empty old new v s r lt slot settles none =
-    settles.holders r lt ∙ rw (is_place-other s (InRegister r) slot) (either (is_place (alloc_of old v.number) (InRegister r)) (vreg_of_preg old r) none)
+sets_alloc_stays_empty old new v s r lt slot sets_alloc none =
+    sets_alloc.holders r lt ∙ rw (is_place-other s (InRegister r) slot) (either (is_place (alloc_of old v.number) (InRegister r)) (vreg_of_preg old r) none)
   where
     either : (b : Bool) (o : Option VirtualRegister) → o ≡ None → (if b then None else o) ≡ None
     either true o e = refl
@@ -27,8 +27,8 @@ sets_alloc_stays_empty old new v s r lt slot settles none =
 -- the register of a vreg that moves to a slot is empty afterwards
 pub sets_alloc_empties : (old new : VRegAllocsValue) (v : VirtualRegister) (s : Place) (r : Register) → r.number < 64 → (s ≡ InRegister r → ⊥) →
     alloc_of old v.number ≡ InRegister r → SetsAlloc old new v s → vreg_of_preg new r ≡ None
-sets_alloc_empties old new v s r lt slot there settles =
-    settles.holders r lt ∙ rw (is_place-other s (InRegister r) slot, ap (λ (p : Place). is_place p (InRegister r)) there ∙ is_place-same (InRegister r)) refl
+sets_alloc_empties old new v s r lt slot there sets_alloc =
+    sets_alloc.holders r lt ∙ rw (is_place-other s (InRegister r) slot, ap (λ (p : Place). is_place p (InRegister r)) there ∙ is_place-same (InRegister r)) refl
 
 -- a register is removed from the sets of both positions
 pub left_of_both : (set mid new : PRegSet) (by : Register) (b : Bool) → b ≡ true →
@@ -38,15 +38,15 @@ left_of_both set mid new by b e h same = λ q. ap (λ (s : PRegSet). has_registe
     ∙ ap (λ (x : Bool). not (x && is_register by q) && has_register set q) e
 
 -- two vregs in one entry of the table of registers have one number
-pub same_held : (v w : VirtualRegister) (o : Option VirtualRegister) → o ≡ Some v → o ≡ Some w → v.number ≡ w.number
-same_held v w o e f = let s : Some v ≡ Some w = sym e ∙ f in let same : v ≡ w = cc in ap (λ (x : VirtualRegister). x.number) same
+pub vreg_of_preg_unique : (v w : VirtualRegister) (o : Option VirtualRegister) → o ≡ Some v → o ≡ Some w → v.number ≡ w.number
+vreg_of_preg_unique v w o e f = let s : Some v ≡ Some w = sym e ∙ f in let same : v ≡ w = cc in ap (λ (x : VirtualRegister). x.number) same
 
 -- an eviction leaves empty registers empty
 pub evicts_vreg_empty : (point : ℕ) (by : Register) (old new : StateValue) → EvictsVReg point by old new → (r : Register) → r.number < 64 →
     vreg_of_preg old.places r ≡ None → vreg_of_preg new.places r ≡ None
-evicts_vreg_empty point by old new (nobody h e) r lt none = ap (λ (t : StateValue). vreg_of_preg t.places r) e ∙ none
-evicts_vreg_empty point by old new (moved v s small h gives settles edits machine order) r lt none =
-    sets_alloc_stays_empty old.places new.places v s r lt (λ e. subst (IsSlotOrNone new.slots.count) e gives.below) settles none
+evicts_vreg_empty point by old new (none_held h e) r lt none = ap (λ (t : StateValue). vreg_of_preg t.places r) e ∙ none
+evicts_vreg_empty point by old new (moved v s small h gives sets_alloc edits machine order) r lt none =
+    sets_alloc_stays_empty old.places new.places v s r lt (λ e. subst (IsSlotOrNone new.slots.count) e gives.below) sets_alloc none
 
 allocs_scratch_reg_empty : (point : ℕ) (class : RegClass) (t u : InstRegs) (by : Register) (old new : StateValue) → AllocsScratchReg point class t u by old new
     → (r : Register) → r.number < 64 → vreg_of_preg old.places r ≡ None → vreg_of_preg new.places r ≡ None
@@ -65,9 +65,9 @@ adds_move_empty point class from to t u old new (through by m b s e) r lt none =
 pub evicts_preg_empty : (point : ℕ) (by : Register) (t u : InstRegs) (old new : StateValue) → EvictsPReg point by t u old new → (r : Register) → r.number < 64 →
     vreg_of_preg old.places r ≡ None → vreg_of_preg new.places r ≡ None
 evicts_preg_empty point by t u old new (empty h f e) r lt none = ap (λ (m : StateValue). vreg_of_preg m.places r) e ∙ none
-evicts_preg_empty point by t u old new (cleared v s m small h gives settles edits machine order crosses) r lt none =
+evicts_preg_empty point by t u old new (cleared v s m small h gives sets_alloc edits machine order crosses) r lt none =
     adds_move_empty point v.class s (InRegister by) t u m new crosses r lt
-    (sets_alloc_stays_empty old.places m.places v s r lt (λ e. subst (IsSlotOrNone m.slots.count) e gives.below) settles none)
+    (sets_alloc_stays_empty old.places m.places v s r lt (λ e. subst (IsSlotOrNone m.slots.count) e gives.below) sets_alloc none)
 
 -- an option that has no item is none
 pub no_some : {X : Type 0} (o : Option X) → ((x : X) → o ≡ Some x → ⊥) → o ≡ None
@@ -87,8 +87,8 @@ two_pushed point got by from to es one two e f g =
     ∙ ap (λ p. es ++ a_move point p to ∷ a_move point from p ∷ []) e
 
 -- two steps that each keep the machine, the sizes of slots and the number of vregs keep them together
-pub same_then : (a b c : StateValue) → SameMachine a b → SameMachine b c → SameMachine a c
-same_then a b c f g = record {
+pub same_machine_trans : (a b c : StateValue) → SameMachine a b → SameMachine b c → SameMachine a c
+same_machine_trans a b c f g = record {
   allocatable = g.allocatable ∙ f.allocatable;
   fixed_stack = g.fixed_stack ∙ f.fixed_stack;
   dedicated_scratch = g.dedicated_scratch

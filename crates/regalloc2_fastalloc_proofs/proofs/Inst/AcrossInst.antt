@@ -22,7 +22,7 @@ use Rattle.regalloc2_fastalloc_state.specs.StateParts.{SpillSlotsValue, slot_nam
 use Rattle.regalloc2_fastalloc_proofs.specs.InstSteps.{StateValue}
 use Rattle.regalloc2_fastalloc_proofs.specs.Safety.{IsWhole}
 use Rattle.regalloc2_fastalloc_proofs.proofs.Safety.StepsKeepState.{place_in, slot_in, away_holds, away_stands, arrive_holds, arrive_stands, slot_no_register}
-use Rattle.regalloc2_fastalloc_proofs.proofs.Operands.RecordOverState.{opt, opt_some, opt_from, opt_real, stands_at, slots_at, Located, OwesPlaces}
+use Rattle.regalloc2_fastalloc_proofs.proofs.Operands.RecordOverState.{opt, opt_some, opt_from, opt_real, location_at, slots_at, Located, OwesPlaces}
 use Rattle.regalloc2_fastalloc_proofs.proofs.Operands.BlockTail.{BlockTail}
 
 -- the slots stay
@@ -76,8 +76,8 @@ pub use_arrives : (what : ℕ → What) (far : Progress) (done2 : ℕ → Bool) 
     → Located what far old → Located what (record far { done = done2 }) new
 use_arrives what far done2 old new k v u same real nowhere unmade z slots w st = record {
   whole = w;
-  placed = subst (λ (s : SpillSlotsValue). Placed what (record far { done = done2 }) (stands_at new) (λ x. opt (slot_name s x))) (sym slots)
-      (step_new what far done2 (stands_at old) (stands_at new) (slots_at old) k u.claims u.is_use
+  placed = subst (λ (s : SpillSlotsValue). Placed what (record far { done = done2 }) (location_at new) (λ x. opt (slot_name s x))) (sym slots)
+      (step_new what far done2 (location_at old) (location_at new) (slots_at old) k u.claims u.is_use
       (ap opt (ap (place_in old) same ∙ nowhere)) unmade u.places
       (record {
         now = ap opt (ap (place_in new) same ∙ z.here) ∙ opt_some (far.here k) real;
@@ -89,14 +89,15 @@ use_arrives what far done2 old new k v u same real nowhere unmade z slots w st =
 
 -- the live vregs when an instruction begins: the vregs that have a location
 abbrev pub lives_in : StateValue → ℕ → Bool
-lives_in t x = is_some (stands_at t x)
+lives_in t x = is_some (location_at t x)
 
--- before any operand of an instruction is allocated, the record of its operands holds, and vregs with a location are live
-pub begin_stands : (what : ℕ → What) (here : ℕ → Place) (t : StateValue) → IsWhole t →
+-- before any operand of an instruction is allocated, the record of its operands holds, and vregs with a location are
+-- live
+pub located_at_begin : (what : ℕ → What) (here : ℕ → Place) (t : StateValue) → IsWhole t →
     Located what (at_begin here (lives_in t)) t
-begin_stands what here t w = record {
+located_at_begin what here t w = record {
   whole = w;
-  placed = begin_all what here (lives_in t) (stands_at t) (slots_at t) (λ x. refl);
+  placed = begin_all what here (lives_in t) (location_at t) (slots_at t) (λ x. refl);
   below = λ j k c e. absurd cc;
   unclobbered = λ k. refl;
 }
@@ -106,11 +107,11 @@ module _ (tail : BlockTail) where
 
   -- the listing from the next instruction on
   pub begin_owes : (t : StateValue) → AllFrom (before (i + 1)) (listed t.edits) →
-      Claims Known (walked insts (at_point (listed t.edits)) placesf (i + 1) n) (Need (lives_in t) (λ x. false) (λ p x. false) (stands_at t) (slots_at t)) E →
-      OwesPlaces tail (lives_in t) (λ x. false) (λ p x. false) (stands_at t) (slots_at t) t.edits
+      Claims Known (walked insts (at_point (listed t.edits)) placesf (i + 1) n) (Need (lives_in t) (λ x. false) (λ p x. false) (location_at t) (slots_at t)) E →
+      OwesPlaces tail (lives_in t) (λ x. false) (λ p x. false) (location_at t) (slots_at t) t.edits
   begin_owes t later c = record {
     later = all_from-less (after i) (before (i + 1)) (listed t.edits) (omega arith) later;
-    claims = subst (λ l. Claims Known l (Need (lives_in t) (λ x. false) (λ p x. false) (stands_at t) (slots_at t)) E)
+    claims = subst (λ l. Claims Known l (Need (lives_in t) (λ x. false) (λ p x. false) (location_at t) (slots_at t)) E)
         (sym (after_part-clean insts (listed t.edits) placesf i n later)) c;
   }
 
@@ -118,11 +119,11 @@ module _ (tail : BlockTail) where
   pub cross_stands : (ops : List OperandValue) (places : List Place) (clobbers : PRegSet) (far : Progress) (t : StateValue) →
       Knows Known ops → Once (Counts ops) (what_of ops) → AreAllPlaced ops places far →
       ((p : Place) → far.clobbered p ≡ false → is_clobbered clobbers p ≡ false) →
-      Located (what_of ops) far t → OwesPlaces tail far.lived far.out far.made_at (stands_at t) (slots_at t) t.edits →
+      Located (what_of ops) far t → OwesPlaces tail far.lived far.out far.made_at (location_at t) (slots_at t) t.edits →
       Claims Known (Exec ops places clobbers ∷ after_part insts (listed t.edits) placesf i n)
-      (Pending (what_of ops) far.here far.done far.out (stands_at t) (slots_at t) 0) E
+      (Pending (what_of ops) far.here far.done far.out (location_at t) (slots_at t) 0) E
   cross_stands ops places clobbers far t knows once all clobbered st o =
-      cross_all Known ops places clobbers far (stands_at t) (slots_at t) (after_part insts (listed t.edits) placesf i n) E
+      cross_all Known ops places clobbers far (location_at t) (slots_at t) (after_part insts (listed t.edits) placesf i n) E
       knows st.placed once all
       (record {
         listed = clobbered;

@@ -22,11 +22,11 @@ use Rattle.regalloc2_fastalloc_proofs.specs.InstSteps.{StateValue, NeedsFixedReg
 use Rattle.regalloc2_fastalloc_proofs.specs.InstSteps.{AllocsInst, ends_block}
 use Rattle.regalloc2_fastalloc_proofs.specs.Safety.{IsWhole}
 use Rattle.regalloc2_fastalloc_proofs.proofs.Safety.StepsKeepState.{place_in}
-use Rattle.regalloc2_fastalloc_proofs.proofs.Operands.RecordOverState.{opt_from, stands_at, slots_at, Located, OwesPlaces}
+use Rattle.regalloc2_fastalloc_proofs.proofs.Operands.RecordOverState.{opt_from, location_at, slots_at, Located, OwesPlaces}
 use Rattle.regalloc2_fastalloc_proofs.proofs.Evictions.EvictVReg.{Kept, kept_all}
-use Rattle.regalloc2_fastalloc_proofs.proofs.Moves.ScratchRegTaken.{of_machine, taken, Fit, Less, less_same, less_then, and_none}
-use Rattle.regalloc2_fastalloc_proofs.proofs.Evictions.EvictPReg.{kept_then}
-use Rattle.regalloc2_fastalloc_proofs.proofs.Inst.AcrossInst.{lives_in, begin_stands, begin_owes}
+use Rattle.regalloc2_fastalloc_proofs.proofs.Moves.ScratchRegTaken.{of_machine, taken, Fit, Less, less_same, less_trans, and_none}
+use Rattle.regalloc2_fastalloc_proofs.proofs.Evictions.EvictPReg.{kept_trans}
+use Rattle.regalloc2_fastalloc_proofs.proofs.Inst.AcrossInst.{lives_in, located_at_begin, begin_owes}
 use Rattle.regalloc2_fastalloc_proofs.proofs.Operands.RecordOfInst.{Orderly, Waits, of_fixed, of_reuse, Laid}
 use Rattle.regalloc2_fastalloc_proofs.proofs.Evictions.EvictKeepsRecord.{ready_evicts_preg}
 use Rattle.regalloc2_fastalloc_proofs.proofs.Evictions.EvictFixed.{begun, Reserved, claims_at, Start, FixedUpTo, evicts_fixed_done, all_lived}
@@ -59,11 +59,11 @@ no_scratch u Float q e h = let x : None ≡ Some q = ap (λ l. slice_index_or l 
 no_scratch u Vector q e h = let x : None ≡ Some q = ap (λ l. slice_index_or l 2 None) (sym e) ∙ h in cc
 
 -- clobbers: no live vreg is in one, and no operand has claimed one that it writes or reads late
-pub clob_stands : (what : ℕ → What) (far : Progress) (clob2 : Place → Bool) (t : StateValue) →
+pub located_after_clobbers : (what : ℕ → What) (far : Progress) (clob2 : Place → Bool) (t : StateValue) →
     ((j : ℕ) → far.claimed j ≡ true → ((what j).is_def ≡ true) ⊎ ((what j).is_late ≡ true) → clob2 (far.here j) ≡ false) →
-    ((w : ℕ) (p : Place) → stands_at t w ≡ Some p → clob2 p ≡ false) → ((k : ℕ) → clob2 (InSlot k) ≡ false) →
+    ((w : ℕ) (p : Place) → location_at t w ≡ Some p → clob2 p ≡ false) → ((k : ℕ) → clob2 (InSlot k) ≡ false) →
     Located what far t → Located what (record far { clobbered = clob2 }) t
-clob_stands what far clob2 t kept cleared unclobbered st = record {
+located_after_clobbers what far clob2 t kept cleared unclobbered st = record {
   whole = st.whole;
   placed = record {
     there = st.placed.there;
@@ -90,12 +90,13 @@ late_by : (d l : Bool) → (d ≡ true) ⊎ (l ≡ true) → (d || l) ≡ true
 late_by d l h = elim h [ inl e ↦ or_left d l e | inr e ↦ or_right d l e ]
 
 module _ (Known : VirtualRegister → Type 0) (insts : ℕ → InstValue) (placesf : ℕ → List Place) (E : VirtualRegister → Place → Type 0) where
-  -- What holds before the instruction i, with n instructions from it on: no move is before it, the listing carries each known vreg from its location and,
-  -- unless out excludes it, from its slot, and no vreg is in a register reserved for moves.
+  -- What holds before the instruction i, with n instructions from it on: no move is before it, the listing carries each
+  -- known vreg from its location and, unless out excludes it, from its slot, and no vreg is in a register reserved for
+  -- moves.
   pub record CarriedBut (out : ℕ → Bool) (i n : ℕ) (t : StateValue) : Type 0 where
     pub whole : IsWhole t
     pub later : AllFrom (before i) (listed t.edits)
-    pub claims : Claims Known (walked insts (at_point (listed t.edits)) placesf i n) (Need (lives_in t) out (λ p x. false) (stands_at t) (slots_at t)) E
+    pub claims : Claims Known (walked insts (at_point (listed t.edits)) placesf i n) (Need (lives_in t) out (λ p x. false) (location_at t) (slots_at t)) E
     pub fit : Fit t
     pub apart : (c : RegClass) (b : Register) → slice_index_or t.dedicated_scratch (class_code c) None ≡ Some b → (x : ℕ) → place_in t x ≡ InRegister b → ⊥
 
@@ -116,12 +117,12 @@ module _ (tail : BlockTail) where
       b.scratch ≡ None ∷ None ∷ None ∷ [] →
       FixedUpTo tail ops (lives_in t) ends_block b t 0 b t
   start ops ends_block b t c ends none =
-      let owes : OwesPlaces tail (lives_in t) (λ x. false) (λ p x. false) (stands_at t) (slots_at t) t.edits = begin_owes tail t c.later c.claims in
+      let owes : OwesPlaces tail (lives_in t) (λ x. false) (λ p x. false) (location_at t) (slots_at t) t.edits = begin_owes tail t c.later c.claims in
       record {
         here = λ j. NoPlace;
         claimed = λ j. false;
         ready = record {
-          located = begin_stands (what_of ops) (λ j. NoPlace) t c.whole;
+          located = located_at_begin (what_of ops) (λ j. NoPlace) t c.whole;
           owes = owes;
           nowhere_needed = λ e. subst (λ l. Claims Known l (λ x p. ⊥) E) (sym (after_part-clean insts (listed t.edits) placesf i n c.later)) (ends e);
           held = record { early_uses = λ j x u. absurd cc; early_defs = λ j x u. absurd cc; late_defs = λ j x u. absurd cc; late_uses = λ j x u. absurd cc };
@@ -167,8 +168,8 @@ module _ (tail : BlockTail) where
       let y : Quieted ops here claimed lived ends_block qs w u m new = all_cleared ops here claimed lived ends_block qs w u m new rest c.0.ready in
       record {
         ready = y.ready;
-        kept = kept_then old m new c.0.kept y.kept;
-        less = less_then t w u c.0.less y.less;
+        kept = kept_trans old m new c.0.kept y.kept;
+        less = less_trans t w u c.0.less y.less;
         emptied = λ r has x e. by_index has.0 r has.1 has.2 x e y.emptied (λ z h. c.1 z (y.kept.registers z q h));
       }
     where
@@ -197,7 +198,7 @@ module _ (tail : BlockTail) where
       a.after_clobbers
       a.prepares.emptied
       x.ready in
-      let less : Less a.prepares.held a.quiet = less_then a.prepares.held a.prepares.cleared a.quiet x.less y.less in
+      let less : Less a.prepares.held a.quiet = less_trans a.prepares.held a.prepares.cleared a.quiet x.less y.less in
       record {
         here = x.here;
         claimed = x.claimed;
@@ -205,7 +206,7 @@ module _ (tail : BlockTail) where
         out = λ w. false;
         X = λ p w. false;
         ready = record {
-          located = clob_stands (what_of ops) (begun x.here x.claimed (lives_in old)) (is_clobbered inst.clobbers) a.after_clobbers
+          located = located_after_clobbers (what_of ops) (begun x.here x.claimed (lives_in old)) (is_clobbered inst.clobbers) a.after_clobbers
               (λ j k h. let t = (x.took j k).1 in
               let p : Positions = positions_of (op_at ops j) in
               let f : NeedsFixedReg ops j t.0 p = subst (NeedsFixedReg ops j t.0) (claims_at ops j t.0 t.2.at o t.2.within t.2.claims) t.2.claims in

@@ -1,4 +1,5 @@
--- What the lemmas about one instruction require of all instructions of a function, and why a well-formed function meets it.
+-- What the lemmas about one instruction require of all instructions of a function, and why a well-formed function meets
+-- it.
 use Rattle.std.proofs.Common.{ℕ, ◌<◌, List, length}
 use Rattle.std.proofs.lemmas.List.Elements.{All-get_or}
 use Rattle.regalloc2_names.specs.Register.{VirtualRegister}
@@ -13,7 +14,8 @@ use Rattle.regalloc2_fastalloc_proofs.proofs.Operands.WellFormedInsts as well_fo
 use Rattle.regalloc2_fastalloc_proofs.proofs.Evictions.FixedAvoidClobbers as fixed
 use Rattle.regalloc2_fastalloc_proofs.proofs.Inst.BoundaryToFirstOperand.{AvoidClobbers}
 
--- each instruction's operands are orderly, no fixed register is a clobber where that matters, and the vregs that they name are known
+-- each instruction's operands are orderly, no fixed register is a clobber where that matters, and the vregs that they
+-- name are known
 pub record ProperInsts (Known : VirtualRegister → Type 0) (f : FunctionValue) : Type 0 where
   pub orderly : (i : ℕ) → i < length f.insts → Orderly (inst_at f i).operands
   pub avoids : (i : ℕ) → i < length f.insts → AvoidClobbers (inst_at f i).operands (inst_at f i).clobbers

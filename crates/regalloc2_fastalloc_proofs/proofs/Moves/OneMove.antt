@@ -19,16 +19,16 @@ abbrev from_to : Place → Place → Place × Place × Unit {0}
 from_to p q = (p, q, tt)
 
 -- the move from p to q, made through a third place
-abbrev move_through : Place → Place → Place → Moves
-move_through p q by = from_to p by ∷ from_to by q ∷ []
+abbrev move_by_way_of : Place → Place → Place → Moves
+move_by_way_of p q by = from_to p by ∷ from_to by q ∷ []
 
 -- the move brings to q what was at p
-passed_there : (p q by : Place) → in_turn (ends_of (move_through p q by)) own_names q ≡ p
+target_after_way : (p q by : Place) → in_turn (ends_of (move_by_way_of p q by)) own_names q ≡ p
 unfolding in_turn
-passed_there p q by = rw (is_place-same q, is_place-same by) refl
+target_after_way p q by = rw (is_place-same q, is_place-same by) refl
 
 -- the move leaves each place alone but q and the register that it goes through
-passed_other : (p q by x : Place) → q ≢ x → by ≢ x → in_turn (ends_of (move_through p q by)) own_names x ≡ x
+passed_other : (p q by x : Place) → q ≢ x → by ≢ x → in_turn (ends_of (move_by_way_of p q by)) own_names x ≡ x
 unfolding in_turn
 passed_other p q by x other aside = rw (is_place-other q x other, is_place-other by x aside) refl
 
@@ -44,7 +44,7 @@ module _ (inst_regs : InstRegs) (class : RegClass) (t : StateValue) (from to : P
   plain = ⊎_elim (λ own. apart.dedicated_scratch class by own) (λ free. apart.allocatable by free.0.allocatable) scratch
 
   -- made through the scratch register, it does what the given parallel moves do
-  orders_one : OrdersMoves inst_regs class (from_to from to ∷ []) (move_through from to (InRegister by)) t t
+  orders_one : OrdersMoves inst_regs class (from_to from to ∷ []) (move_by_way_of from to (InRegister by)) t t
   orders_one = record {
     places = refl;
     edits = refl;
@@ -56,8 +56,8 @@ module _ (inst_regs : InstRegs) (class : RegClass) (t : StateValue) (from to : P
     grows = omega arith;
     assigned = λ m c.
         let e = only_one (from_to from to) m c in
-        ap (λ (n : Place × Place × Unit {0}). in_turn (ends_of (move_through from to (InRegister by))) own_names n.1) (sym e)
-        ∙ passed_there from to (InRegister by) ∙ ap (λ (n : Place × Place × Unit {0}). n.0) e;
+        ap (λ (n : Place × Place × Unit {0}). in_turn (ends_of (move_by_way_of from to (InRegister by))) own_names n.1) (sym e)
+        ∙ target_after_way from to (InRegister by) ∙ ap (λ (n : Place × Place × Unit {0}). n.0) e;
     kept = λ q real other free. passed_other from to (InRegister by) q (free (from_to from to) (0, omega arith, refl)) (λ e. other (inl (by, sym e, scratch)));
     each = All-cons (IsOrdered inst_regs class (from_to from to ∷ []) t t) (from_to from (InRegister by)) (from_to (InRegister by) to ∷ [])
         (record {
@@ -86,7 +86,7 @@ pushes_one inst_regs class t new given from to by point one between apart scratc
     let ends : IsSlotBelow t.slots.count from × IsSlotBelow t.slots.count to =
     subst (λ (ms : Moves). AreBetweenSlots t.slots.count ms) one between 0 (from_to from to) (omega arith) in
     subst (λ (ms : Moves). Pushes point inst_regs class ms t new) (sym one) (record {
-      made = move_through from to (InRegister by);
+      made = move_by_way_of from to (InRegister by);
       middle = t;
       orders = orders_one inst_regs class t from to by ends.0 ends.1 apart scratch;
       pushes = rest ∙ ap (λ (es : List (ℕ × MoveValue)). record t { edits = es }) edits;

@@ -147,8 +147,9 @@ pub found_or : (regs : AllocatableRegsValue) (class : RegClass) (free : PRegSet)
 found_or regs class free None h = h
 found_or regs class free (Some r) h = inr h
 
--- A scratch pair that was found for a class: its first place is the register first, the dedicated one or the least recently used one of those that are free;
--- its second place, if it has one, is the least recently used one of the rest.
+-- A scratch pair that was found for a class: its first place is the register first, the dedicated one or the least
+-- recently used one of those that are free; its second place, if it has one, is the least recently used one of the
+-- rest.
 pub record PairFound : Type 0 where
   pub inst_regs : InstRegs
   pub t : StateValue
@@ -299,8 +300,8 @@ orders_none inst_regs class old given listed made scratch is none same = record 
   idle = λ e. (same ∙ none, refl);
 }
 
--- Given slot-to-slot moves of a class, and the scratch resources to make them: a scratch pair of two places, the next temporary slots, and a register that
--- is borrowed.
+-- Given slot-to-slot moves of a class, and the scratch resources to make them: a scratch pair of two places, the next
+-- temporary slots, and a register that is borrowed.
 pub record GivenMoves : Type 0 where
   pub inst_regs : InstRegs
   pub class : RegClass
@@ -315,7 +316,8 @@ pub record GivenMoves : Type 0 where
   pub fixed : l.fixed_stack ≡ old.fixed_stack
   pub borrowed : MayHold old class l.borrowed
 
--- The result: the tables, with the temporary slots that were taken, two at most; the moves that the resolver lists, and the moves that were made.
+-- The result: the tables, with the temporary slots that were taken, two at most; the moves that the resolver lists, and
+-- the moves that were made.
 pub record MadeMoves (moves : GivenMoves) : Type 0 where
   pub new : StateValue
   pub taken : ℕ

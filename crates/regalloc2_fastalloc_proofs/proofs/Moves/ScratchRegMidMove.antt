@@ -17,11 +17,11 @@ use Rattle.regalloc2_carry.proofs.BoundaryToBoundary.{FreeAt, scratch_idle}
 use Rattle.regalloc2_carry.proofs.PushedMoves.{after_part-more}
 use Rattle.regalloc2_carry.proofs.NeedsAcrossMoves.{need_evict, need_slot, claims_weaken}
 use Rattle.regalloc2_fastalloc_state.specs.declared.inst_regs.InstRegs.{InstRegs}
-use Rattle.regalloc2_fastalloc_proofs.specs.InstSteps.{StateValue, EvictsVReg, nobody, moved, AllocsScratchReg, dedicated_scratch, had, found, a_move}
+use Rattle.regalloc2_fastalloc_proofs.specs.InstSteps.{StateValue, EvictsVReg, none_held, moved, AllocsScratchReg, dedicated_scratch, had, found, a_move}
 use Rattle.regalloc2_fastalloc_proofs.specs.Safety.{IsWhole}
 use Rattle.regalloc2_fastalloc_proofs.proofs.Safety.StepsKeepState.{place_in}
-use Rattle.regalloc2_fastalloc_proofs.proofs.Operands.RecordOverState.{stands_at, slots_at, opt_from, Located, OwesPlaces, Shifts, shifts, shift_whole}
-use Rattle.regalloc2_fastalloc_proofs.proofs.Operands.RecordOverState.{shift_stands, later_push}
+use Rattle.regalloc2_fastalloc_proofs.proofs.Operands.RecordOverState.{location_at, slots_at, opt_from, Located, OwesPlaces, Shifts, shifts, shift_whole}
+use Rattle.regalloc2_fastalloc_proofs.proofs.Operands.RecordOverState.{located_after_shift, later_push}
 use Rattle.regalloc2_fastalloc_proofs.proofs.Evictions.EvictVReg.{held_early, held_late, Kept, kept_all, shift_kept}
 use Rattle.regalloc2_fastalloc_proofs.proofs.Moves.ScratchRegTaken.{IsIdle, IsScratch, of_machine, taken, less_early, less_late, held_keeps, free_unclaimed}
 use Rattle.regalloc2_fastalloc_proofs.proofs.Operands.BlockTail.{BlockTail}
@@ -41,21 +41,21 @@ put_other T v c x n = ap (λ b. cond b c (T x)) (ne_eqb x v n)
 -- a vreg moves from its register to its slot while another one is put elsewhere
 pub shift_but : (old new : StateValue) (u : VirtualRegister) (r : Register) (s : Place) (v : ℕ) (c : Option Place) → Shifts old new u r s →
     (u.number ≡ v → ⊥) → (c ≡ Some (InRegister r) → ⊥) →
-    GoesToSlot (put (stands_at old) v c) (put (stands_at new) v c) (slots_at new) u.number (InRegister r) s
+    GoesToSlot (put (location_at old) v c) (put (location_at new) v c) (slots_at new) u.number (InRegister r) s
 shift_but old new u r s v c h apart other = record {
   there = λ z. cc;
-  was = put_other (stands_at old) v c u.number apart ∙ h.was;
+  was = put_other (location_at old) v c u.number apart ∙ h.was;
   own = h.slot;
   sets = record {
-    now = put_other (stands_at new) v c u.number apart ∙ h.now;
+    now = put_other (location_at new) v c u.number apart ∙ h.now;
     same = λ x ne. elim (cases_eq x v) [
-      | inl e ↦ (put_same (stands_at new) v c x e ∙ sym (put_same (stands_at old) v c x e))
-      | inr d ↦ (put_other (stands_at new) v c x d ∙ h.same x ne ∙ sym (put_other (stands_at old) v c x d))
+      | inl e ↦ (put_same (location_at new) v c x e ∙ sym (put_same (location_at old) v c x e))
+      | inr d ↦ (put_other (location_at new) v c x d ∙ h.same x ne ∙ sym (put_other (location_at old) v c x d))
     ];
   };
   alone = λ x e. elim (cases_eq x v) [
-    | inl d ↦ absurd (other (sym (put_same (stands_at old) v c x d) ∙ e))
-    | inr d ↦ h.only_vreg x (sym (put_other (stands_at old) v c x d) ∙ e)
+    | inl d ↦ absurd (other (sym (put_same (location_at old) v c x d) ∙ e))
+    | inr d ↦ h.only_vreg x (sym (put_other (location_at old) v c x d) ∙ e)
   ];
   no_slot = λ x e. h.no_slot x r e;
 }
@@ -76,16 +76,16 @@ module _ (tail : BlockTail) where
   pub evict_but : (lived out : ℕ → Bool) (X : Place → ℕ → Bool) (r : Register) (old new : StateValue) (v : ℕ) (c : Option Place) →
       EvictsVReg (after i) r old new → IsWhole old →
       (c ≡ Some (InRegister r) → ⊥) → (place_in old v ≡ InRegister r → ⊥) → ((u : ℕ) → X (InRegister r) u ≡ false) →
-      OwesPlaces tail lived out X (put (stands_at old) v c) (slots_at old) old.edits →
-      OwesPlaces tail lived out X (put (stands_at new) v c) (slots_at new) new.edits
-  evict_but lived out X r old new v c (nobody none same) w other away clear o =
-      subst (λ (t : StateValue). OwesPlaces tail lived out X (put (stands_at t) v c) (slots_at t) t.edits) (sym same) o
-  evict_but lived out X r old new v c (moved u s lt held gives settles edits machine order) w other away clear o =
-      let h : Shifts old new u r s = shifts old new u r s lt held gives settles w in
-      let apart : u.number ≡ v → ⊥ = λ e. away (opt_from (place_in old v) (InRegister r) (ap (stands_at old) (sym e) ∙ h.was)) in
+      OwesPlaces tail lived out X (put (location_at old) v c) (slots_at old) old.edits →
+      OwesPlaces tail lived out X (put (location_at new) v c) (slots_at new) new.edits
+  evict_but lived out X r old new v c (none_held none same) w other away clear o =
+      subst (λ (t : StateValue). OwesPlaces tail lived out X (put (location_at t) v c) (slots_at t) t.edits) (sym same) o
+  evict_but lived out X r old new v c (moved u s lt held gives sets_alloc edits machine order) w other away clear o =
+      let h : Shifts old new u r s = shifts old new u r s lt held gives sets_alloc w in
+      let apart : u.number ≡ v → ⊥ = λ e. away (opt_from (place_in old v) (InRegister r) (ap (location_at old) (sym e) ∙ h.was)) in
       let L : List Item = after_part insts (listed old.edits) placesf i n in
-      let T : ℕ → Option Place = put (stands_at old) v c in
-      let U : ℕ → Option Place = put (stands_at new) v c in
+      let T : ℕ → Option Place = put (location_at old) v c in
+      let U : ℕ → Option Place = put (location_at new) v c in
       let moves : Claims Known (Move (record { from = s; to = InRegister r }) ∷ L) (Need lived out X U (slots_at new)) E =
       need_evict Known E L lived out X T U (slots_at new) u.number (InRegister r) s
       (shift_but old new u r s v c h apart other) clear
@@ -98,11 +98,12 @@ module _ (tail : BlockTail) where
             ∙ after_part-more insts (record { from = s; to = InRegister r }) old.edits placesf i n)) moves;
       }
 
-  -- a scratch register, while the number v is being moved from c, which isn't the scratch register; need: whose slots aren't needed
+  -- a scratch register, while the number v is being moved from c, which isn't the scratch register; need: whose slots
+  -- aren't needed
   pub record ScratchedBut (what : ℕ → What) (far : Progress) (need : ℕ → Bool)
       (u : InstRegs) (by : Register) (v : ℕ) (c : Option Place) (old new : StateValue) : Type 0 where
     pub located : Located what far new
-    pub owes : OwesPlaces tail far.lived need far.made_at (put (stands_at new) v c) (slots_at new) new.edits
+    pub owes : OwesPlaces tail far.lived need far.made_at (put (location_at new) v c) (slots_at new) new.edits
     pub held : Held what far.here far.claimed (held_early u) (held_late u)
     pub idle : IsIdle far.here far.claimed far.made_at by new
     pub kept : Kept old new
@@ -119,29 +120,29 @@ module _ (tail : BlockTail) where
   -- evicting an allocatable register empties it and moves no other vreg, independent of what the listing carries
   pub evict_tables : (what : ℕ → What) (far : Progress) (r : Register)
       (old new : StateValue) → EvictsVReg (after i) r old new →
-      ((x : ℕ) → stands_at old x ≡ Some (InRegister r) → far.lived x ≡ true) →
+      ((x : ℕ) → location_at old x ≡ Some (InRegister r) → far.lived x ≡ true) →
       Located what far old → EmptiedTables what far r old new
-  evict_tables what far r old new (nobody none same) may st =
+  evict_tables what far r old new (none_held none same) may st =
       subst (EmptiedTables what far r old) (sym same) (record {
         located = st;
         empty = λ x h. let y = st.whole.stands_in x r h in let z : None ≡ Some y.1.0 = sym none ∙ y.1.2 in cc;
         others = λ x h. refl;
         kept = kept_all old;
       })
-  evict_tables what far r old new (moved v s lt held gives settles edits machine order) may st =
-      let w : IsWhole new = shift_whole old new v r s lt held gives settles st.whole in
-      let h : Shifts old new v r s = shifts old new v r s lt held gives settles st.whole in
+  evict_tables what far r old new (moved v s lt held gives sets_alloc edits machine order) may st =
+      let w : IsWhole new = shift_whole old new v r s lt held gives sets_alloc st.whole in
+      let h : Shifts old new v r s = shifts old new v r s lt held gives sets_alloc st.whole in
       record {
-        located = shift_stands old new v r s w h what far (may v.number h.was) st;
+        located = located_after_shift old new v r s w h what far (may v.number h.was) st;
         empty = h.empty;
-        others = λ x ne. settles.others x (λ e. ne (opt_from (place_in old x) (InRegister r) (ap (stands_at old) e ∙ h.was)));
-        kept = shift_kept old new v r s h settles.others settles.here gives.others machine;
+        others = λ x ne. sets_alloc.others x (λ e. ne (opt_from (place_in old x) (InRegister r) (ap (location_at old) e ∙ h.was)));
+        kept = shift_kept old new v r s h sets_alloc.others sets_alloc.here gives.others machine;
       }
 
   stayed_but : (what : ℕ → What) (far : Progress) (need : ℕ → Bool) (t u : InstRegs)
       (by : Register) (v : ℕ) (c : Option Place) (old new : StateValue) → u ≡ t → new ≡ old →
       IsIdle far.here far.claimed far.made_at by old → Held what far.here far.claimed (held_early t) (held_late t) →
-      Located what far old → OwesPlaces tail far.lived need far.made_at (put (stands_at old) v c) (slots_at old) old.edits →
+      Located what far old → OwesPlaces tail far.lived need far.made_at (put (location_at old) v c) (slots_at old) old.edits →
       ScratchedBut what far need u by v c old new
   stayed_but what far need t u by v c old new eu en idle h st o =
       subst (ScratchedBut what far need u by v c old) (sym en) (record {
@@ -158,7 +159,7 @@ module _ (tail : BlockTail) where
       {class : RegClass} {t u : InstRegs} {by : Register} {v : ℕ} {c : Option Place} {old new : StateValue} → AllocsScratchReg (after i) class t u by old new →
       ((b : Register) → IsScratch class t old b → IsIdle far.here far.claimed far.made_at b old) → Held what far.here far.claimed (held_early t) (held_late t) →
       (c ≡ Some (InRegister by) → ⊥) → (place_in old v ≡ InRegister by → ⊥) →
-      Located what far old → OwesPlaces tail far.lived need far.made_at (put (stands_at old) v c) (slots_at old) old.edits →
+      Located what far old → OwesPlaces tail far.lived need far.made_at (put (location_at old) v c) (slots_at old) old.edits →
       ScratchedBut what far need u by v c old new
   scratch_but {what} {far} {need} {t} {u} {by} {v} {c} {old} {new} (dedicated_scratch own eu en) idle h other away st o =
       stayed_but what far need t u by v c old new eu en (idle by (of_machine own)) h st o
@@ -167,7 +168,7 @@ module _ (tail : BlockTail) where
   scratch_but {what} {far} {need} {t} {u} {by} {v} {c} {old} {new} (found none unset may early late less_e less_l set evicts) idle h other away
       st o =
       let free : FreeAt (held_early t) (held_late t) true true (InRegister by) = record { free_early = λ x. ap not early; free_late = λ x. ap not late } in
-      let s = scratch_idle what far (stands_at old) (slots_at old) (held_early t) (held_late t) (InRegister by) h free
+      let s = scratch_idle what far (location_at old) (slots_at old) (held_early t) (held_late t) (InRegister by) h free
       st.placed in
       let e : EmptiedTables what far by old new = evict_tables what far by old new evicts s.0
       st in
@@ -182,18 +183,18 @@ module _ (tail : BlockTail) where
       }
 
   -- two moves through the scratch register are pushed
-  pub through_items : (from by to : Place) (es : List (ℕ × MoveValue)) →
+  pub scratch_move_items : (from by to : Place) (es : List (ℕ × MoveValue)) →
       after_part insts (listed (es ++ a_move (after i) by to ∷ a_move (after i) from by ∷ [])) placesf i n ≡ Move (record { from = from; to = by }) ∷
       (Move (record { from = by; to = to }) ∷ after_part insts (listed es) placesf i n)
-  through_items from by to es =
+  scratch_move_items from by to es =
       ap (λ xs. after_part insts (listed xs) placesf i n) (sym (append_assoc es (a_move (after i) by to ∷ []) (a_move (after i) from by ∷ [])))
       ∙ after_part-more insts (record { from = from; to = by }) (es ++ a_move (after i) by to ∷ []) placesf i n
       ∙ ap (λ l. Move (record { from = from; to = by }) ∷ l) (after_part-more insts (record { from = by; to = to }) es placesf i n)
 
   -- a move in two parts, through a register, adds no edit before the point after the instruction
-  pub through_later : (from by to : Place) (es : List (ℕ × MoveValue)) → AllFrom (after i) (listed es) →
+  pub scratch_move_later : (from by to : Place) (es : List (ℕ × MoveValue)) → AllFrom (after i) (listed es) →
       AllFrom (after i) (listed (es ++ a_move (after i) by to ∷ a_move (after i) from by ∷ []))
-  through_later from by to es h =
+  scratch_move_later from by to es h =
       subst (λ xs. AllFrom (after i) (listed xs)) (append_assoc es (a_move (after i) by to ∷ []) (a_move (after i) from by ∷ []))
       (later_push tail (after i) (record { from = from; to = by }) (es ++ a_move (after i) by to ∷ [])
       (later_push tail (after i) (record { from = by; to = to }) es h))

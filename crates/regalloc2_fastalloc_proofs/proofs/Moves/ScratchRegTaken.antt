@@ -24,7 +24,8 @@ pub data IsScratch (class : RegClass) (u : InstRegs) (t : StateValue) (by : Regi
   of_machine : slice_index_or t.dedicated_scratch (class_code class) None ≡ Some by → IsScratch class u t by
   taken : slice_index_or u.scratch (class_code class) None ≡ Some by → IsScratch class u t by
 
--- the machine's registers: allocatable ones, fixed stack slots and the ones reserved for moves are disjoint, and have numbers below 64
+-- the machine's registers: allocatable ones, fixed stack slots and the ones reserved for moves are disjoint, and have
+-- numbers below 64
 pub record Fit (t : StateValue) : Type 0 where
   pub small : (r : Register) → (has_register t.allocatable r ≡ true) ⊎ (has_register t.fixed_stack r ≡ true) → r.number < 64
   pub stack_apart : (r : Register) → has_register t.allocatable r ≡ true → has_register t.fixed_stack r ≡ false
@@ -70,8 +71,8 @@ less_same t u e = record {
 }
 
 -- if no register becomes available in either of two steps, none does over both
-pub less_then : (t u w : InstRegs) → Less t u → Less u w → Less t w
-less_then t u w a b = record { early = λ q h. b.early q (a.early q h); late = λ q h. b.late q (a.late q h) }
+pub less_trans : (t u w : InstRegs) → Less t u → Less u w → Less t w
+less_trans t u w a b = record { early = λ q h. b.early q (a.early q h); late = λ q h. b.late q (a.late q h) }
 
 and_false : (a b c : Bool) → c ≡ (a && b) → b ≡ false → c ≡ false
 and_false true b c e h = e ∙ h

@@ -1,4 +1,5 @@
--- An operand gets its place: its vreg's location, or its vreg's slot, or a free register, or the register that it claimed before.
+-- An operand gets its place: its vreg's location, or its vreg's slot, or a free register, or the register that it
+-- claimed before.
 -- The fold in `Changes` doesn't apply: what the listing carries, or the operands' record, differs from step to step.
 use Rattle.std.proofs.Common.{ℕ, ◌≡◌, ◌≢◌, ◌<◌, Bool, true, false, cond, List, refl, sym, ap, ◌∙◌, subst, inl, inr, ◌⊎◌, ⊎_elim, nat_eq, eq-eqb}
 use Rattle.std.specs.Prelude.{None, Some, not, slice_index_or}
@@ -24,7 +25,7 @@ use Rattle.regalloc2_fastalloc_proofs.specs.InstSteps.{StateValue, SameMachine, 
 use Rattle.regalloc2_fastalloc_proofs.specs.InstSteps.{ClaimsPlace, in_slot, in_register, AllocsOperand, EvictsOtherVRegs, own, others}
 use Rattle.regalloc2_fastalloc_proofs.specs.Safety.{IsWhole}
 use Rattle.regalloc2_fastalloc_proofs.proofs.Safety.StepsKeepState.{place_in, slot_in, whole_tidy, given}
-use Rattle.regalloc2_fastalloc_proofs.proofs.Operands.RecordOverState.{opt, stands_at, slots_at, slots_grow, give_stands, Located}
+use Rattle.regalloc2_fastalloc_proofs.proofs.Operands.RecordOverState.{opt, location_at, slots_at, slots_grow, give_stands, Located}
 use Rattle.regalloc2_fastalloc_proofs.proofs.Evictions.EvictVReg.{held_early, held_late}
 use Rattle.regalloc2_fastalloc_proofs.proofs.Moves.ScratchRegTaken.{IsScratch, of_machine, taken, held_keeps, scratch_back, fit_same}
 use Rattle.regalloc2_fastalloc_proofs.proofs.Operands.ClaimAndUse.{claim_register, claim_slot}
@@ -66,7 +67,8 @@ set_at_same here k j p e = ap (λ b. cond b p (here j)) (eq-eqb j k e)
 pub set_at_other : (here : ℕ → Place) (k j : ℕ) (p : Place) → (j ≡ k → ⊥) → set_at here k p j ≡ here j
 set_at_other here k j p ne = ap (λ b. cond b p (here j)) (ne_eqb j k ne)
 
--- operand k, which had claimed nothing, claims the place that it is given; the others have the places and claims that they had
+-- operand k, which had claimed nothing, claims the place that it is given; the others have the places and claims that
+-- they had
 pub puts_one : (here : ℕ → Place) (claimed : ℕ → Bool) (k : ℕ) (p : Place) → claimed k ≡ false → Puts here (set_at here k p) claimed (and_one claimed k) k p
 puts_one here claimed k p f = record {
   fresh = f;
@@ -100,8 +102,9 @@ pub evicts_other_vregs_own : (point : ℕ) (r : Register) (v : VirtualRegister) 
 evicts_other_vregs_own point r v t u old new (own w there same eu en) whole at = (eu, en)
 evicts_other_vregs_own point r v t u old new (others other c) whole at = let x = whole.stands_in v.number r at in absurd (other x.1.0 x.1.2 x.1.1)
 
--- The operand k is next, and isn't placed yet: its request, at positions that cover its own; the registers and the tables before it
--- (t, old); and the registers (u) and the place (p) that it ends with. Once late uses are placed, no early use is.
+-- The operand k is next, and isn't placed yet: its request, at positions that cover its own; the registers and the
+-- tables before it (t, old); and the registers (u) and the place (p) that it ends with. Once late uses are placed, no
+-- early use is.
 pub record NextOperand (tail : BlockTail) (ops : List OperandValue) (far : Progress) (ends_block : Bool) : Type 0 where
   pub k : ℕ
   pub o : OperandRequest
@@ -169,10 +172,10 @@ module _ (tail : BlockTail) (ops : List OperandValue) (far : Progress) (ends_blo
     fresh_same f j c = set_at_other far.here k j p (λ e. let x : far.claimed k ≡ true = ap far.claimed (sym e) ∙ c in cc)
 
     -- the operand may evict a vreg from the register
-    may_evict : (r : Register) → Clear (what_of ops) far.here far.claimed k (InRegister r) → (x : ℕ) → stands_at old x ≡ Some (InRegister r) →
+    may_evict : (r : Register) → Clear (what_of ops) far.here far.claimed k (InRegister r) → (x : ℕ) → location_at old x ≡ Some (InRegister r) →
         (x ≡ o.vreg.number → ⊥) →
         (far.lived x ≡ true) × ((w : ℕ) → far.made_at (InRegister r) w ≡ false)
-    may_evict r clear x at other = evictable (what_of ops) far (stands_at old) (slots_at old) k (InRegister r) x s.located.placed
+    may_evict r clear x at other = evictable (what_of ops) far (location_at old) (slots_at old) k (InRegister r) x s.located.placed
         clear new_one at (λ e. other (e ∙ sym nv)) (λ d. phase)
 
     -- the register was claimed before
@@ -249,7 +252,7 @@ module _ (tail : BlockTail) (ops : List OperandValue) (far : Progress) (ends_blo
         }
 
     -- the vreg's own place is no clobber, for operands where that matters
-    unclobbered_at : (q : Place) → stands_at old num ≡ Some q → ((what_of ops k).is_def ≡ true) ⊎ ((what_of ops k).is_late ≡ true) → far.clobbered q ≡ false
+    unclobbered_at : (q : Place) → location_at old num ≡ Some q → ((what_of ops k).is_def ≡ true) ⊎ ((what_of ops k).is_late ≡ true) → far.clobbered q ≡ false
     unclobbered_at q at h = ⊎_elim
         (λ (l : far.lived num ≡ true). s.located.placed.cleared num q l at)
         (λ (l : far.lived num ≡ false).
@@ -261,11 +264,11 @@ module _ (tail : BlockTail) (ops : List OperandValue) (far : Progress) (ends_blo
         ])
         (cases_Bool (far.lived num))
 
-    clear_kept : (q : Place) → stands_at old num ≡ Some q → Clear (what_of ops) far.here far.claimed k q
+    clear_kept : (q : Place) → location_at old num ≡ Some q → Clear (what_of ops) far.here far.claimed k q
     clear_kept q at = ⊎_elim
-        (λ (d : is_def (op_at ops k).kind ≡ true). clear_kept_def (Counts ops) (what_of ops) far (stands_at old) (slots_at old) k
+        (λ (d : is_def (op_at ops k).kind ≡ true). clear_kept_def (Counts ops) (what_of ops) far (location_at old) (slots_at old) k
         q s.located.placed once s.within counts d at)
-        (λ (d : is_def (op_at ops k).kind ≡ false). clear_kept_use (Counts ops) (what_of ops) far (stands_at old) (slots_at old)
+        (λ (d : is_def (op_at ops k).kind ≡ false). clear_kept_use (Counts ops) (what_of ops) far (location_at old) (slots_at old)
         k q s.located.placed once s.within counts d at phase)
         (cases_Bool (is_def (op_at ops k).kind))
 
@@ -332,10 +335,10 @@ module _ (tail : BlockTail) (ops : List OperandValue) (far : Progress) (ends_blo
       located = give_stands old middle o.vreg p g s.located.whole e (what_of ops) far s.located;
       owes = record {
         later = subst (λ es. AllFrom (after i) (listed es)) (sym ed) s.owes.later;
-        claims = subst (λ es. Claims Known (after_part insts (listed es) placesf i n) (Need far.lived far.out far.made_at (stands_at middle)
+        claims = subst (λ es. Claims Known (after_part insts (listed es) placesf i n) (Need far.lived far.out far.made_at (location_at middle)
             (slots_at middle)) E) (sym ed)
-            (claims_weaken Known E (after_part insts (listed old.edits) placesf i n) (Need far.lived far.out far.made_at (stands_at old) (slots_at old))
-            (Need far.lived far.out far.made_at (stands_at middle) (slots_at middle))
+            (claims_weaken Known E (after_part insts (listed old.edits) placesf i n) (Need far.lived far.out far.made_at (location_at old) (slots_at old))
+            (Need far.lived far.out far.made_at (location_at middle) (slots_at middle))
             (λ x q y. elim y [
               | located l ex ↦ located l (ap (λ (z : VRegAllocsValue). opt (alloc_of z x)) e ∙ ex)
               | needed f ex ↦ needed f (slots_grow old middle o.vreg p g s.located.whole x q ex)

@@ -20,7 +20,7 @@ use Rattle.regalloc2_fastalloc_state.specs.StateParts.{SpillSlotsValue, alloc_of
 use Rattle.regalloc2_function.specs.FunctionValue.{op_at}
 use Rattle.regalloc2_fastalloc_proofs.specs.InstSteps.{StateValue, requirement_of, reuse_requirement_of}
 use Rattle.regalloc2_fastalloc_proofs.specs.Safety.{IsOfMachine, MayBeLocatedAt, IsSafe, AreSafeRegs}
-use Rattle.regalloc2_fastalloc_proofs.proofs.Slots.SlotsGrow.{SlotsStay, stand_grows}
+use Rattle.regalloc2_fastalloc_proofs.proofs.Slots.SlotsGrow.{SlotsStay, may_be_located_grows}
 use Rattle.regalloc2_fastalloc_proofs.proofs.Safety.OperandKeepsSafe.{AnswersRequirement}
 
 -- the place of operand k in a list of places: none where the list ends before it
@@ -67,7 +67,7 @@ pub record IsGood (env : MachineValue) (slots : SpillSlotsValue) (o : OperandVal
 
 -- an operand's good place stays good where slots stay
 pub good_grows : (env : MachineValue) (s t : SpillSlotsValue) (o : OperandValue) (p : Place) → SlotsStay s t → IsGood env s o p → IsGood env t o p
-good_grows env s t o p stay g = record { place = λ a. stand_grows env s t o.vreg p stay (g.place a); meets = g.meets }
+good_grows env s t o p stay g = record { place = λ a. may_be_located_grows env s t o.vreg p stay (g.place a); meets = g.meets }
 
 -- an operand that reads isn't fixed to a nonallocatable register, so it is allocated
 pub reads_allocated : (o : OperandValue) → is_reading o ≡ true → is_fixed_nonallocatable o ≡ false
@@ -107,14 +107,14 @@ pub fixed_meets : (env : MachineValue) (c : OperandConstraint) (r : Register) �
 fixed_meets env c r e = subst (λ x. MeetsByItself env x (InRegister r)) (sym e) refl
 
 -- an operand that requires a specific register is fixed to it
-pub asked_fixed : (c : OperandConstraint) (r : Register) → requirement_of c ≡ InPReg r → c ≡ FixedReg r
-asked_fixed (FixedReg q) r h = (let x : InPReg q ≡ InPReg r = h in let same : q ≡ r = cc in ap FixedReg same)
-asked_fixed c r h = absurd cc
+pub requires_fixed_reg : (c : OperandConstraint) (r : Register) → requirement_of c ≡ InPReg r → c ≡ FixedReg r
+requires_fixed_reg (FixedReg q) r h = (let x : InPReg q ≡ InPReg r = h in let same : q ≡ r = cc in ap FixedReg same)
+requires_fixed_reg c r h = absurd cc
 
 -- if a reuse requires a specific register, the operand that it names is fixed to that register
-pub asked_as_fixed : (c : OperandConstraint) (r : Register) → reuse_requirement_of c ≡ InPReg r → c ≡ FixedReg r
-asked_as_fixed (FixedReg q) r h = (let x : InPReg q ≡ InPReg r = h in let same : q ≡ r = cc in ap FixedReg same)
-asked_as_fixed c r h = absurd cc
+pub reuse_requires_fixed_reg : (c : OperandConstraint) (r : Register) → reuse_requirement_of c ≡ InPReg r → c ≡ FixedReg r
+reuse_requires_fixed_reg (FixedReg q) r h = (let x : InPReg q ≡ InPReg r = h in let same : q ≡ r = cc in ap FixedReg same)
+reuse_requires_fixed_reg c r h = absurd cc
 
 -- the register to which an operand may be fixed is of the operand's class
 pub fixed_class : (class : RegClass) (c : OperandConstraint) (r : Register) → IsConstraintOf class c → c ≡ FixedReg r → r.class ≡ class
@@ -140,7 +140,8 @@ pub record Filled (env : MachineValue) (Known : VirtualRegister → Type 0) (Wri
       ⊎ (IsGood env t.slots (op_at ops j) (at_place there j) × IsInRegister (at_place there j))
   pub found : (j : ℕ) → j < length ops → done j → is_reading (op_at ops j) ≡ true → alloc_of t.places (op_at ops j).vreg.number ≢ NoPlace
 
--- The slots that an instruction may write: after it, the slots of the vregs that it defines; before it, the slots in which it reads.
+-- The slots that an instruction may write: after it, the slots of the vregs that it defines; before it, the slots in
+-- which it reads.
 abbrev pub DefsAreWritten : (ℕ → VirtualRegister → ℕ → Type 0) → ℕ → List OperandValue → Type 0
 DefsAreWritten Writes i ops = (k n : ℕ) → k < length ops → is_def (op_at ops k).kind ≡ true → Writes (after i) (op_at ops k).vreg n
 
@@ -157,8 +158,8 @@ reuse_register env c n p e h = subst (λ x. MeetsByItself env x p) e h
 pub no_place_register : (p : Place) → p ≡ NoPlace → IsInRegister p → ⊥
 no_place_register p e h = subst IsInRegister e h
 
--- An instruction's operands, which get their places one after another: the machine; the known vregs; the slots into which the walk may write a
--- vreg's value, and the points where moves may be; and the operands, which are sound.
+-- An instruction's operands, which get their places one after another: the machine; the known vregs; the slots into
+-- which the walk may write a vreg's value, and the points where moves may be; and the operands, which are sound.
 pub record FillingContext : Type 1 where
   pub env : MachineValue
   pub Known : VirtualRegister → Type 0

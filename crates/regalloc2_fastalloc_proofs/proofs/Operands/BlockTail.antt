@@ -4,8 +4,9 @@ use Rattle.regalloc2_names.specs.Register.{VirtualRegister}
 use Rattle.regalloc2_names.specs.Place.{Place}
 use Rattle.regalloc2_function.specs.FunctionValue.{InstValue}
 
--- A block's tail, from the instruction i on, with n more after it. Known: the vregs, one for each number; insts and placesf: the instructions, by
--- number, and the places of their operands; E: where each vreg is needed when the tail ends.
+-- A block's tail, from the instruction i on, with n more after it. Known: the vregs, one for each number; insts and
+-- placesf: the instructions, by number, and the places of their operands; E: where each vreg is needed when the tail
+-- ends.
 pub record BlockTail : Type 1 where
   pub Known : VirtualRegister → Type 0
   pub insts : ℕ → InstValue

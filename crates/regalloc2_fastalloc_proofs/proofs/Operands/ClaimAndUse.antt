@@ -9,7 +9,7 @@ use Rattle.regalloc2_carry.proofs.BoundaryToBoundary.{Covers}
 use Rattle.regalloc2_carry.proofs.RecordSteps.{step_claim, step_use}
 use Rattle.regalloc2_fastalloc_proofs.specs.InstSteps.{StateValue}
 use Rattle.regalloc2_fastalloc_proofs.proofs.Safety.StepsKeepState.{place_in, slot_in, slot_no_register}
-use Rattle.regalloc2_fastalloc_proofs.proofs.Operands.RecordOverState.{opt, opt_some, opt_from, stands_at, slots_at, slot_below, Located}
+use Rattle.regalloc2_fastalloc_proofs.proofs.Operands.RecordOverState.{opt, opt_some, opt_from, location_at, slots_at, slot_below, Located}
 
 -- the positions at which an operand holds its register cover its own
 pub covers_at : (number : ℕ) (d l : Bool) → Covers (record { number = number; is_def = d; is_late = l }) (not d || not l) (d || l)
@@ -58,7 +58,7 @@ pub claim_register : (what : ℕ → What) (far : Progress) (there : ℕ → Pla
     → Located what far t → Located what (record far { here = there; claimed = claimed2 }) t
 claim_register what far there claimed2 t k r u clear only_vreg unclobbered st = record {
   whole = st.whole;
-  placed = step_claim what far there claimed2 (stands_at t) (slots_at t) k (InRegister r) u clear
+  placed = step_claim what far there claimed2 (location_at t) (slots_at t) k (InRegister r) u clear
       (record {
         for_def = λ d w l e. only_vreg w (opt_from (place_in t w) (InRegister r) e);
         for_use = λ d w e. only_vreg w (opt_from (place_in t w) (InRegister r) e);
@@ -78,8 +78,8 @@ claim_slot counts what far there claimed2 t k m u once within ck slot st =
     let own : (w : ℕ) → slot_in t w ≡ InSlot m → w ≡ (what k).number = λ w e. st.whole.own w (what k).number m e slot in
     record {
       whole = st.whole;
-      placed = step_claim what far there claimed2 (stands_at t) (slots_at t) k (InSlot m) u
-          (clear_slot counts what far (stands_at t) (slots_at t) k (InSlot m) st.placed once within ck (ap opt slot))
+      placed = step_claim what far there claimed2 (location_at t) (slots_at t) k (InSlot m) u
+          (clear_slot counts what far (location_at t) (slots_at t) k (InSlot m) st.placed once within ck (ap opt slot))
           (record {
             for_def = λ d w l e. own w (st.whole.own_slot w m (opt_from (place_in t w) (InSlot m) e));
             for_use = λ d w e. own w (st.whole.own_slot w m (opt_from (place_in t w) (InSlot m) e));
@@ -104,7 +104,7 @@ pub use_stays : (what : ℕ → What) (far : Progress) (done2 : ℕ → Bool) (t
     → Located what far t → Located what (record far { done = done2 }) t
 use_stays what far done2 t k u there st = record {
   whole = st.whole;
-  placed = step_use what far done2 (stands_at t) (slots_at t) k (place_in t (what k).number) u.claims u.is_use
+  placed = step_use what far done2 (location_at t) (slots_at t) k (place_in t (what k).number) u.claims u.is_use
       (opt_some (place_in t (what k).number) there) u.places st.placed;
   below = st.below;
   unclobbered = st.unclobbered;

@@ -105,7 +105,8 @@ module _ (tail : BlockTail) (ops : List OperandValue) (far : Progress) (there : 
     ];
   }
 
-  -- where an operand claims a place that it may have, and which is held from then on, the record of the operands is kept
+  -- where an operand claims a place that it may have, and which is held from then on, the record of the operands is
+  -- kept
   pub ready_claim : {k : ℕ} {p : Place} {pos : Positions} {t u : InstRegs} {m : StateValue} → Puts far.here there far.claimed claimed2 k p → Counts ops k →
       Covers (what_of ops k) pos.early pos.late → Grips t u p pos →
       ((r : Register) → p ≡ InRegister r → r.number < 64) → ((c : RegClass) (b : Register) → IsScratch c t m b → p ≢ InRegister b) →

@@ -16,12 +16,12 @@ use Rattle.regalloc2_function.specs.FunctionValue.{op_at}
 use Rattle.regalloc2_fastalloc_proofs.specs.InstSteps.{StateValue, SameMachine, AddsMoveIf, sent, unsent, FreesAlloc, is_another}
 use Rattle.regalloc2_fastalloc_proofs.specs.Safety.{IsWhole}
 use Rattle.regalloc2_fastalloc_proofs.proofs.Safety.StepsKeepState.{place_in, slot_in, whole_tidy, slot_no_register}
-use Rattle.regalloc2_fastalloc_proofs.proofs.Operands.RecordOverState.{opt, opt_some, opt_from, opt_real, stands_at, slots_at, Located, OwesPlaces}
+use Rattle.regalloc2_fastalloc_proofs.proofs.Operands.RecordOverState.{opt, opt_some, opt_from, opt_real, location_at, slots_at, Located, OwesPlaces}
 use Rattle.regalloc2_fastalloc_proofs.proofs.Evictions.EvictVReg.{Kept, kept_all}
 use Rattle.regalloc2_fastalloc_proofs.proofs.Moves.ScratchRegTaken.{IsIdle, fit_same, scratch_back}
 use Rattle.regalloc2_fastalloc_proofs.proofs.Moves.ScratchRegMidMove.{put, put_same, put_other, owes_same}
-use Rattle.regalloc2_fastalloc_proofs.proofs.Evictions.EvictPReg.{kept_then}
-use Rattle.regalloc2_fastalloc_proofs.proofs.Operands.FreeDef.{PlacesDef, leave_stands, defs_elsewhere}
+use Rattle.regalloc2_fastalloc_proofs.proofs.Evictions.EvictPReg.{kept_trans}
+use Rattle.regalloc2_fastalloc_proofs.proofs.Operands.FreeDef.{PlacesDef, located_after_definition, no_def_at_location_of_next}
 use Rattle.regalloc2_fastalloc_proofs.proofs.Operands.RecordOfInst.{Ready}
 use Rattle.regalloc2_fastalloc_proofs.proofs.Evictions.EvictKeepsRecord.{NoneNeeded}
 use Rattle.regalloc2_fastalloc_proofs.proofs.Moves.MoveAfterInst.{Steady, Sent, MovesNeed, ready_of, adds_move_step}
@@ -111,7 +111,7 @@ module _ (tail : BlockTail) (ops : List OperandValue) (far : Progress) (done2 ou
 
     left_steady : Steady tail ops next ends_block t left
     left_steady = record {
-      located = leave_stands (Counts ops) (what_of ops) far done2 out2 Y old left k v pd r.within refl z slots
+      located = located_after_definition (Counts ops) (what_of ops) far done2 out2 Y old left k v pd r.within refl z slots
           r.located;
       nowhere_needed = λ e. subst (NoneNeeded tail) (sym edits) (r.nowhere_needed e);
       held = r.held;
@@ -160,19 +160,19 @@ module _ (tail : BlockTail) (ops : List OperandValue) (far : Progress) (done2 ou
           moved = λ x y. elim y [
             | located l e ↦ made (elim (cases_eq x v.number) [
               | inl a ↦ is_made x a
-              | inr a ↦ absurd (a (only_vreg_at c refl real m st.whole k2 x (opt_from (place_in m x) c (sym (put_other (stands_at m) v.number (Some c) x a) ∙ e))))
+              | inr a ↦ absurd (a (only_vreg_at c refl real m st.whole k2 x (opt_from (place_in m x) c (sym (put_other (location_at m) v.number (Some c) x a) ∙ e))))
             ])
             | in_slot f e ↦ made (is_made x (own_at c refl real m st.whole k2 x (opt_from (slot_in m x) c e)))
             | made g ↦ elim (pd.makes.grows c x g) [
               | inl h ↦ absurd (other h.0)
-              | inr h ↦ (let b : far.made_at c x ≡ false = defs_elsewhere (Counts ops) (what_of ops) far (stands_at old) (slots_at old) k c
+              | inr h ↦ (let b : far.made_at c x ≡ false = no_def_at_location_of_next (Counts ops) (what_of ops) far (location_at old) (slots_at old) k c
                   x pd.once r.within pd.claims pd.is_def r.located.placed (opt_some c real) in absurd cc)
             ]
           ];
           others = λ x q ne y. elim y [
             | located l e ↦ elim (cases_eq x v.number) [
-              | inl a ↦ (let b : Some c ≡ Some q = sym (put_same (stands_at m) v.number (Some c) x a) ∙ e in let g : q ≡ c = cc in absurd (ne g))
-              | inr a ↦ located l (sym (put_other (stands_at m) v.number (Some c) x a) ∙ e)
+              | inl a ↦ (let b : Some c ≡ Some q = sym (put_same (location_at m) v.number (Some c) x a) ∙ e in let g : q ≡ c = cc in absurd (ne g))
+              | inr a ↦ located l (sym (put_other (location_at m) v.number (Some c) x a) ∙ e)
             ]
             | in_slot f e ↦ elim which [
               | inl a ↦ in_slot (ap (λ (g : ℕ → Bool). g x) a ∙ f) e
@@ -186,35 +186,35 @@ module _ (tail : BlockTail) (ops : List OperandValue) (far : Progress) (done2 ou
         }
 
     -- what was needed before the vreg left, while it is being moved
-    on_its_way : c ≢ NoPlace → OwesPlaces tail far.lived far.out Y (put (stands_at left) v.number (Some c)) (slots_at left) left.edits
-    on_its_way real = subst (OwesPlaces tail far.lived far.out Y (put (stands_at left) v.number (Some c)) (slots_at left)) (sym edits) (record {
+    on_its_way : c ≢ NoPlace → OwesPlaces tail far.lived far.out Y (put (location_at left) v.number (Some c)) (slots_at left) left.edits
+    on_its_way real = subst (OwesPlaces tail far.lived far.out Y (put (location_at left) v.number (Some c)) (slots_at left)) (sym edits) (record {
       later = r.owes.later;
-      claims = claims_weaken Known E (after_part insts (listed old.edits) placesf i n) (Need far.lived far.out far.made_at (stands_at old) (slots_at old))
-          (Need far.lived far.out Y (put (stands_at left) v.number (Some c)) (slots_at left))
+      claims = claims_weaken Known E (after_part insts (listed old.edits) placesf i n) (Need far.lived far.out far.made_at (location_at old) (slots_at old))
+          (Need far.lived far.out Y (put (location_at left) v.number (Some c)) (slots_at left))
           (λ x q y. elim y [
             | located l e ↦ located l (elim (cases_eq x v.number) [
-              | inl a ↦ (put_same (stands_at left) v.number (Some c) x a ∙ sym (opt_some c real) ∙ ap (stands_at old) (sym a) ∙ e)
-              | inr a ↦ (put_other (stands_at left) v.number (Some c) x a ∙ ap opt (z.others x a) ∙ e)
+              | inl a ↦ (put_same (location_at left) v.number (Some c) x a ∙ sym (opt_some c real) ∙ ap (location_at old) (sym a) ∙ e)
+              | inr a ↦ (put_other (location_at left) v.number (Some c) x a ∙ ap opt (z.others x a) ∙ e)
             ])
             | in_slot f e ↦ in_slot f (ap (λ (g : SpillSlotsValue). opt (slot_name g x)) slots ∙ e)
             | made g ↦ made (pd.makes.keeps q x g)
           ]) r.owes.claims;
     })
 
-    nothing_owed : (need : ℕ → Bool) → ends_block ≡ true → OwesPlaces tail far.lived need Y (stands_at left) (slots_at left) left.edits
-    nothing_owed need e = record {
+    no_place_owed_at_block_end : (need : ℕ → Bool) → ends_block ≡ true → OwesPlaces tail far.lived need Y (location_at left) (slots_at left) left.edits
+    no_place_owed_at_block_end need e = record {
       later = subst (λ es. AllFrom (after i) (listed es)) (sym edits) r.owes.later;
-      claims = claims_weaken Known E (after_part insts (listed left.edits) placesf i n) (λ x p. ⊥) (Need far.lived need Y (stands_at left) (slots_at left))
+      claims = claims_weaken Known E (after_part insts (listed left.edits) placesf i n) (λ x p. ⊥) (Need far.lived need Y (location_at left) (slots_at left))
           (λ x p y. absurd y) (left_steady.nowhere_needed e);
     }
 
     -- no move is added if the vreg is expected nowhere or in its place
     stays_owed : (need : ℕ → Bool) → Which need → (c ≡ NoPlace) ⊎ (c ≡ far.here k) →
-        OwesPlaces tail far.lived need Y (stands_at left) (slots_at left) left.edits
-    stays_owed need which at = subst (OwesPlaces tail far.lived need Y (stands_at left) (slots_at left)) (sym edits) (record {
+        OwesPlaces tail far.lived need Y (location_at left) (slots_at left) left.edits
+    stays_owed need which at = subst (OwesPlaces tail far.lived need Y (location_at left) (slots_at left)) (sym edits) (record {
       later = r.owes.later;
-      claims = claims_weaken Known E (after_part insts (listed old.edits) placesf i n) (Need far.lived far.out far.made_at (stands_at old) (slots_at old))
-          (Need far.lived need Y (stands_at left) (slots_at left))
+      claims = claims_weaken Known E (after_part insts (listed old.edits) placesf i n) (Need far.lived far.out far.made_at (location_at old) (slots_at old))
+          (Need far.lived need Y (location_at left) (slots_at left))
           (λ x q y. elim y [
             | located l e ↦ elim (cases_eq x v.number) [
               | inl a ↦ made (by_place x q a (ap (place_in old) (sym a) ∙ opt_from (place_in old x) q e) (opt_real (place_in old x) q e))
@@ -239,7 +239,7 @@ module _ (tail : BlockTail) (ops : List OperandValue) (far : Progress) (done2 ou
 
     -- nothing is moved
     stayed : (need : ℕ → Bool) (inst_regs : InstRegs) (middle : StateValue) → inst_regs ≡ t → middle ≡ left →
-        OwesPlaces tail far.lived need Y (stands_at left) (slots_at left) left.edits →
+        OwesPlaces tail far.lived need Y (location_at left) (slots_at left) left.edits →
         Sent tail ops next need ends_block inst_regs left middle
     stayed need inst_regs middle eu en o =
         let rest : Sent tail ops next need ends_block t left
@@ -257,7 +257,7 @@ module _ (tail : BlockTail) (ops : List OperandValue) (far : Progress) (done2 ou
         (λ m st k2. first_moves need which x.0 x.1 m st k2) left_steady (on_its_way x.0)
     expected_step need which inst_regs middle (unsent not_made eu en) =
         stayed need inst_regs middle eu en (elim (unmade_parts ends_block (is_another c (far.here k)) not_made) [
-          | inl a ↦ nothing_owed need a
+          | inl a ↦ no_place_owed_at_block_end need a
           | inr a ↦ stays_owed need which (another_not c (far.here k) a)
         ])
 
@@ -266,19 +266,19 @@ module _ (tail : BlockTail) (ops : List OperandValue) (far : Progress) (done2 ou
         Located (what_of ops) next m → Kept middle m →
         MovesNeed tail far.lived far.out out2 Y v.number None (far.here k) s m
     second_moves real other middle k2 m st k3 =
-        let k4 : Kept left m = kept_then left middle m k2 k3 in
+        let k4 : Kept left m = kept_trans left middle m k2 k3 in
         let q = real_slot old.slots.count s (r.located.whole.below v.number) real in
         let gone : place_in m v.number ≡ NoPlace = k4.nowhere v.number z.here in
         let owner : (x : ℕ) → slot_in m x ≡ s → x ≡ v.number = λ x e. st.whole.own x v.number q.0 (e ∙ q.1) (slot_then m k4 ∙ q.1) in
-        let not_there : (x : ℕ) → place_in m x ≡ s → ⊥ = λ x e.
+        let not_at_other_position : (x : ℕ) → place_in m x ≡ s → ⊥ = λ x e.
         let a : x ≡ v.number = owner x (st.whole.own_slot x q.0 (e ∙ q.1) ∙ sym q.1) in
         real (sym e ∙ ap (place_in m) a ∙ gone) in
         let is_made : (x : ℕ) → x ≡ v.number → Y (far.here k) x ≡ true = λ x e. ap (Y (far.here k)) e ∙ pd.makes.is_made in
         record {
           moved = λ x y. elim y [
             | located l e ↦ elim (cases_eq x v.number) [
-              | inl a ↦ (let b : None ≡ Some s = sym (put_same (stands_at m) v.number None x a) ∙ e in absurd cc)
-              | inr a ↦ absurd (not_there x (opt_from (place_in m x) s (sym (put_other (stands_at m) v.number None x a) ∙ e)))
+              | inl a ↦ (let b : None ≡ Some s = sym (put_same (location_at m) v.number None x a) ∙ e in absurd cc)
+              | inr a ↦ absurd (not_at_other_position x (opt_from (place_in m x) s (sym (put_other (location_at m) v.number None x a) ∙ e)))
             ]
             | in_slot f e ↦ made (is_made x (owner x (opt_from (slot_in m x) s e)))
             | made g ↦ made (is_made x (elim (pd.makes.grows s x g) [
@@ -289,8 +289,8 @@ module _ (tail : BlockTail) (ops : List OperandValue) (far : Progress) (done2 ou
           ];
           others = λ x p ne y. elim y [
             | located l e ↦ elim (cases_eq x v.number) [
-              | inl a ↦ (let b : None ≡ Some p = sym (put_same (stands_at m) v.number None x a) ∙ e in absurd cc)
-              | inr a ↦ located l (sym (put_other (stands_at m) v.number None x a) ∙ e)
+              | inl a ↦ (let b : None ≡ Some p = sym (put_same (location_at m) v.number None x a) ∙ e in absurd cc)
+              | inr a ↦ located l (sym (put_other (location_at m) v.number None x a) ∙ e)
             ]
             | in_slot f e ↦ elim (cases_eq x v.number) [
               | inl a ↦ absurd (ne (sym (opt_from (slot_in m x) p e) ∙ ap (slot_in m) a ∙ slot_then m k4))
@@ -302,12 +302,12 @@ module _ (tail : BlockTail) (ops : List OperandValue) (far : Progress) (done2 ou
 
     module _ (inst_regs u : InstRegs) (middle new : StateValue) where
       moved_none : (need : ℕ → Bool) → Sent tail ops next need ends_block inst_regs left middle →
-          OwesPlaces tail far.lived need Y (put (stands_at middle) v.number None) (slots_at middle) middle.edits
-      moved_none need f = owes_same tail far.lived need Y (stands_at middle) (put (stands_at middle) v.number None) (slots_at middle)
+          OwesPlaces tail far.lived need Y (put (location_at middle) v.number None) (slots_at middle) middle.edits
+      moved_none need f = owes_same tail far.lived need Y (location_at middle) (put (location_at middle) v.number None) (slots_at middle)
           middle.edits
           (λ x. elim (cases_eq x v.number) [
-            | inl a ↦ (put_same (stands_at middle) v.number None x a ∙ sym (ap opt (ap (place_in middle) a ∙ f.kept.nowhere v.number z.here)))
-            | inr a ↦ put_other (stands_at middle) v.number None x a
+            | inl a ↦ (put_same (location_at middle) v.number None x a ∙ sym (ap opt (ap (place_in middle) a ∙ f.kept.nowhere v.number z.here)))
+            | inr a ↦ put_other (location_at middle) v.number None x a
           ]) f.owes
 
       ready_then : Sent tail ops next out2 ends_block inst_regs left middle → u ≡ inst_regs → new ≡ middle →
@@ -338,18 +338,18 @@ module _ (tail : BlockTail) (ops : List OperandValue) (far : Progress) (done2 ou
           (λ m st k3. second_moves x.0 x.1 middle f.kept m st k3) f.steady (moved_none far.out f) in
           ready_of tail ops next ends_block u new g.steady g.owes
       stored_step ne (unsent not_made eu en) f =
-          let rest : OwesPlaces tail far.lived out2 Y (stands_at middle) (slots_at middle)
+          let rest : OwesPlaces tail far.lived out2 Y (location_at middle) (slots_at middle)
           middle.edits = elim (unmade_parts ends_block (is_another s (far.here k) && not (is_place s c)) not_made) [
             | inl a ↦ record {
               later = f.owes.later;
               claims = claims_weaken Known E (after_part insts (listed middle.edits) placesf i n) (λ x p. ⊥)
-                  (Need far.lived out2 Y (stands_at middle) (slots_at middle)) (λ x p y. absurd y) (f.steady.nowhere_needed a);
+                  (Need far.lived out2 Y (location_at middle) (slots_at middle)) (λ x p y. absurd y) (f.steady.nowhere_needed a);
             }
             | inr a ↦ record {
               later = f.owes.later;
               claims = claims_weaken Known E (after_part insts (listed middle.edits) placesf i n)
-                  (Need far.lived far.out Y (stands_at middle) (slots_at middle))
-                  (Need far.lived out2 Y (stands_at middle) (slots_at middle))
+                  (Need far.lived far.out Y (location_at middle) (slots_at middle))
+                  (Need far.lived out2 Y (location_at middle) (slots_at middle))
                   (λ x p y. elim y [
                     | located l e ↦ located l e
                     | in_slot g e ↦ elim (cases_eq x v.number) [
@@ -372,8 +372,8 @@ module _ (tail : BlockTail) (ops : List OperandValue) (far : Progress) (done2 ou
       Ready tail ops far ends_block t old →
       Ready tail ops next ends_block u new
   frees_alloc_step t u old new d r = elim (cases_place (slot_in old v.number) (place_in old v.number)) [
-    | inl a ↦ stored_there t old d.left d.settles d.slots d.edits d.machine r d.inst_regs u d.middle new a d.stored
-        (expected_step t old d.left d.settles d.slots d.edits d.machine r out2 (inr (refl, a)) d.inst_regs d.middle d.expected)
-    | inr a ↦ stored_step t old d.left d.settles d.slots d.edits d.machine r d.inst_regs u d.middle new a d.stored
-        (expected_step t old d.left d.settles d.slots d.edits d.machine r far.out (inl refl) d.inst_regs d.middle d.expected)
+    | inl a ↦ stored_there t old d.left d.sets_alloc d.slots d.edits d.machine r d.inst_regs u d.middle new a d.stored
+        (expected_step t old d.left d.sets_alloc d.slots d.edits d.machine r out2 (inr (refl, a)) d.inst_regs d.middle d.expected)
+    | inr a ↦ stored_step t old d.left d.sets_alloc d.slots d.edits d.machine r d.inst_regs u d.middle new a d.stored
+        (expected_step t old d.left d.sets_alloc d.slots d.edits d.machine r far.out (inl refl) d.inst_regs d.middle d.expected)
   ]

@@ -10,7 +10,7 @@ use Rattle.regalloc2_fastalloc_state.specs.StateParts.{SpillSlotsValue, slot_nam
 use Rattle.regalloc2_fastalloc_proofs.specs.InstSteps.{StateValue}
 use Rattle.regalloc2_fastalloc_proofs.specs.Safety.{IsWhole}
 use Rattle.regalloc2_fastalloc_proofs.proofs.Safety.StepsKeepState.{place_in, away_holds, away_stands}
-use Rattle.regalloc2_fastalloc_proofs.proofs.Operands.RecordOverState.{opt, stands_at, slots_at, Located}
+use Rattle.regalloc2_fastalloc_proofs.proofs.Operands.RecordOverState.{opt, location_at, slots_at, Located}
 
 -- the tables stay whole when a vreg leaves
 pub leave_whole : (old new : StateValue) (v : VirtualRegister) → SetsAlloc old.places new.places v NoPlace → new.slots ≡ old.slots → IsWhole old → IsWhole new
@@ -35,16 +35,16 @@ pub record PlacesDef (counts : ℕ → Type 0) (what : ℕ → What) (far : Prog
   pub is_def : (what k).is_def ≡ true
 
 -- the record of the operands, once the definition is placed
-pub leave_stands : (counts : ℕ → Type 0) (what : ℕ → What) (far : Progress) (done2 out2 : ℕ → Bool) (Y : Place → ℕ → Bool) (old new : StateValue) (k : ℕ)
+pub located_after_definition : (counts : ℕ → Type 0) (what : ℕ → What) (far : Progress) (done2 out2 : ℕ → Bool) (Y : Place → ℕ → Bool) (old new : StateValue) (k : ℕ)
     (v : VirtualRegister)
     → PlacesDef counts what far done2 out2 Y k → ((j : ℕ) → far.claimed j ≡ true → counts j)
     → (what k).number ≡ v.number → SetsAlloc old.places new.places v NoPlace → new.slots ≡ old.slots
     → Located what far old → Located what (record far { done = done2; out = out2; made_at = Y }) new
-leave_stands counts what far done2 out2 Y old new k v d within same z slots st = record {
+located_after_definition counts what far done2 out2 Y old new k v d within same z slots st = record {
   whole = leave_whole old new v z slots st.whole;
-  placed = subst (λ (s : SpillSlotsValue). Placed what (record far { done = done2; out = out2; made_at = Y }) (stands_at new) (λ x. opt (slot_name s x)))
+  placed = subst (λ (s : SpillSlotsValue). Placed what (record far { done = done2; out = out2; made_at = Y }) (location_at new) (λ x. opt (slot_name s x)))
       (sym slots)
-      (step_def what far done2 out2 Y (stands_at old) (stands_at new) (slots_at old) k d.claims d.is_def
+      (step_def what far done2 out2 Y (location_at old) (location_at new) (slots_at old) k d.claims d.is_def
       (λ j f us e. d.once.unread k j (within k d.claims) (within j (st.placed.claims j f)) d.is_def us e)
       d.places d.makes (record { now = ap opt (ap (place_in new) same ∙ z.here); same = λ x n. ap opt (z.others x (λ e. n (e ∙ sym same))) }) st.placed);
   below = λ j q cj e. subst (λ (s : SpillSlotsValue). q < s.count) (sym slots) (st.below j q cj e);
@@ -52,11 +52,11 @@ leave_stands counts what far done2 out2 Y old new k v d within same z slots st =
 }
 
 -- no definition is placed at the location of the vreg that is defined next
-pub defs_elsewhere : (counts : ℕ → Type 0) (what : ℕ → What) (far : Progress)
+pub no_def_at_location_of_next : (counts : ℕ → Type 0) (what : ℕ → What) (far : Progress)
     (T S : ℕ → Option Place) (k : ℕ) (p : Place) (u : ℕ)
     → Once counts what → ((j : ℕ) → far.claimed j ≡ true → counts j) → far.claimed k ≡ true → (what k).is_def ≡ true
     → Placed what far T S → T (what k).number ≡ Some p → far.made_at p u ≡ false
-defs_elsewhere counts what far T S k p u once within ck def s alloc_of =
+no_def_at_location_of_next counts what far T S k p u once within ck def s alloc_of =
     let v : ℕ = (what k).number in
     let l : far.lived v ≡ true = ⊎_elim
     (λ (a : far.lived v ≡ true). a)

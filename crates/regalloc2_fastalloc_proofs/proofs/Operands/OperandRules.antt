@@ -64,7 +64,8 @@ reading true b e f = absurd cc
 reading false true e f = absurd cc
 reading false false e f = refl
 
--- a use that got its place and isn't fixed to a nonallocatable register is an operand that was processed: its place alone is set
+-- a use that got its place and isn't fixed to a nonallocatable register is an operand that was processed: its place
+-- alone is set
 pub processes_operand_use : {i : ℕ} {ends_block : Bool} {operands : List OperandValue} {k : ℕ} {here : List Place} {t u : InstRegs} {old new : StateValue}
     (o : OperandValue)
     (h : Place) {request : OperandRequest} {point : ℕ} {p : Place}

@@ -1,4 +1,5 @@
--- An operand that got its place is placed: a use's vreg is there if it had no location, a definition's vreg leaves the tables.
+-- An operand that got its place is placed: a use's vreg is there if it had no location, a definition's vreg leaves the
+-- tables.
 use Rattle.std.proofs.Common.{ℕ, ◌≡◌, ◌≢◌, Bool, true, false, cond, List, refl, sym, ap, ◌∙◌, subst, inl, inr, ◌⊎◌, ⊎_elim, nat_eq, eq-eqb}
 use Rattle.std.specs.Prelude.{None, ◌&&◌}
 use Rattle.std.proofs.lemmas.Bool.{cases_Bool, cases_eq, eqb-true}
@@ -16,7 +17,7 @@ use Rattle.regalloc2_function.specs.FunctionValue.{op_at}
 use Rattle.regalloc2_fastalloc_proofs.specs.InstSteps.{StateValue, SameMachine, LocatesUse, stays, located, FreesAlloc}
 use Rattle.regalloc2_fastalloc_proofs.specs.Safety.{IsWhole}
 use Rattle.regalloc2_fastalloc_proofs.proofs.Safety.StepsKeepState.{place_in, slot_in}
-use Rattle.regalloc2_fastalloc_proofs.proofs.Operands.RecordOverState.{opt, stands_at, slots_at}
+use Rattle.regalloc2_fastalloc_proofs.proofs.Operands.RecordOverState.{opt, location_at, slots_at}
 use Rattle.regalloc2_fastalloc_proofs.proofs.Moves.ScratchRegTaken.{scratch_back, fit_same}
 use Rattle.regalloc2_fastalloc_proofs.proofs.Operands.ClaimAndUse.{PlacesUse, use_stays}
 use Rattle.regalloc2_fastalloc_proofs.proofs.Inst.AcrossInst.{arrive_register, arrive_slot, use_arrives}
@@ -43,7 +44,8 @@ keeps_true : (a c : Bool) → c ≡ true → cond a true c ≡ true
 keeps_true true c e = refl
 keeps_true false c e = e
 
--- operand k's definition adds its number to the defined numbers, and its value to the written values, in its place; nothing else is added
+-- operand k's definition adds its number to the defined numbers, and its value to the written values, in its place;
+-- nothing else is added
 pub makes_one : (ops : List OperandValue) (here : ℕ → Place) (out : ℕ → Bool) (X : Place → ℕ → Bool) (k : ℕ) →
     PlacesDefinition (what_of ops) here out (and_one out (op_at ops k).vreg.number) X (made_one X (here k) (op_at ops k).vreg.number) k
 makes_one ops here out X k = record {
@@ -95,18 +97,18 @@ module _ (tail : BlockTail) (ops : List OperandValue) (far : Progress) (ends_blo
       use_new new nowhere z slots edits machine =
           let z2 : SetsAlloc old.places new.places v (g.there k) = subst (SetsAlloc old.places new.places v) (sym g.at_k) z in
           let w : IsWhole new = arrive_whole new p refl (λ e. real (g.at_k ∙ e)) nowhere z slots in
-          let none : stands_at old num ≡ None = ap opt (ap (place_in old) (sym nv) ∙ nowhere) in
+          let none : location_at old num ≡ None = ap opt (ap (place_in old) (sym nv) ∙ nowhere) in
           let dead : far.lived num ≡ false = ⊎_elim
           (λ (a : far.lived num ≡ true). let o = g.ready.located.placed.lives num a none in let d = g.ready.located.placed.defined num o in
           absurd (unmade d.0 d.1 d.2 d.3))
           (λ (a : far.lived num ≡ false). a) (cases_Bool (far.lived num)) in
-          let c1 : Claims Known (after_part insts (listed old.edits) placesf i n) (Need far.lived far.out far.made_at (stands_at new) (slots_at old)) E =
-          need_new Known E (after_part insts (listed old.edits) placesf i n) far.lived far.out far.made_at (stands_at old) (stands_at new) (slots_at old) num
+          let c1 : Claims Known (after_part insts (listed old.edits) placesf i n) (Need far.lived far.out far.made_at (location_at new) (slots_at old)) E =
+          need_new Known E (after_part insts (listed old.edits) placesf i n) far.lived far.out far.made_at (location_at old) (location_at new) (slots_at old) num
           dead
           (λ x ne. ap opt (z.others x (λ e. ne (e ∙ nv)))) g.ready.owes.claims in
-          let c2 : Claims Known (after_part insts (listed old.edits) placesf i n) (Need far.lived far.out far.made_at (stands_at new) (slots_at new)) E =
+          let c2 : Claims Known (after_part insts (listed old.edits) placesf i n) (Need far.lived far.out far.made_at (location_at new) (slots_at new)) E =
           subst (λ (s : SpillSlotsValue). Claims Known (after_part insts (listed old.edits) placesf i n)
-          (Need far.lived far.out far.made_at (stands_at new) (λ x. opt (slot_name s x))) E) (sym slots) c1 in
+          (Need far.lived far.out far.made_at (location_at new) (λ x. opt (slot_name s x))) E) (sym slots) c1 in
           record {
             located = use_arrives (what_of ops) (record far { here = g.there; claimed = g.claimed2 }) (and_one far.done k) old new k v placed_use (sym nv)
                 real nowhere
@@ -114,7 +116,7 @@ module _ (tail : BlockTail) (ops : List OperandValue) (far : Progress) (ends_blo
             owes = record {
               later = subst (λ es. AllFrom (after i) (listed es)) (sym edits) g.ready.owes.later;
               claims = subst (λ es. Claims Known (after_part insts (listed es) placesf i n)
-                  (Need far.lived far.out far.made_at (stands_at new) (slots_at new)) E) (sym edits) c2;
+                  (Need far.lived far.out far.made_at (location_at new) (slots_at new)) E) (sym edits) c2;
             };
             nowhere_needed = λ a. subst (NoneNeeded tail) (sym edits) (g.ready.nowhere_needed a);
             held = g.ready.held;

@@ -1,4 +1,5 @@
--- The record that is kept while the operands of an instruction are placed: fixed ones are claimed and cleared, then late ones are placed, then early ones.
+-- The record that is kept while the operands of an instruction are placed: fixed ones are claimed and cleared, then
+-- late ones are placed, then early ones.
 use Rattle.std.proofs.Common.{ℕ, ◌≡◌, ◌≢◌, ◌<◌, Bool, true, false, List, length, ◌⊎◌}
 use Rattle.std.specs.Prelude.{slice_index_or}
 use Rattle.regalloc2_names.specs.declared.OperandConstraint.TheVariants.{Reg, FixedReg, Reuse}
@@ -11,13 +12,13 @@ use Rattle.regalloc2_carry.specs.OperandsPlaced.{what_of, Progress, Held, Once, 
 use Rattle.regalloc2_fastalloc_state.specs.declared.inst_regs.InstRegs.{InstRegs}
 use Rattle.regalloc2_function.specs.FunctionValue.{op_at}
 use Rattle.regalloc2_fastalloc_proofs.specs.InstSteps.{StateValue}
-use Rattle.regalloc2_fastalloc_proofs.proofs.Operands.RecordOverState.{stands_at, slots_at, Located, OwesPlaces, located_used}
+use Rattle.regalloc2_fastalloc_proofs.proofs.Operands.RecordOverState.{location_at, slots_at, Located, OwesPlaces, located_used}
 use Rattle.regalloc2_fastalloc_proofs.proofs.Evictions.EvictVReg.{held_early, held_late}
 use Rattle.regalloc2_fastalloc_proofs.proofs.Moves.ScratchRegTaken.{Fit, Spare, fit_used, spare_used}
 use Rattle.regalloc2_fastalloc_proofs.proofs.Operands.BlockTail.{BlockTail}
 
--- The operands of an instruction of a well-formed function. A number is defined once, and isn't read where it is defined;
--- a reuse is a late definition that names an early use, which no other reuse names, under Reg or FixedReg.
+-- The operands of an instruction of a well-formed function. A number is defined once, and isn't read where it is
+-- defined; a reuse is a late definition that names an early use, which no other reuse names, under Reg or FixedReg.
 pub record Orderly (ops : List OperandValue) : Type 0 where
   pub once : Once (Counts ops) (what_of ops)
   pub allocated : (k : ℕ) → k < length ops → is_def (op_at ops k).kind ≡ true → is_fixed_nonallocatable (op_at ops k) ≡ false
@@ -29,11 +30,13 @@ pub record Orderly (ops : List OperandValue) : Type 0 where
       ⊎ ((r : Register) × ((op_at ops m).constraint ≡ FixedReg r))
   pub apart : (d e m : ℕ) → d < length ops → e < length ops → (op_at ops d).constraint ≡ Reuse m → (op_at ops e).constraint ≡ Reuse m → d ≡ e
 
--- An operand was allocated: in the pass over late operands the late ones before k, in the pass over early operands all late ones and the early ones before k.
+-- An operand was allocated: in the pass over late operands the late ones before k, in the pass over early operands all
+-- late ones and the early ones before k.
 abbrev pub Turned : List OperandValue → Bool → ℕ → ℕ → Type 0
 Turned ops late k j = ((is_late (op_at ops j).position ≡ true) × (j < k)) ⊎ ((late ≡ false) × ((is_late (op_at ops j).position ≡ true) ⊎ (j < k)))
 
--- An operand whose register is claimed before it is allocated: it is fixed, or a reuse of a fixed use, or a use for which a reuse has chosen the register.
+-- An operand whose register is claimed before it is allocated: it is fixed, or a reuse of a fixed use, or a use for
+-- which a reuse has chosen the register.
 pub data Waits (ops : List OperandValue) (list : List Place) (j : ℕ) (r : Register) : Type 0 where
   of_fixed : (op_at ops j).constraint ≡ FixedReg r → Waits ops list j r
   of_reuse : (m : ℕ) → (op_at ops j).constraint ≡ Reuse m → (op_at ops m).constraint ≡ FixedReg r → Waits ops list j r
@@ -52,7 +55,7 @@ module _ (tail : BlockTail) where
   -- ends_block: the instruction is the last of its block, after which nothing is needed.
   pub record Ready (ops : List OperandValue) (far : Progress) (ends_block : Bool) (u : InstRegs) (t : StateValue) : Type 0 where
     pub located : Located (what_of ops) far t
-    pub owes : OwesPlaces tail far.lived far.out far.made_at (stands_at t) (slots_at t) t.edits
+    pub owes : OwesPlaces tail far.lived far.out far.made_at (location_at t) (slots_at t) t.edits
     pub nowhere_needed : ends_block ≡ true → Claims Known (after_part insts (listed t.edits) placesf i n) (λ x p. ⊥) E
     pub held : Held (what_of ops) far.here far.claimed (held_early u) (held_late u)
     pub scratch_reserve : Spare far.here far.claimed far.made_at u t
@@ -76,7 +79,8 @@ module _ (tail : BlockTail) where
     small = h.small;
   }
 
-  -- The record before the operand k is allocated in the pass over late or early operands; list has the places of the instruction so far.
+  -- The record before the operand k is allocated in the pass over late or early operands; list has the places of the
+  -- instruction so far.
   pub record Laid (ops : List OperandValue) (lived : ℕ → Bool) (clob : Place → Bool) (ends_block late : Bool) (k : ℕ) (list : List Place) (u : InstRegs)
       (t : StateValue) : Type 0 where
     pub here : ℕ → Place
@@ -99,8 +103,9 @@ module _ (tail : BlockTail) where
     -- a definition that is placed writes its place
     pub written : (j : ℕ) → done j ≡ true → is_def (op_at ops j).kind ≡ true → X (here j) (op_at ops j).vreg.number ≡ true
 
--- The context of the passes over an instruction's operands: the tail of the block; the operands, which are orderly; the numbers that had a location when
--- the instruction began; the clobbered places; and whether the instruction ends its block.
+-- The context of the passes over an instruction's operands: the tail of the block; the operands, which are orderly; the
+-- numbers that had a location when the instruction began; the clobbered places; and whether the instruction ends its
+-- block.
 pub record LayingContext : Type 1 where
   pub tail : BlockTail
   pub ops : List OperandValue

@@ -54,8 +54,8 @@ opt_real (InRegister r) q h e = let x : Some (InRegister r) ≡ Some NoPlace = h
 opt_real (InSlot k) q h e = let x : Some (InSlot k) ≡ Some NoPlace = h ∙ ap Some e in cc
 
 -- the location of a number's vreg, and its slot
-abbrev pub stands_at : StateValue → ℕ → Option Place
-stands_at t n = opt (place_in t n)
+abbrev pub location_at : StateValue → ℕ → Option Place
+location_at t n = opt (place_in t n)
 
 -- the spill slot of the vreg of a number, as an option
 abbrev pub slots_at : StateValue → ℕ → Option Place
@@ -71,7 +71,7 @@ slot_below count (InSlot j) k h e = let x : InSlot j ≡ InSlot k = e in let sam
 pub record Located (what : ℕ → What) (far : Progress) (t : StateValue) : Type
     0 where
   pub whole : IsWhole t
-  pub placed : Placed what far (stands_at t) (slots_at t)
+  pub placed : Placed what far (location_at t) (slots_at t)
   pub below : (j k : ℕ) → far.claimed j ≡ true → far.here j ≡ InSlot k → k < t.slots.count
   pub unclobbered : (k : ℕ) → far.clobbered (InSlot k) ≡ false
 
@@ -85,11 +85,11 @@ pub record Shifts (old new : StateValue) (v : VirtualRegister) (r : Register) (s
   pub real : s ≢ NoPlace
   pub number : ℕ
   pub is_slot : s ≡ InSlot number
-  pub was : stands_at old v.number ≡ Some (InRegister r)
-  pub now : stands_at new v.number ≡ Some s
+  pub was : location_at old v.number ≡ Some (InRegister r)
+  pub now : location_at new v.number ≡ Some s
   pub slot : slots_at new v.number ≡ Some s
-  pub same : (x : ℕ) → (x ≡ v.number → ⊥) → stands_at new x ≡ stands_at old x
-  pub only_vreg : (x : ℕ) → stands_at old x ≡ Some (InRegister r) → x ≡ v.number
+  pub same : (x : ℕ) → (x ≡ v.number → ⊥) → location_at new x ≡ location_at old x
+  pub only_vreg : (x : ℕ) → location_at old x ≡ Some (InRegister r) → x ≡ v.number
   pub empty : (x : ℕ) → place_in new x ≡ InRegister r → ⊥
   pub no_slot : (x : ℕ) (q : Register) → slots_at new x ≡ Some (InRegister q) → ⊥
   pub grows : (x : ℕ) (p : Place) → slots_at old x ≡ Some p → slots_at new x ≡ Some p
@@ -158,8 +158,8 @@ module _ (old new : StateValue) (v : VirtualRegister) (s : Place) (g : GetsSpill
   pub give_stands : new.places ≡ old.places → (what : ℕ → What) (far : Progress) →
       Located what far old → Located what far new
   give_stands e what far st =
-      let p : Placed what far (stands_at old) (slots_at new) =
-      step_slot what far (stands_at old) (slots_at old) (slots_at new)
+      let p : Placed what far (location_at old) (slots_at new) =
+      step_slot what far (location_at old) (slots_at old) (slots_at new)
       (λ x q f. elim (slots_fresh x q f) [ inl h ↦ inl h | inr h ↦ inr (λ j c i. let lt = st.below j h.0 c (i ∙ h.1) in omega (arith, lt, h.2)) ]) st.placed in
       record {
         whole = whole_given e;
@@ -229,9 +229,9 @@ module _ (old new : StateValue) (v : VirtualRegister) (r : Register) (s : Place)
   }
 
 -- the vreg moves from its register to its slot
-pub shift_goes : (old new : StateValue) (v : VirtualRegister) (r : Register) (s : Place) → Shifts old new v r s →
-    GoesToSlot (stands_at old) (stands_at new) (slots_at new) v.number (InRegister r) s
-shift_goes old new v r s h = record {
+pub shift_goes_to_slot : (old new : StateValue) (v : VirtualRegister) (r : Register) (s : Place) → Shifts old new v r s →
+    GoesToSlot (location_at old) (location_at new) (slots_at new) v.number (InRegister r) s
+shift_goes_to_slot old new v r s h = record {
   there = λ z. cc;
   was = h.was;
   own = h.slot;
@@ -241,16 +241,16 @@ shift_goes old new v r s h = record {
 }
 
 -- the record is kept if the vreg was live
-pub shift_stands : (old new : StateValue) (v : VirtualRegister) (r : Register) (s : Place) → IsWhole new → Shifts old new v r s →
+pub located_after_shift : (old new : StateValue) (v : VirtualRegister) (r : Register) (s : Place) → IsWhole new → Shifts old new v r s →
     (what : ℕ → What) (far : Progress) → far.lived v.number ≡ true →
     Located what far old → Located what far new
-shift_stands old new v r s w h what far l st =
-    let p : Placed what far (stands_at old) (slots_at new) =
-    step_slot what far (stands_at old) (slots_at old) (slots_at new)
+located_after_shift old new v r s w h what far l st =
+    let p : Placed what far (location_at old) (slots_at new) =
+    step_slot what far (location_at old) (slots_at old) (slots_at new)
     (λ x q f. elim (h.fresh x q f) [ inl y ↦ inl y | inr y ↦ inr (λ j c i. let less = st.below j y.0 c (i ∙ y.1) in omega (arith, less, y.2)) ]) st.placed in
     record {
       whole = w;
-      placed = step_evict what far (stands_at old) (stands_at new) (slots_at new) v.number (InRegister r) s (shift_goes old new v r s h) l
+      placed = step_evict what far (location_at old) (location_at new) (slots_at new) v.number (InRegister r) s (shift_goes_to_slot old new v r s h) l
           (ap far.clobbered h.is_slot ∙ st.unclobbered h.number) p;
       below = λ j k c e. (let less = st.below j k c e in omega (arith, less, h.count));
       unclobbered = st.unclobbered;
@@ -260,7 +260,8 @@ shift_stands old new v r s w h what far l st =
 module _ (tail : BlockTail) where
   open tail use {Known, insts, placesf, i, n, E}
 
-  -- no edit is before the point after the instruction, and what is listed from there on carries each known vreg from where it is needed
+  -- no edit is before the point after the instruction, and what is listed from there on carries each known vreg from
+  -- where it is needed
   pub record OwesPlaces (lived out : ℕ → Bool) (X : Place → ℕ → Bool) (T S : ℕ → Option Place) (edits : List (ℕ × MoveValue)) : Type 0 where
     pub later : AllFrom (after i) (listed edits)
     pub claims : Claims Known (after_part insts (listed edits) placesf i n) (Need lived out X T S) E
@@ -273,23 +274,23 @@ module _ (tail : BlockTail) where
   -- the reload of the vreg is pushed
   pub shift_owes : (old new : StateValue) (v : VirtualRegister) (r : Register) (s : Place) → Shifts old new v r s →
       (lived out : ℕ → Bool) (X : Place → ℕ → Bool) (edits : List (ℕ × MoveValue)) → ((u : ℕ) → X (InRegister r) u ≡ false) →
-      OwesPlaces lived out X (stands_at old) (slots_at old) edits → OwesPlaces lived out X (stands_at new) (slots_at new) (edits ++ a_move (after i) s (InRegister r) ∷ [])
+      OwesPlaces lived out X (location_at old) (slots_at old) edits → OwesPlaces lived out X (location_at new) (slots_at new) (edits ++ a_move (after i) s (InRegister r) ∷ [])
   shift_owes old new v r s h lived out X edits clear o =
       let L : List Item = after_part insts (listed edits) placesf i n in
-      let c : Claims Known (Move (record { from = s; to = InRegister r }) ∷ L) (Need lived out X (stands_at new) (slots_at new)) E =
-      need_evict Known E L lived out X (stands_at old) (stands_at new) (slots_at new) v.number (InRegister r) s (shift_goes old new v r s h) clear
-      (need_slot Known E L lived out X (stands_at old) (slots_at old) (slots_at new) h.grows o.claims) in
+      let c : Claims Known (Move (record { from = s; to = InRegister r }) ∷ L) (Need lived out X (location_at new) (slots_at new)) E =
+      need_evict Known E L lived out X (location_at old) (location_at new) (slots_at new) v.number (InRegister r) s (shift_goes_to_slot old new v r s h) clear
+      (need_slot Known E L lived out X (location_at old) (slots_at old) (slots_at new) h.grows o.claims) in
       record {
         later = later_push (after i) (record { from = s; to = InRegister r }) edits o.later;
-        claims = subst (λ l. Claims Known l (Need lived out X (stands_at new) (slots_at new)) E)
+        claims = subst (λ l. Claims Known l (Need lived out X (location_at new) (slots_at new)) E)
             (sym (after_part-more insts (record { from = s; to = InRegister r }) edits placesf i n)) c;
       }
 
 -- the record doesn't depend on the edits of the tables
-pub stands_edits : (what : ℕ → What) (far : Progress) (t : StateValue)
+pub located_after_edits : (what : ℕ → What) (far : Progress) (t : StateValue)
     (es : List (ℕ × MoveValue)) →
     Located what far t → Located what far (record t { edits = es })
-stands_edits what far t es st = record {
+located_after_edits what far t es st = record {
   whole = record {
     holds = st.whole.holds;
     stands_in = st.whole.stands_in;

@@ -22,9 +22,9 @@ use Rattle.regalloc2_function.specs.FunctionValue.{op_at}
 use Rattle.regalloc2_fastalloc_proofs.specs.InstSteps.{StateValue, MeetsRequirement, SelectsPlace, stays, fixed, slot, free, ClaimsPlace, in_slot}
 use Rattle.regalloc2_fastalloc_proofs.specs.InstSteps.{AllocsDefOp, in_register, AddsMoveIf, sent, unsent, FreesAlloc, reuse_requirement_of, reuse_request}
 use Rattle.regalloc2_fastalloc_proofs.proofs.Safety.StepsKeepState.{place_in}
-use Rattle.regalloc2_fastalloc_proofs.proofs.Operands.RecordOverState.{opt, stands_at, slots_at}
+use Rattle.regalloc2_fastalloc_proofs.proofs.Operands.RecordOverState.{opt, location_at, slots_at}
 use Rattle.regalloc2_fastalloc_proofs.proofs.Evictions.EvictVReg.{held_early, held_late}
-use Rattle.regalloc2_fastalloc_proofs.proofs.Moves.ScratchRegTaken.{Less, less_same, less_then}
+use Rattle.regalloc2_fastalloc_proofs.proofs.Moves.ScratchRegTaken.{Less, less_same, less_trans}
 use Rattle.regalloc2_fastalloc_proofs.proofs.Operands.ClaimAndUse.{claim_register, covers_both}
 use Rattle.regalloc2_fastalloc_proofs.proofs.Operands.RecordOfInst.{progress, Waits, of_fixed, of_reuse, of_named, Ready, Laid, LayingContext}
 use Rattle.regalloc2_fastalloc_proofs.proofs.Evictions.EvictKeepsRecord.{adds_move_less}
@@ -34,7 +34,7 @@ use Rattle.regalloc2_fastalloc_proofs.proofs.Operands.AllocOperand.{set_at_other
 use Rattle.regalloc2_fastalloc_proofs.proofs.Operands.AllocOperand.{and_one_keeps}
 use Rattle.regalloc2_fastalloc_proofs.proofs.Operands.RecordAfterOperand.{def_step, made_one, makes_one}
 use Rattle.regalloc2_fastalloc_proofs.proofs.Operands.UsesAndPlainDefs.{waits_set, fresh_turn, phase_turn, laid_next}
-use Rattle.regalloc2_fastalloc_proofs.proofs.Operands.AllocsSoFar.{asked_as_fixed}
+use Rattle.regalloc2_fastalloc_proofs.proofs.Operands.AllocsSoFar.{reuse_requires_fixed_reg}
 
 -- what is held stays held while the moves of a definition are added
 pub adds_move_if_less : (point : ℕ) (class : RegClass) (is_made : Bool) (from to : Place) (t u : InstRegs) (old new : StateValue) →
@@ -45,7 +45,7 @@ adds_move_if_less point class is_made from to t u old new (unsent e eu en) = les
 -- freeing a definition and adding its moves makes no register available
 pub frees_alloc_less : (point : ℕ) (v : VirtualRegister) (ends_block : Bool) (p : Place) (t u : InstRegs) (old new : StateValue) → FreesAlloc point v ends_block p t u old new
     → Less t u
-frees_alloc_less point v ends_block p t u old new d = less_then t d.inst_regs u (adds_move_if_less _ _ _ _ _ t d.inst_regs d.left d.middle d.expected)
+frees_alloc_less point v ends_block p t u old new d = less_trans t d.inst_regs u (adds_move_if_less _ _ _ _ _ t d.inst_regs d.left d.middle d.expected)
     (adds_move_if_less _ _ _ _ _ d.inst_regs u d.middle new d.stored)
 
 held_now : (b c s : Bool) → c ≡ (not (true && s) && b) → s ≡ true → c ≡ false
@@ -136,7 +136,7 @@ module _ (laying : LayingContext) (late : Bool) (k : ℕ) (list : List Place) (u
   due : Due L.here L.claimed k (reuse_requirement_of (op_at ops q).constraint)
   due = ⊎_elim
       (λ (ck : L.claimed k ≡ true). let w = claimed_fixed ck in owed w.0 ck w.1 (ap reuse_requirement_of w.2))
-      (λ (f : L.claimed k ≡ false). fresh f (λ r w. let x = (L.fixed_reuse k q r counts_k reuse (asked_as_fixed (op_at ops q).constraint r w)).0 in cc))
+      (λ (f : L.claimed k ≡ false). fresh f (λ r w. let x = (L.fixed_reuse k q r counts_k reuse (reuse_requires_fixed_reg (op_at ops q).constraint r w)).0 in cc))
       (cases_Bool (L.claimed k))
 
   -- under Reg neither operand claimed a register before
@@ -160,7 +160,7 @@ module _ (laying : LayingContext) (late : Bool) (k : ℕ) (list : List Place) (u
         (cases_Bool (L.claimed q))
 
     -- no vreg has claimed the place that the definition's vreg keeps
-    kept_only : (p : Place) → stands_at t (op_at ops k).vreg.number ≡ Some p → (j : ℕ) → L.claimed j ≡ true → L.here j ≡ p → ⊥
+    kept_only : (p : Place) → location_at t (op_at ops k).vreg.number ≡ Some p → (j : ℕ) → L.claimed j ≡ true → L.here j ≡ p → ⊥
     kept_only p at j c e =
         let num : ℕ = (op_at ops k).vreg.number in
         let s = L.ready.located.placed in
@@ -309,8 +309,8 @@ module _ (laying : LayingContext) (late : Bool) (k : ℕ) (list : List Place) (u
         | inr e ↦ phase j e use_j
       ]
 
-      nobody : (x : ℕ) → place_in m x ≡ InRegister in_reg.0 → ⊥
-      nobody x e = reuse_alone (what_of ops) (progress lived clob got.there got.claimed2 (and_one L.done k) out2 X2) (stands_at m) (slots_at m) k x
+      none_held : (x : ℕ) → place_in m x ≡ InRegister in_reg.0 → ⊥
+      none_held x e = reuse_alone (what_of ops) (progress lived clob got.there got.claimed2 (and_one L.done k) out2 X2) (location_at m) (slots_at m) k x
           ready.located.placed
           (and_one_same L.done k k refl) def phase2
           (ap opt e ∙ ap Some (sym in_reg.1 ∙ sym got.at_k))
@@ -345,7 +345,7 @@ module _ (laying : LayingContext) (late : Bool) (k : ℕ) (list : List Place) (u
           (λ z e. ready.small k z got.claims (got.at_k ∙ in_reg.1 ∙ e))
           (λ c b is e. (ready.scratch_reserve.idle c b is).unclaimed k got.claims (got.at_k ∙ in_reg.1 ∙ e))
           (claim_register (what_of ops) (progress lived clob got.there got.claimed2 (and_one L.done k) out2 X2) there3 claimed3 m q in_reg.0 puts clear2
-          (λ x e. absurd (nobody x e))
+          (λ x e. absurd (none_held x e))
           (λ h. elim h [ inl a ↦ (let x = use_q in absurd cc) | inr a ↦ (let x = early_q in absurd cc) ]) ready.located) ready
 
       not_q : (j : ℕ) → got.claimed2 j ≡ true → j ≡ q → ⊥
@@ -379,6 +379,7 @@ module _ (laying : LayingContext) (late : Bool) (k : ℕ) (list : List Place) (u
           (and_one_keeps got.claimed2 q k got.claims) (makes_one ops got.there L.out L.X k).keeps
           (λ e. ap (λ z. X2 z (op_at ops k).vreg.number) (set_at_other got.there q k p (λ h. apart (sym h))) ∙ (makes_one ops got.there L.out L.X k).is_made)
 
-    -- allocating operand k as a reuse keeps the record of the pass: k is done, and the use that it names has claimed the same place
+    -- allocating operand k as a reuse keeps the record of the pass: k is done, and the use that it names has claimed
+    -- the same place
     pub laid_reuse : Laid tail ops lived clob ends_block late (k + 1) (slice_set (slice_set list k p) q p) w m
     laid_reuse = elim (orderly.named_as k q lt reuse) [ inl a ↦ laid_any a | inr a ↦ laid_fixed a.0 a.1 ]

@@ -15,10 +15,10 @@ use Rattle.regalloc2_fastalloc_state.specs.InstRegs.{SameAvailable, RemovesAvail
 use Rattle.regalloc2_fastalloc_proofs.specs.InstSteps.{StateValue, MeetsRequirement, is_stack_in, ClaimsPlace, in_slot, in_register}
 
 -- any place meets the requirement of any place
-pub meets_requirement_anywhere : (t : StateValue) (w : Requirement) (p : Place) → w ≡ AnyPlace → p ≢ NoPlace → (IsTrue true → MeetsRequirement t w p)
+pub any_place_meets_requirement : (t : StateValue) (w : Requirement) (p : Place) → w ≡ AnyPlace → p ≢ NoPlace → (IsTrue true → MeetsRequirement t w p)
     × (MeetsRequirement t w p → IsTrue true)
 unfolding MeetsRequirement
-meets_requirement_anywhere t w p e there = rw e (λ h. there, λ s. refl)
+any_place_meets_requirement t w p e there = rw e (λ h. there, λ s. refl)
 
 -- a place meets the requirement of any register exactly if it isn't on the stack
 pub meets_requirement_any : (t : StateValue) (w : Requirement) (p : Place) (b : Bool) → w ≡ AnyReg → p ≢ NoPlace → b ≡ is_stack_in t p →
@@ -51,12 +51,12 @@ meets_requirement_at t w p r b e same = rw e (
 )
 
 -- what meets a requirement is a place
-pub meets_requirement_there : (t : StateValue) (w : Requirement) (p : Place) → MeetsRequirement t w p → p ≢ NoPlace
+pub meets_requirement_is_place : (t : StateValue) (w : Requirement) (p : Place) → MeetsRequirement t w p → p ≢ NoPlace
 unfolding MeetsRequirement
-meets_requirement_there t AnyPlace p s = s
-meets_requirement_there t AnyReg p s = λ e. let f = sym s.1 ∙ e in cc
-meets_requirement_there t InMemory p s = λ e. let f = sym (ap (is_stack_in t) e) ∙ s in cc
-meets_requirement_there t (InPReg r) p s = λ e. let f = sym s ∙ e in cc
+meets_requirement_is_place t AnyPlace p s = s
+meets_requirement_is_place t AnyReg p s = λ e. let f = sym s.1 ∙ e in cc
+meets_requirement_is_place t InMemory p s = λ e. let f = sym (ap (is_stack_in t) e) ∙ s in cc
+meets_requirement_is_place t (InPReg r) p s = λ e. let f = sym s ∙ e in cc
 
 -- the remaining requirements, if it is neither a specific nor any register
 pub wanted_rest : (w : Requirement) → ((r : Register) → w ≡ InPReg r → ⊥) → (w ≡ AnyReg → ⊥) → (w ≡ AnyPlace) ⊎ (w ≡ InMemory)

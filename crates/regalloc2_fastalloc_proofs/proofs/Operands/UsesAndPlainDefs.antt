@@ -19,7 +19,7 @@ use Rattle.regalloc2_fastalloc_proofs.proofs.Operands.RecordOfInst.{progress, Tu
 use Rattle.regalloc2_fastalloc_proofs.proofs.Operands.AllocOperand.{Due, owed, fresh, Got, allocs_operand_step, and_one, and_one_same, and_one_other}
 use Rattle.regalloc2_fastalloc_proofs.proofs.Operands.AllocOperand.{and_one_grows, and_one_keeps}
 use Rattle.regalloc2_fastalloc_proofs.proofs.Operands.RecordAfterOperand.{use_step, def_step, made_one, makes_one}
-use Rattle.regalloc2_fastalloc_proofs.proofs.Operands.AllocsSoFar.{asked_fixed, reads_allocated}
+use Rattle.regalloc2_fastalloc_proofs.proofs.Operands.AllocsSoFar.{requires_fixed_reg, reads_allocated}
 use Rattle.regalloc2_fastalloc_proofs.proofs.Operands.OperandRules.{use_vreg}
 
 -- an operand that was allocated
@@ -254,7 +254,7 @@ module _ (laying : LayingContext) where
 
       use_free : (q : Place) → slice_index_or list k NoPlace ≡ q → Counts ops k → L.claimed k ≡ false → (r : Register) →
           (use_request (op_at ops k) q).requirement ≡ InPReg r → ⊥
-      use_free NoPlace e c f r w = let x = (L.fixed k r c (asked_fixed (op_at ops k).constraint r w)).0 in cc
+      use_free NoPlace e c f r w = let x = (L.fixed k r c (requires_fixed_reg (op_at ops k).constraint r w)).0 in cc
       use_free (InRegister g) e c f r w = let x = (L.listed_here k c (λ y. let z : InRegister g ≡ NoPlace = sym e ∙ y in cc)).0 in cc
       use_free (InSlot m) e c f r w = let x = (L.listed_here k c (λ y. let z : InSlot m ≡ NoPlace = sym e ∙ y in cc)).0 in cc
 
@@ -311,7 +311,7 @@ module _ (laying : LayingContext) where
             | of_reuse m a b ↦ absurd (plain m a)
             | of_named d a b h f g ↦ absurd cc
           ]))
-          (λ (f : L.claimed k ≡ false). fresh f (λ r w. let x = (L.fixed k r c (asked_fixed (op_at ops k).constraint r w)).0 in cc))
+          (λ (f : L.claimed k ≡ false). fresh f (λ r w. let x = (L.fixed k r c (requires_fixed_reg (op_at ops k).constraint r w)).0 in cc))
           (cases_Bool (L.claimed k))
 
       -- allocating operand k as a definition that is no reuse keeps the record of the pass, with k done

@@ -1,4 +1,5 @@
--- At a block's start registers suffice: all registers are available, and nothing is needed but the reserved scratch register.
+-- At a block's start registers suffice: all registers are available, and nothing is needed but the reserved scratch
+-- register.
 use Rattle.std.proofs.Common.{ℕ, ◌≡◌, ◌≢◌, ◌<◌, true, List, length, slice_index_or}
 use Rattle.std.specs.Prelude.{not}
 use Rattle.regalloc2_names.specs.Register.{VirtualRegister, no_vreg}
@@ -12,7 +13,7 @@ use Rattle.regalloc2_fastalloc_proofs.specs.InstSteps.{StateValue, Outcome, no_r
 use Rattle.regalloc2_fastalloc_proofs.specs.BlockStart.{ReloadParam, nowhere, comes, ReloadsParams, none_begun, one_begun}
 use Rattle.regalloc2_fastalloc_proofs.specs.BlockStart.{ReloadParams, ReloadRegs, ReloadAtBegin, at_parameter, at_register}
 use Rattle.regalloc2_fastalloc_proofs.specs.Safety.{IsEndOfMove, AreSafeRegs}
-use Rattle.regalloc2_fastalloc_proofs.proofs.Safety.StepsKeepSafe.{AreKindsApart, StepKept, own_slot_is_end, stand_end, there_stands, rules_of}
+use Rattle.regalloc2_fastalloc_proofs.proofs.Safety.StepsKeepSafe.{AreKindsApart, StepKept, own_slot_is_end, may_be_located_is_end, may_be_located_if_place, rules_of}
 use Rattle.regalloc2_fastalloc_proofs.proofs.Slots.SlotsGrow.{gives_stay, end_grows}
 use Rattle.regalloc2_fastalloc_proofs.proofs.Safety.BlockStartKeepsSafe.{reloads_params_kept}
 use Rattle.regalloc2_fastalloc_proofs.proofs.Safety.InstKeepsSafe.{fresh_turn}
@@ -21,7 +22,7 @@ use Rattle.regalloc2_fastalloc_proofs.proofs.Safety.StepsKeepMachine.{keeps_of, 
 use Rattle.regalloc2_fastalloc_proofs.proofs.Pressure.TablesHaveAllRegs.{HasAll, all_kept}
 use Rattle.regalloc2_fastalloc_proofs.proofs.Pressure.OneRegTaken.{ample_none, ample_kept}
 use Rattle.regalloc2_fastalloc_proofs.proofs.Pressure.StepsLeaveEnough.{ample_add_move_if, Demand, demand_of}
-use Rattle.regalloc2_fastalloc_proofs.proofs.Pressure.EvictionsLeaveEnough.{goes_away, never_after}
+use Rattle.regalloc2_fastalloc_proofs.proofs.Pressure.EvictionsLeaveEnough.{not_is_place_differs, never_after}
 use Rattle.regalloc2_fastalloc_proofs.proofs.Pressure.EnoughAtStart.{StartsFree, fresh_ample}
 use Rattle.regalloc2_fastalloc_proofs.proofs.Changes.WalkChanges.{reloads_params_changes}
 use Rattle.regalloc2_fastalloc_proofs.proofs.Changes.Evictions.{regs_evict}
@@ -40,15 +41,15 @@ module _ (demand : Demand) where
   parameter_ends v s old m known h gives there made = (
     own_slot_is_end env m.slots v s gives.gives gives.there gives.below,
     end_grows env old.slots m.slots v (alloc_of old.places v.number) (gives_stay old.slots m.slots v s gives)
-        (stand_end env old.slots v (alloc_of old.places v.number) (there_stands env old.slots v (alloc_of old.places v.number) there (h.places v known))),
-    goes_away s (alloc_of old.places v.number) made,
+        (may_be_located_is_end env old.slots v (alloc_of old.places v.number) (may_be_located_if_place env old.slots v (alloc_of old.places v.number) there (h.places v known))),
+    not_is_place_differs s (alloc_of old.places v.number) made,
   )
 
   -- a parameter
   ample_reload_param : {v : VirtualRegister} {t : InstRegs} {old : StateValue} {o : Outcome InstRegs} → ReloadParam point v t old o → Known v →
       AreSafe env Known old → HasAll env old → AreSafeRegs env t → HasEnoughRegs Named needed t old → LeavesEnoughRegs Named needed o
   ample_reload_param {t} {old} (nowhere {u} {new} none eu en) known h all ht a = ample_none Named needed t u old new eu en a
-  ample_reload_param {v} {t} {old} (comes s m there gives settles edits machine order sends) known h all ht a =
+  ample_reload_param {v} {t} {old} (comes s m there gives sets_alloc edits machine order sends) known h all ht a =
       ample_add_move_if demand v sends known
       (parameter_ends v s old m known h gives there) (all_kept env old m (keeps_of old m machine) all) ht
       (ample_kept Named needed t old m (keeps_of old m machine) a)

@@ -1,4 +1,5 @@
--- A branch passes its arguments: the reserved scratch register is left, and where there are moves of a class it has a register.
+-- A branch passes its arguments: the reserved scratch register is left, and where there are moves of a class it has a
+-- register.
 use Rattle.std.proofs.Common.{ℕ, suc, ◌≡◌, ◌<◌, true, false, List, [], ◌∷◌, length, refl, sym, subst, inl, inr, arith, slice_index_or}
 use Rattle.std.specs.Prelude.{All}
 use Rattle.std.proofs.lemmas.Bool.{cases_Bool}
@@ -59,7 +60,7 @@ module _ (demand : Demand) where
   ample_spills_argument a s t u old new (from_register r m at gives places edits machine order clears) held ht h =
       ample_evict_preg demand clears (held_same Known old m places held) ht
       (ample_kept Named needed t old m (keeps_of old m machine) h)
-  ample_spills_argument a s t u old new (in_slot away gives settles edits machine order eu) held ht h =
+  ample_spills_argument a s t u old new (in_slot away gives sets_alloc edits machine order eu) held ht h =
       subst (λ (y : InstRegs). HasEnoughRegs Named needed y new) (sym eu) (ample_kept Named needed t old new (keeps_of old new machine) h)
 
   never_spill_argument : (a : VirtualRegister) (t : InstRegs) (old : StateValue) → SpillArgument point a t old no_register → AreHeld Known old →
@@ -90,9 +91,9 @@ module _ (demand : Demand) where
         k u m given →
         HasEnoughRegs Named needed u m
     ample_gathers_edge_moves k u new given none_gathered = a
-    ample_gathers_edge_moves k u new given (one_gathered j some to from w x m n o lt prev gives places edits machine order settles foreign) =
+    ample_gathers_edge_moves k u new given (one_gathered j some to from w x m n o lt prev gives places edits machine order sets_alloc foreign) =
         let p = gathers_edge_moves_kept j w m some prev in
-        ample_spills_argument (slice_index_or arguments j no_vreg) from w u n new settles (held_same Known m n places (safe_held env Known m p.safe))
+        ample_spills_argument (slice_index_or arguments j no_vreg) from w u n new sets_alloc (held_same Known m n places (safe_held env Known m p.safe))
         p.inst_regs
         (ample_kept Named needed w m n (keeps_of m n machine) (ample_gathers_edge_moves j w m some prev))
     ample_gathers_edge_moves k u new given (own_argument j some w m lt prev is_own) = ample_gathers_edge_moves j u new given prev
@@ -143,7 +144,7 @@ module _ (P : RegClass → Type 0) (point : ℕ) where
       → All (λ g. P g.class) given
   gathers_edge_moves_classes params arguments each t old before_it h k u m given none_gathered = h
   gathers_edge_moves_classes params arguments each t old before_it h k u m given
-      (one_gathered j some to from w x n o q lt prev gives places edits machine order settles foreign) =
+      (one_gathered j some to from w x n o q lt prev gives places edits machine order sets_alloc foreign) =
       All-push (λ (g : ClassMove). P g.class) some (record { class = (slice_index_or arguments j no_vreg).class; from = from; to = to })
       (gathers_edge_moves_classes params arguments each t old before_it h j w n some prev) (each j lt)
   gathers_edge_moves_classes params arguments each t old before_it h k u m given (own_argument j some w n lt prev is_own) =

@@ -1,4 +1,5 @@
--- Either the registers to which definitions are fixed are the machine's, for all instructions, or some instruction doesn't fit.
+-- Either the registers to which definitions are fixed are the machine's, for all instructions, or some instruction
+-- doesn't fit.
 use Rattle.std.proofs.Common.{ℕ, zero, suc, ◌≡◌, ◌<◌, ◌⊎◌, Bool, true, false, length, refl, sym, ◌∙◌, subst, inl, inr, arith}
 use Rattle.std.specs.Prelude.{Option, None, Some}
 use Rattle.std.proofs.lemmas.Bool.{cases_Bool}

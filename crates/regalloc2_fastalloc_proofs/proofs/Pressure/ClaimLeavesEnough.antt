@@ -21,10 +21,10 @@ use Rattle.regalloc2_fastalloc_proofs.specs.InstSteps.{ClaimsPlace, in_slot, in_
 use Rattle.regalloc2_fastalloc_proofs.specs.InstSteps.{to_expected, to_slot}
 use Rattle.regalloc2_fastalloc_proofs.specs.InstSteps.SelectsPlace.{stays, fixed, slot, free}
 use Rattle.regalloc2_fastalloc_proofs.specs.Safety.{MayBeLocatedAt, IsEndOfMove, AreSafeRegs}
-use Rattle.regalloc2_fastalloc_proofs.proofs.Safety.StepsKeepSafe.{AreKindsApart, own_slot_is_end, stand_end, there_stands, adds_move_if_kept, rules_of}
+use Rattle.regalloc2_fastalloc_proofs.proofs.Safety.StepsKeepSafe.{AreKindsApart, own_slot_is_end, may_be_located_is_end, may_be_located_if_place, adds_move_if_kept, rules_of}
 use Rattle.regalloc2_fastalloc_proofs.proofs.Slots.SlotsGrow.{SlotsStay, same_stay, end_grows, changes_stay}
 use Rattle.regalloc2_fastalloc_proofs.proofs.Moves.ScratchRegTaken.{Fit}
-use Rattle.regalloc2_fastalloc_proofs.proofs.Safety.OperandKeepsSafe.{leaves_safe, another_there}
+use Rattle.regalloc2_fastalloc_proofs.proofs.Safety.OperandKeepsSafe.{leaves_safe, another_is_place}
 use Rattle.regalloc2_fastalloc_proofs.specs.Pressure.EnoughRegs.{HasEnoughRegs, AllWrite, AllMay, AreSafe}
 use Rattle.regalloc2_fastalloc_proofs.proofs.Safety.StepsKeepMachine.{KeepsMachine, keeps_of, keeps_same, machine_stays}
 use Rattle.regalloc2_fastalloc_proofs.proofs.Changes.InstChanges.{selects_place_changes, evicts_other_vregs_changes, adds_move_if_changes}
@@ -37,8 +37,8 @@ use Rattle.regalloc2_fastalloc_proofs.proofs.Changes.OneChange.{uses_rest}
 plain_evicts_preg : (point : ℕ) (r : Register) (t u : InstRegs) (old new : StateValue) → EvictsPReg point r t u old new → has_register old.fixed_stack r ≡ false
     → u ≡ t
 plain_evicts_preg point r t u old new (empty none eu en) plain = eu
-plain_evicts_preg point r t u old new (cleared v s m lt held gives settles edits machine order (direct one eu en)) plain = eu
-plain_evicts_preg point r t u old new (cleared v s m lt held gives settles edits machine order (through by n two scratches en)) plain =
+plain_evicts_preg point r t u old new (cleared v s m lt held gives sets_alloc edits machine order (direct one eu en)) plain = eu
+plain_evicts_preg point r t u old new (cleared v s m lt held gives sets_alloc edits machine order (through by n two scratches en)) plain =
     let yes : has_register m.fixed_stack r ≡ true = (and_parts (is_stack_in m s) (has_register m.fixed_stack r) two).1 in
     let nay : has_register m.fixed_stack r ≡ false = ap (λ (x : PRegSet). has_register x r) machine.fixed_stack ∙ plain in absurd cc
 
@@ -58,12 +58,14 @@ pub held_same : (Known : VirtualRegister → Type 0) (old new : StateValue) → 
 held_same Known old new e h = subst (λ (x : VRegAllocsValue). (r : Register) (v : VirtualRegister) → r.number < 64 → vreg_of_preg x r ≡ Some v → Known v
     × (r.class ≡ v.class)) (sym e) h
 
--- An operand's register is paid for: if its place is a register that is free at both positions, enough are left without it.
+-- An operand's register is paid for: if its place is a register that is free at both positions, enough are left without
+-- it.
 abbrev pub IsPaid : (RegClass → ℕ) → OperandRequest → Place → InstRegs → StateValue → Type 0
 IsPaid needed o p t old = (r : Register) → p ≡ InRegister r → is_free old.allocatable t r ≡ true →
     needed r.class + scratch_reserve_left old.fixed_stack old.dedicated_scratch t r.class + 1 ≤ free_count old.allocatable t r.class
 
--- The named classes; a machine, whose kinds of registers are disjoint; the known vregs, of such classes; and the point of the moves.
+-- The named classes; a machine, whose kinds of registers are disjoint; the known vregs, of such classes; and the point
+-- of the moves.
 pub record Naming : Type 1 where
   pub Named : RegClass → Type 0
   pub env : MachineValue
@@ -199,7 +201,7 @@ module _ (naming : Naming) (same : (v w : VirtualRegister) → naming.Known v �
       stay = same_stay old.slots left.slots slots
 
       from : IsEndOfMove env left.slots v p
-      from = end_grows env old.slots left.slots v p stay (stand_end env old.slots v p place)
+      from = end_grows env old.slots left.slots v p stay (may_be_located_is_end env old.slots v p place)
 
       first_ends : (not ends_block && is_another (alloc_of old.places v.number) p) ≡ true → IsEndOfMove env left.slots v p
           × IsEndOfMove env left.slots v (alloc_of old.places v.number) × (p ≡ alloc_of old.places v.number → ⊥)
@@ -207,8 +209,8 @@ module _ (naming : Naming) (same : (v w : VirtualRegister) → naming.Known v �
           let w : Place = alloc_of old.places v.number in
           let other : is_another w p ≡ true = (and_parts (not ends_block) (is_another w p) made).1 in (
             from,
-            end_grows env old.slots left.slots v w stay (stand_end env old.slots v w
-                (there_stands env old.slots v w (another_there w p other) (h.places v known))),
+            end_grows env old.slots left.slots v w stay (may_be_located_is_end env old.slots v w
+                (may_be_located_if_place env old.slots v w (another_is_place w p other) (h.places v known))),
             another_differs w p other,
           )
 
@@ -220,7 +222,7 @@ module _ (naming : Naming) (same : (v w : VirtualRegister) → naming.Known v �
           let other : is_another s p ≡ true = (and_parts (is_another s p) _ ((and_parts (not ends_block) _ made).1)).0 in (
             end_grows env left.slots middle.slots v p more from,
             end_grows env old.slots middle.slots v s (λ n k is. more n k (stay n k is))
-                (own_slot_is_end env old.slots v s refl (another_there s p other) (h.slots v.number)),
+                (own_slot_is_end env old.slots v s refl (another_is_place s p other) (h.slots v.number)),
             another_differs s p other,
           )
 
@@ -242,24 +244,24 @@ module _ (naming : Naming) (same : (v w : VirtualRegister) → naming.Known v �
     first_safe : (left : StateValue) → SetsAlloc old.places left.places v NoPlace → (slots : left.slots ≡ old.slots) → left.edits ≡ old.edits →
         (machine : SameMachine old left) → (inst_regs : InstRegs) (middle : StateValue) → AddsMoveIf point v.class
         (not ends_block && is_another (alloc_of old.places v.number) p) p (alloc_of old.places v.number) t inst_regs left middle → AreSafeRegs env inst_regs
-    first_safe left settles slots edits machine inst_regs middle sends =
+    first_safe left sets_alloc slots edits machine inst_regs middle sends =
         (adds_move_if_kept (rules_of env apart Known AllWrite AllMay point tt) v _ p (alloc_of old.places v.number) t inst_regs left middle sends known
         (λ made. let e = first_ends left slots machine made in (e.0, e.1, λ n x. tt))
-        (leaves_safe (rules_of env apart Known AllWrite AllMay point tt) same v old left settles slots edits machine h) ht).inst_regs
+        (leaves_safe (rules_of env apart Known AllWrite AllMay point tt) same v old left sets_alloc slots edits machine h) ht).inst_regs
 
     -- if registers are enough, the moves of a definition lack none
     pub never_free_alloc : FreeAlloc point v ends_block p t old no_register → ⊥
-    never_free_alloc (to_expected left settles slots edits machine stops) =
+    never_free_alloc (to_expected left sets_alloc slots edits machine stops) =
         ample_add_move_if (demand_of Named needed point env apart Known named) v stops known (first_ends left slots machine) (left_all left slots machine) ht
         (left_ample left slots machine)
-    never_free_alloc (to_slot left middle inst_regs settles slots edits machine sends stops) =
+    never_free_alloc (to_slot left middle inst_regs sets_alloc slots edits machine sends stops) =
         let s = first_sent left slots machine inst_regs middle sends in
         ample_add_move_if (demand_of Named needed point env apart Known named) v stops known (second_ends left slots machine middle s.stay_too) s.all
-        (first_safe left settles slots edits machine inst_regs middle sends) s.ample
+        (first_safe left sets_alloc slots edits machine inst_regs middle sends) s.ample
 
     -- freeing a definition and adding its moves leaves enough registers
     pub ample_frees_alloc : {u : InstRegs} {new : StateValue} → FreesAlloc point v ends_block p t u old new → HasEnoughRegs Named needed u new
     ample_frees_alloc {u} {new} d =
         let s = first_sent d.left d.slots d.machine d.inst_regs d.middle d.expected in
         ample_add_move_if (demand_of Named needed point env apart Known named) v d.stored known (second_ends d.left d.slots d.machine d.middle s.stay_too) s.all
-        (first_safe d.left d.settles d.slots d.edits d.machine d.inst_regs d.middle d.expected) s.ample
+        (first_safe d.left d.sets_alloc d.slots d.edits d.machine d.inst_regs d.middle d.expected) s.ample

@@ -1,5 +1,5 @@
--- Which registers are available when an instruction begins, and when an instruction's fixed registers and clobbers are held: enough, where
--- the instruction fits.
+-- Which registers are available when an instruction begins, and when an instruction's fixed registers and clobbers are
+-- held: enough, where the instruction fits.
 use Rattle.std.proofs.Common.{ℕ, ◌≡◌, ◌<◌, ◌≤◌, Bool, true, false, List, [], ◌∷◌, refl, sym, ap, ◌∙◌, subst, inl, inr, arith, eq-eqb}
 use Rattle.std.specs.Prelude.{◌&&◌, ◌||◌, nat_eq, nat_lt, count_by, if◌then◌else◌, is_none, Option, None, slice_index_or}
 use Rattle.std.proofs.lemmas.Bool.{cases_Bool, lt-ltb, ltb-true, and_parts, and_from}

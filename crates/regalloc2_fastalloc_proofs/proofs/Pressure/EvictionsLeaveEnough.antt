@@ -10,7 +10,7 @@ use Rattle.regalloc2_fastalloc_state.specs.StateParts.{alloc_of}
 use Rattle.regalloc2_function.specs.FunctionValue.{op_at}
 use Rattle.regalloc2_fastalloc_proofs.specs.InstSteps.{StateValue, MovesUses, none_moved, not_moved, one_moved, no_register, EvictPReg, MoveUses}
 use Rattle.regalloc2_fastalloc_proofs.specs.Safety.{MayBeLocatedAt, IsEndOfMove, AreSafeRegs}
-use Rattle.regalloc2_fastalloc_proofs.proofs.Safety.StepsKeepSafe.{StepKept, evicts_preg_kept, stand_end, there_stands, rules_of, safe_used}
+use Rattle.regalloc2_fastalloc_proofs.proofs.Safety.StepsKeepSafe.{StepKept, evicts_preg_kept, may_be_located_is_end, may_be_located_if_place, rules_of, safe_used}
 use Rattle.regalloc2_fastalloc_proofs.proofs.Slots.SlotsGrow.{end_grows, changes_stay}
 use Rattle.regalloc2_fastalloc_proofs.proofs.Slots.LocatedStaysLocated.{changes_last}
 use Rattle.regalloc2_fastalloc_proofs.proofs.Operands.AllocsSoFar.{at_place, AreSoundOperands, reads_allocated}
@@ -24,8 +24,8 @@ use Rattle.regalloc2_fastalloc_proofs.proofs.Pressure.StepsLeaveEnough.{ample_ev
 use Rattle.regalloc2_fastalloc_proofs.proofs.Pressure.ClaimLeavesEnough.{safe_held}
 
 -- a move that is made has a place as its target
-pub goes_away : (p q : Place) → not (is_place p q) ≡ true → p ≡ q → ⊥
-goes_away p q made e = (let same : is_place p q ≡ true = subst (λ (x : Place). is_place p x ≡ true) e (is_place-same p) in
+pub not_is_place_differs : (p q : Place) → not (is_place p q) ≡ true → p ≡ q → ⊥
+not_is_place_differs p q made e = (let same : is_place p q ≡ true = subst (λ (x : Place). is_place p x ≡ true) e (is_place-same p) in
     let none : not (is_place p q) ≡ false = rw same refl in cc)
 
 module _ (demand : Demand) where
@@ -78,12 +78,12 @@ module _ (demand : Demand) where
     ends j k m u moves le less reads made =
         let v : VirtualRegister = (op_at ops j).vreg in
         let from : Place = alloc_of m.places v.number in (
-          stand_end env m.slots v from (there_stands env m.slots v from
+          may_be_located_is_end env m.slots v from (may_be_located_if_place env m.slots v from
               (changes_last v.number (moves_uses_changes (λ q r. tt) (λ n lt is q. tt) moves) (found j less reads))
               ((moves_uses_kept k u m moves le).safe.places v (sound_ops.known j less (reads_allocated (op_at ops j) reads)))),
           end_grows env old.slots m.slots v (at_place here j) (changes_stay (moves_uses_changes (λ q r. tt) (λ n lt is q. tt) moves))
-              (stand_end env old.slots v (at_place here j) (good j less reads)),
-          goes_away from (at_place here j) made,
+              (may_be_located_is_end env old.slots v (at_place here j) (good j less reads)),
+          not_is_place_differs from (at_place here j) made,
         )
 
     -- moving the uses among the first k operands leaves enough registers

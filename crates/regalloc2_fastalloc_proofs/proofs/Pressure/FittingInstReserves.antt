@@ -130,7 +130,8 @@ module _ (f : FunctionValue) (env : MachineValue) (inst : InstValue) (fits : Fit
     | inr ne ↦ apart_claims m n r p q ne (named_at j m r p (omega (arith, less, lt)) reuses within is at) (named_at k n r q lt too inside it there) both
   ]
 
-  -- an instruction that fits the machine reserves its registers: each is the machine's, and none is shared at a position
+  -- an instruction that fits the machine reserves its registers: each is the machine's, and none is shared at a
+  -- position
   pub never_reserve_regs : (old : StateValue) → HasAll env old → RegsAreNotReserved ops old → ⊥
   never_reserve_regs old all (unknown k r p lt claims none) = either_false (has_register old.allocatable r) (has_register old.fixed_stack r)
       (elim (known k r p lt claims) [

@@ -1,4 +1,5 @@
--- While operands are allocated, at least as many registers are free as operands wait for one; each takes its own, or one that can be spared.
+-- While operands are allocated, at least as many registers are free as operands wait for one; each takes its own, or
+-- one that can be spared.
 use Rattle.regalloc2_parts.proofs.RegisterLaws.{class_codes}
 use Rattle.std.proofs.Common.{ℕ, zero, suc, [], ◌∷◌, ◌≡◌, ◌+◌, ◌-◌, ◌<◌, ◌≤◌, Bool, true, false, List, length, refl, sym, ap, ◌∙◌, subst, arith, inl, inr}
 use Rattle.std.proofs.Common.{◌⊎◌, get_or-set_same, set}
@@ -28,8 +29,9 @@ use Rattle.regalloc2_fastalloc_proofs.specs.Pressure.EnoughRegs.{HasEnoughRegs, 
 use Rattle.regalloc2_fastalloc_proofs.proofs.Pressure.TablesHaveAllRegs.{HasAll}
 use Rattle.regalloc2_fastalloc_proofs.proofs.Pressure.ClaimLeavesEnough.{IsPaid}
 
--- While operands are allocated: enough registers are free for the waiting operands, which are counted. A register that an operand has, or is fixed to, is
--- no longer free. If an operand that isn't done has a register already, a reuse that is done names it.
+-- While operands are allocated: enough registers are free for the waiting operands, which are counted. A register that
+-- an operand has, or is fixed to, is no longer free. If an operand that isn't done has a register already, a reuse that
+-- is done names it.
 pub record Paying (Named : RegClass → Type 0) (ops : List OperandValue) (done : ℕ → Type 0) (here : List Place) (u : InstRegs) (t : StateValue) : Type 0 where
   pub ample : HasEnoughRegs Named (waiting ops here) u t
   pub awaited : (c : RegClass) → awaited_of u c ≡ waiting ops here c
@@ -50,9 +52,9 @@ unfree_kept old new t u r same less h = elim (cases_Bool (has_register old r)) [
 ]
 
 -- the register of an operand that was placed is no longer free
-pub allocs_operand_settled : (point : ℕ) (o : OperandRequest) (p : Place) (t u : InstRegs) (old new : StateValue) → AllocsOperand point o p t u old new →
+pub placed_register_is_not_free : (point : ℕ) (o : OperandRequest) (p : Place) (t u : InstRegs) (old new : StateValue) → AllocsOperand point o p t u old new →
     (o.positions.early ≡ true) ⊎ (o.positions.late ≡ true) → (set : PRegSet) (r : Register) → p ≡ InRegister r → is_free set u r ≡ false
-allocs_operand_settled point o p t u old new g some set r is = by_case g.takes.occupies
+placed_register_is_not_free point o p t u old new g some set r is = by_case g.takes.occupies
   where
     held : (b c y x : Bool) → x ≡ (not (b && c) && y) → b ≡ true → c ≡ true → x ≡ false
     held b c y x e f h = (let n : x ≡ (not (true && true) && y) = rw (f, h) at e in n)
@@ -70,7 +72,8 @@ allocs_operand_settled point o p t u old new g some set r is = by_case g.takes.o
               (held o.positions.late (is_register q r) (has_register m.late r) (has_register u.late r) (holds.late r) late it))
         ]
 
--- How an operand's place changes the waiting operands: an operand that requires any register no longer waits, and other operands change nothing.
+-- How an operand's place changes the waiting operands: an operand that requires any register no longer waits, and other
+-- operands change nothing.
 pub data Pays (ops : List OperandValue) (here there : List Place) (v : VirtualRegister) (w : Requirement) (t : InstRegs) (old : StateValue) : Type 0 where
   waited : w ≡ AnyReg → waiting ops here v.class ≡ waiting ops there v.class + 1 →
       ((c : RegClass) → (class_code c ≡ class_code v.class → ⊥) → waiting ops there c ≡ waiting ops here c) → Pays ops here there v w t old

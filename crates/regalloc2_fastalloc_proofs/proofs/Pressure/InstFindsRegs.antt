@@ -1,4 +1,5 @@
--- An instruction that fits is allocated: registers suffice at each of its stages, and its reserved scratch register is left for its branch.
+-- An instruction that fits is allocated: registers suffice at each of its stages, and its reserved scratch register is
+-- left for its branch.
 use Rattle.std.proofs.Common.{ℕ, ◌≡◌, ◌<◌, true, false, List, length, refl, sym, ◌∙◌, inl, inr, arith}
 use Rattle.std.specs.Prelude.{not, slice_index_or}
 use Rattle.std.proofs.lemmas.Bool.{and_left, and_right}
@@ -21,14 +22,14 @@ use Rattle.regalloc2_fastalloc_proofs.specs.InstSteps.{MoveUses, PrepareRegs, in
 use Rattle.regalloc2_fastalloc_proofs.specs.InstSteps.{in_moves}
 use Rattle.regalloc2_fastalloc_proofs.specs.Safety.{AreSafeRegs}
 use Rattle.regalloc2_fastalloc_proofs.proofs.Safety.StepsKeepSafe.{AreKindsApart, safe_turn}
-use Rattle.regalloc2_fastalloc_proofs.proofs.Moves.ScratchRegTaken.{Less, less_then}
+use Rattle.regalloc2_fastalloc_proofs.proofs.Moves.ScratchRegTaken.{Less, less_trans}
 use Rattle.regalloc2_fastalloc_proofs.proofs.Evictions.EvictKeepsRecord.{evictions_less}
 use Rattle.regalloc2_fastalloc_proofs.proofs.Changes.Evictions.{Evictions, both_evicted, fixed_evicts, each_evicts}
 use Rattle.regalloc2_fastalloc_proofs.proofs.Operands.AllocsSoFar.{AreSoundOperands, Filled, FixedAreKnown, filled_same, reads_allocated, filling_of}
 use Rattle.regalloc2_fastalloc_proofs.proofs.Safety.OperandPassesKeepSafe.{late_operands_kept, early_operands_kept, passes_of}
 use Rattle.regalloc2_fastalloc_proofs.proofs.Safety.InstKeepsSafe.{fresh_turn}
 use Rattle.regalloc2_fastalloc_proofs.specs.Pressure.EnoughRegs.{HasEnoughRegs, waiting, none_needed, AllWrite, AllMay, AreSafe}
-use Rattle.regalloc2_fastalloc_proofs.proofs.Safety.StepsKeepMachine.{KeepsMachine, keeps_then, machine_stays}
+use Rattle.regalloc2_fastalloc_proofs.proofs.Safety.StepsKeepMachine.{KeepsMachine, keeps_machine_trans, machine_stays}
 use Rattle.regalloc2_fastalloc_proofs.proofs.Changes.InstChanges.{free_operand, processes_operands_at_changes, evicts_fixed_changes, evicts_each_changes}
 use Rattle.regalloc2_fastalloc_proofs.proofs.Pressure.TablesHaveAllRegs.{HasAll, all_kept}
 use Rattle.regalloc2_fastalloc_proofs.proofs.Pressure.OneRegTaken.{ample_less}
@@ -39,7 +40,7 @@ use Rattle.regalloc2_fastalloc_proofs.proofs.Pressure.PassesLeaveEnough.{early_o
 use Rattle.regalloc2_fastalloc_proofs.proofs.Pressure.EvictionsLeaveEnough.{LeavesEnough, evictions_ample, never_after, ample_moves_uses, never_move_uses}
 use Rattle.regalloc2_fastalloc_proofs.proofs.Pressure.FittingInstReserves.{never_reserve_regs}
 use Rattle.regalloc2_fastalloc_proofs.proofs.Pressure.EnoughAtStart.{StartsFree, held_ample}
-use Rattle.regalloc2_fastalloc_proofs.proofs.BlockEnd.NoMoveInLastInst.{some_position, no_place_there}
+use Rattle.regalloc2_fastalloc_proofs.proofs.BlockEnd.NoMoveInLastInst.{some_position, no_place_not_register}
 use Rattle.regalloc2_fastalloc_proofs.proofs.Pressure.StepsLeaveEnough.{Demand, demand_of}
 use Rattle.regalloc2_fastalloc_proofs.proofs.Pressure.OperandsLeaveEnough.{NamedOperands, named_operands}
 
@@ -50,8 +51,9 @@ holds_less clobbers t u h = record {
   late = λ q e. h.late q ∙ rw e (and_right (not (has_register clobbers q)) false refl);
 }
 
--- The instruction i, which fits: the function and a machine, whose kinds of registers are disjoint; the known vregs, of classes that the function names;
--- the tables after the instruction, safe and with all registers; and the registers and the list of places with which it begins.
+-- The instruction i, which fits: the function and a machine, whose kinds of registers are disjoint; the known vregs, of
+-- classes that the function names; the tables after the instruction, safe and with all registers; and the registers and
+-- the list of places with which it begins.
 pub record FittingInst : Type 1 where
   pub f : FunctionValue
   pub env : MachineValue
@@ -121,19 +123,19 @@ module _ (fitting : FittingInst) where
     quiet_left = evictions_ample demand evicts h (held_turn r.reserved r.held r.reserves r.holds) (enough_held r.reserved r.held r.reserves r.holds)
 
     quiet_keeps : KeepsMachine old m
-    quiet_keeps = keeps_then old r.middle m (machine_stays (evicts_fixed_changes (λ q s. tt) r.fixed))
+    quiet_keeps = keeps_machine_trans old r.middle m (machine_stays (evicts_fixed_changes (λ q s. tt) r.fixed))
         (machine_stays (evicts_each_changes (λ q s. tt) r.emptied))
 
     quiet_all : HasAll env m
     quiet_all = all_kept env old m quiet_keeps all
 
     quiet_less : Less r.reserved quiet
-    quiet_less = less_then r.reserved r.held quiet (holds_less inst.clobbers r.reserved r.held r.holds) (evictions_less evicts)
+    quiet_less = less_trans r.reserved r.held quiet (holds_less inst.clobbers r.reserved r.held r.holds) (evictions_less evicts)
 
     -- a fixed register is no longer free
-    fixed_settled : (j : ℕ) (q : Register) → j < length ops → is_fixed_nonallocatable (op_at ops j) ≡ false → (op_at ops j).constraint ≡ FixedReg q →
+    fixed_register_is_not_free : (j : ℕ) (q : Register) → j < length ops → is_fixed_nonallocatable (op_at ops j) ≡ false → (op_at ops j).constraint ≡ FixedReg q →
         is_free m.allocatable quiet q ≡ false
-    fixed_settled j q lt allocated is = unfree_kept old.allocatable m.allocatable r.reserved quiet q quiet_keeps.allocatable quiet_less
+    fixed_register_is_not_free j q lt allocated is = unfree_kept old.allocatable m.allocatable r.reserved quiet q quiet_keeps.allocatable quiet_less
         (elim (some_position (op_at ops j)) [
           | inl early ↦ (let gone = r.reserves.held_early j q (positions_of (op_at ops j)) lt (claims_own allocated is refl) early in
               and_right (has_register old.allocatable q) _ (and_left (has_register r.reserved.early q) (has_register r.reserved.late q) gone))
@@ -157,10 +159,10 @@ module _ (fitting : FittingInst) where
       ample = quiet_left.ample;
       awaited = λ c. r.awaited c ∙ sym (all_wait ops blank c none);
       placed_unfree = λ j q lt allocated at. elim at [
-        | inl there ↦ absurd (no_place_there (slice_index_or blank j NoPlace) q (none j) there)
-        | inr is ↦ fixed_settled j q lt allocated is
+        | inl there ↦ absurd (no_place_not_register (slice_index_or blank j NoPlace) q (none j) there)
+        | inr is ↦ fixed_register_is_not_free j q lt allocated is
       ];
-      named = λ j q lt not_d there. absurd (no_place_there (slice_index_or blank j NoPlace) q (none j) there);
+      named = λ j q lt not_d there. absurd (no_place_not_register (slice_index_or blank j NoPlace) q (none j) there);
     }
 
     never_in_lates : ProcessOperandsAt i (ends_block inst) true ops blank quiet m no_register → ⊥

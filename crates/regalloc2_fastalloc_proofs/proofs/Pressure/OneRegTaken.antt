@@ -96,11 +96,11 @@ has_stack stack r lt h =
     (some_count (λ n. has_register stack (register_number r.class n)) 64 r.number lt h)
 
 -- the register reserved for stack-to-stack moves, if there are fixed stack slots and none was taken
-pub spare_is_one : (stack : PRegSet) (dedicated_scratch : List (Option Register)) (u : InstRegs) (c : RegClass) →
+pub scratch_reserve_is_one : (stack : PRegSet) (dedicated_scratch : List (Option Register)) (u : InstRegs) (c : RegClass) →
     nat_lt 0 (count_below (λ n. has_register stack (register_number c n)) 64) ≡ true
     → slice_index_or dedicated_scratch (class_code c) None ≡ None → slice_index_or u.scratch (class_code c) None ≡ None
     → scratch_reserve_left stack dedicated_scratch u c ≡ 1
-spare_is_one stack dedicated_scratch u c some none unset = rw (some, none, unset) refl
+scratch_reserve_is_one stack dedicated_scratch u c some none unset = rw (some, none, unset) refl
 
 -- a class whose scratch register is taken reserves no further one
 pub spare_is_none : (stack : PRegSet) (dedicated_scratch : List (Option Register)) (u : InstRegs) (c : RegClass) (by : Register) →

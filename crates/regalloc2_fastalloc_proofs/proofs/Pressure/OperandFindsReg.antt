@@ -19,11 +19,11 @@ use Rattle.regalloc2_function.specs.FunctionValue.{op_at}
 use Rattle.regalloc2_fastalloc_proofs.specs.InstSteps.{StateValue, requirement_of, reuse_requirement_of, use_request}
 use Rattle.regalloc2_fastalloc_proofs.specs.Safety.{IsOfMachine, MayBeLocatedAt}
 use Rattle.regalloc2_fastalloc_proofs.proofs.Safety.OperandKeepsSafe.{AnswersRequirement}
-use Rattle.regalloc2_fastalloc_proofs.proofs.Operands.AllocsSoFar.{at_place, AreSoundOperands, Filled, FixedAreKnown, reads_allocated, asked_fixed}
-use Rattle.regalloc2_fastalloc_proofs.proofs.Operands.AllocsSoFar.{asked_as_fixed, fixed_class}
+use Rattle.regalloc2_fastalloc_proofs.proofs.Operands.AllocsSoFar.{at_place, AreSoundOperands, Filled, FixedAreKnown, reads_allocated, requires_fixed_reg}
+use Rattle.regalloc2_fastalloc_proofs.proofs.Operands.AllocsSoFar.{reuse_requires_fixed_reg, fixed_class}
 use Rattle.regalloc2_fastalloc_proofs.proofs.Safety.OperandPassesKeepSafe.{a_place_of}
 use Rattle.regalloc2_fastalloc_proofs.specs.Pressure.EnoughRegs.{waits, waiting, AllWrite, AllMay}
-use Rattle.regalloc2_fastalloc_proofs.proofs.Pressure.WaitingOperands.{waits_no_more, waits_as_before, waits_not, waits_elsewhere, waits_placed, waits_here, some_wait}
+use Rattle.regalloc2_fastalloc_proofs.proofs.Pressure.WaitingOperands.{waits_no_more, waits_as_before, waits_not, other_class_does_not_wait, waits_placed, waits_here, some_wait}
 use Rattle.regalloc2_fastalloc_proofs.proofs.Pressure.FreeRegsCoverWaiting.{Paying, Pays, waited, anywhere, memory, at_one}
 
 -- a register that isn't a fixed stack slot
@@ -33,17 +33,18 @@ plain_at env (InRegister r) h = (r, refl)
 plain_at env (InSlot n) h = absurd h
 
 -- the constraint of an operand that requires any register, and is no reuse
-asks_reg : (c : OperandConstraint) → ((n : ℕ) → c ≡ Reuse n → ⊥) → ((n : ℕ) → c ≡ Limit n → ⊥) → requirement_of c ≡ AnyReg → is_under_reg c ≡ true
-asks_reg Reg r l e = refl
-asks_reg (Reuse n) r l e = absurd (r n refl)
-asks_reg (Limit n) r l e = absurd (l n refl)
-asks_reg c r l e = absurd cc
+requires_any_reg : (c : OperandConstraint) → ((n : ℕ) → c ≡ Reuse n → ⊥) → ((n : ℕ) → c ≡ Limit n → ⊥) → requirement_of c ≡ AnyReg → is_under_reg c ≡ true
+requires_any_reg Reg r l e = refl
+requires_any_reg (Reuse n) r l e = absurd (r n refl)
+requires_any_reg (Limit n) r l e = absurd (l n refl)
+requires_any_reg c r l e = absurd cc
 
 -- the constraint determines whether an operand waits
 not_under : (c d : OperandConstraint) → c ≡ d → is_under_reg d ≡ false → is_under_reg c ≡ false
 not_under c d e h = ap is_under_reg e ∙ h
 
--- The operand k is next: the operands that satisfy D have places, paid for by the registers that are left in the named classes.
+-- The operand k is next: the operands that satisfy D have places, paid for by the registers that are left in the named
+-- classes.
 pub record CountedOperand (env : MachineValue) (Known : VirtualRegister → Type 0) (ops : List OperandValue) : Type 1 where
   pub Named : RegClass → Type 0
   pub fixed : FixedAreKnown env ops
@@ -85,7 +86,7 @@ module _ (env : MachineValue) (Known : VirtualRegister → Type 0) (ops : List O
           waited refl
           (subst (λ x. waiting ops here (op_at ops k).vreg.class ≡ waiting ops (set here k x) (op_at ops k).vreg.class + 1) (sym r.1)
           (waits_no_more ops here (op_at ops k).vreg.class k r.0 lt h.long (waits_here ops here k under none)))
-          (λ c ne. waits_as_before ops here c k q h.long (λ within. waits_elsewhere ops here c k ne ∙ sym (waits_elsewhere ops (set here k q) c k ne)))
+          (λ c ne. waits_as_before ops here c k q h.long (λ within. other_class_does_not_wait ops here c k ne ∙ sym (other_class_does_not_wait ops (set here k q) c k ne)))
       by_constraint Stack e q a = memory refl (waiting_unchanged here k q h.long (not_under (op_at ops k).constraint Stack e refl))
       by_constraint (FixedReg r) e q a = at_one r refl (p.placed_unfree k r lt allocated (inr e))
           (waiting_unchanged here k q h.long (not_under (op_at ops k).constraint (FixedReg r) e refl))
@@ -95,10 +96,10 @@ module _ (env : MachineValue) (Known : VirtualRegister → Type 0) (ops : List O
       asked_ready : Ready (op_at ops k).vreg (requirement_of (op_at ops k).constraint) here (λ q. set here k q) t old
       asked_ready = record {
         known = sound_ops.known k lt allocated;
-        asks_well = λ r is. (let e : (op_at ops k).constraint ≡ FixedReg r = asked_fixed (op_at ops k).constraint r is in
+        asks_well = λ r is. (let e : (op_at ops k).constraint ≡ FixedReg r = requires_fixed_reg (op_at ops k).constraint r is in
             (fixed k r lt allocated e, fixed_class (op_at ops k).vreg.class (op_at ops k).constraint r (sound_ops.constraint k lt) e));
         some = λ any. some_wait ops here (op_at ops k).vreg.class k lt (waits_here ops here k
-            (asks_reg (op_at ops k).constraint no_reuse (λ n e. sound_ops.unlimited k n lt e) any) none);
+            (requires_any_reg (op_at ops k).constraint no_reuse (λ n e. sound_ops.unlimited k n lt e) any) none);
         pays = λ q a. by_constraint (op_at ops k).constraint refl q a;
       }
 
@@ -178,8 +179,8 @@ module _ (env : MachineValue) (Known : VirtualRegister → Type 0) (ops : List O
           (waits_no_more ops (set here k q) (op_at ops k).vreg.class n r.0 (sound_ops.named k n lt reuses).0 (long_too q) (waits_named q under)) in
           waited (ap reuse_requirement_of reg) (omega (arith, first, second))
           (λ x ne. waits_as_before ops (set here k q) x n q (long_too q)
-          (λ within. waits_elsewhere ops (set here k q) x n (λ s. ne (s ∙ ap class_code same_class))
-          ∙ sym (waits_elsewhere ops (set (set here k q) n q) x n (λ s. ne (s ∙ ap class_code same_class)))) ∙ waiting_unchanged here k q h.long no_reg x)
+          (λ within. other_class_does_not_wait ops (set here k q) x n (λ s. ne (s ∙ ap class_code same_class))
+          ∙ sym (other_class_does_not_wait ops (set (set here k q) n q) x n (λ s. ne (s ∙ ap class_code same_class)))) ∙ waiting_unchanged here k q h.long no_reg x)
       by_named c e (inr f) q a = at_one f.0 (ap reuse_requirement_of f.1)
           (p.placed_unfree n f.0 (sound_ops.named k n lt reuses).0 (reads_allocated (op_at ops n) (sound_ops.named k n lt reuses).2) (inr (e ∙ f.1)))
           (λ x. waiting_unchanged (set here k q) n q (long_too q) (not_under (op_at ops n).constraint (FixedReg f.0) (e ∙ f.1) refl) x
@@ -195,7 +196,7 @@ module _ (env : MachineValue) (Known : VirtualRegister → Type 0) (ops : List O
       pub reuse_ready : Ready (op_at ops k).vreg (reuse_requirement_of (op_at ops n).constraint) here (λ q. set (set here k q) n q) t old
       reuse_ready = record {
         known = sound_ops.known k lt (sound_ops.allocated k lt def);
-        asks_well = λ r is. (let e : (op_at ops n).constraint ≡ FixedReg r = asked_as_fixed (op_at ops n).constraint r is in (
+        asks_well = λ r is. (let e : (op_at ops n).constraint ≡ FixedReg r = reuse_requires_fixed_reg (op_at ops n).constraint r is in (
           fixed n r (sound_ops.named k n lt reuses).0 (reads_allocated (op_at ops n) (sound_ops.named k n lt reuses).2) e,
           fixed_class (op_at ops n).vreg.class (op_at ops n).constraint r (sound_ops.constraint n (sound_ops.named k n lt reuses).0) e ∙ same_class,
         ));

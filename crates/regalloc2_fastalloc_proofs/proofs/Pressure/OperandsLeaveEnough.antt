@@ -1,5 +1,6 @@
 -- One operand after another is placed, and enough registers are left for the waiting operands.
--- The fold in `Changes` of regalloc2_fastalloc_proofs doesn't apply: an operand's place is passed from its selection to the steps that follow.
+-- The fold in `Changes` of regalloc2_fastalloc_proofs doesn't apply: an operand's place is passed from its selection to
+-- the steps that follow.
 use Rattle.std.proofs.Common.{ℕ, ◌≡◌, ◌≢◌, ◌<◌, Bool, true, false, List, length, refl, sym, ap, ◌∙◌, subst, inl, inr, ◌⊎◌, arith, get_or-set_same, set}
 use Rattle.std.specs.Prelude.{not, ◌&&◌}
 use Rattle.std.proofs.lemmas.Bool.{cases_eq, and_right, both_ways}
@@ -21,20 +22,20 @@ use Rattle.regalloc2_fastalloc_proofs.specs.InstSteps.{StateValue, use_request, 
 use Rattle.regalloc2_fastalloc_proofs.specs.InstSteps.{AllocsDefOp, AllocsUse, ProcessesOperand, a_register, a_use, a_def, a_reuse, no_register, AllocOperand}
 use Rattle.regalloc2_fastalloc_proofs.specs.InstSteps.{AllocDefOp, in_get, in_define, ProcessOperand, at_use, at_def, at_reuse}
 use Rattle.regalloc2_fastalloc_proofs.proofs.Safety.StepsKeepSafe.{AreKindsApart, rules_of}
-use Rattle.regalloc2_fastalloc_proofs.proofs.Moves.ScratchRegTaken.{Less, less_then}
+use Rattle.regalloc2_fastalloc_proofs.proofs.Moves.ScratchRegTaken.{Less, less_trans}
 use Rattle.regalloc2_fastalloc_proofs.proofs.Evictions.EvictKeepsRecord.{evictions_less}
 use Rattle.regalloc2_fastalloc_proofs.proofs.Changes.Evictions.{but_evicts}
 use Rattle.regalloc2_fastalloc_proofs.proofs.Operands.ReuseDefs.{frees_alloc_less}
 use Rattle.regalloc2_fastalloc_proofs.proofs.Safety.OperandKeepsSafe.{PlaceKept, allocs_operand_kept}
 use Rattle.regalloc2_fastalloc_proofs.proofs.Operands.AllocsSoFar.{at_place, AreSoundOperands, Filled, FixedAreKnown}
 use Rattle.regalloc2_fastalloc_proofs.specs.Pressure.EnoughRegs.{HasEnoughRegs, waiting, AllWrite, AllMay}
-use Rattle.regalloc2_fastalloc_proofs.proofs.Safety.StepsKeepMachine.{KeepsMachine, keeps_then, machine_stays}
+use Rattle.regalloc2_fastalloc_proofs.proofs.Safety.StepsKeepMachine.{KeepsMachine, keeps_machine_trans, machine_stays}
 use Rattle.regalloc2_fastalloc_proofs.proofs.Changes.InstChanges.{allocs_operand_changes, locates_use_changes, frees_alloc_changes}
 use Rattle.regalloc2_fastalloc_proofs.proofs.Pressure.TablesHaveAllRegs.{HasAll, all_kept}
 use Rattle.regalloc2_fastalloc_proofs.proofs.Pressure.OneRegTaken.{ample_kept}
 use Rattle.regalloc2_fastalloc_proofs.proofs.Pressure.ClaimLeavesEnough.{ample_allocs_operand, never_alloc_operand, never_free_alloc, ample_frees_alloc}
 use Rattle.regalloc2_fastalloc_proofs.proofs.Pressure.ClaimLeavesEnough.{safe_held, naming_of}
-use Rattle.regalloc2_fastalloc_proofs.proofs.Pressure.FreeRegsCoverWaiting.{Paying, Pays, pays_fewer, pays_awaited, pays_paid, unfree_kept, allocs_operand_settled}
+use Rattle.regalloc2_fastalloc_proofs.proofs.Pressure.FreeRegsCoverWaiting.{Paying, Pays, pays_fewer, pays_awaited, pays_paid, unfree_kept, placed_register_is_not_free}
 use Rattle.regalloc2_fastalloc_proofs.proofs.Pressure.OperandFindsReg.{CountedOperand, Ready, waiting_unchanged, use_ready, def_ready, reuse_ready}
 use Rattle.regalloc2_fastalloc_proofs.proofs.BlockEnd.NoMoveInLastInst.{some_position}
 
@@ -44,7 +45,7 @@ allocs_operand_less point o p t u old new g = by_case g.takes.occupies
   where
     by_case : ClaimsPlace point o p t u g.middle g.takes.claimed → Less t u
     by_case (in_slot k is sets en) = record { early = λ q h. ap (λ x. has_register x q) sets.early ∙ h; late = λ q h. ap (λ x. has_register x q) sets.late ∙ h }
-    by_case (in_register r m is clears holds) = less_then t m u (evictions_less (but_evicts clears))
+    by_case (in_register r m is clears holds) = less_trans t m u (evictions_less (but_evicts clears))
         (record {
           early = λ q h. holds.early q ∙ and_right (not (o.positions.early && is_register r q)) (has_register m.early q) h;
           late = λ q h. holds.late q ∙ and_right (not (o.positions.late && is_register r q)) (has_register m.late q) h;
@@ -63,8 +64,8 @@ written_or here k q lt j = elim (cases_eq j k) [
   | inr ne ↦ inl (get_or-set_other here k j q NoPlace ne)
 ]
 
--- The operands of the instruction i, which ends its block or not, sound and fixed to registers of the machine, whose kinds of registers are disjoint; the named
--- classes; the known vregs, of such classes; and slots that exist at least.
+-- The operands of the instruction i, which ends its block or not, sound and fixed to registers of the machine, whose
+-- kinds of registers are disjoint; the named classes; the known vregs, of such classes; and slots that exist at least.
 pub record NamedOperands : Type 1 where
   pub Named : RegClass → Type 0
   pub env : MachineValue
@@ -212,8 +213,8 @@ module _ (operands : NamedOperands) where
           let x = got o (λ z. set here k z) r q u d.middle d.gets in
           let then = machine_stays (locates_use_changes tt d.uses) in
           one_place q u new (ample_kept Named (waiting ops (set here k q)) u d.middle new then x.ample)
-          (pays_awaited ops here (set here k q) o.vreg o.requirement t u old x.pays p.awaited d.awaited) x.less (keeps_then old d.middle new x.keeps then)
-          (λ s is. allocs_operand_settled (after i) o q t u old d.middle d.gets (use_position (op_at ops k) (at_place here k)) new.allocatable s is)
+          (pays_awaited ops here (set here k q) o.vreg o.requirement t u old x.pays p.awaited d.awaited) x.less (keeps_machine_trans old d.middle new x.keeps then)
+          (λ s is. placed_register_is_not_free (after i) o q t u old d.middle d.gets (use_position (op_at ops k) (at_place here k)) new.allocatable s is)
 
       -- a definition has its place, and its moves are made
       module _ (o : OperandRequest) (there : Place → List Place) (r : Ready env Known ops sound_ops o.vreg o.requirement here there t old)
@@ -237,14 +238,14 @@ module _ (operands : NamedOperands) where
         def_counted = pays_awaited ops here (there q) o.vreg o.requirement t u old gotten.pays p.awaited d.awaited
 
         def_less : Less t u
-        def_less = less_then t d.inst_regs u gotten.less moved_less
+        def_less = less_trans t d.inst_regs u gotten.less moved_less
 
         def_keeps : KeepsMachine old new
-        def_keeps = keeps_then old d.middle new gotten.keeps moved_keeps
+        def_keeps = keeps_machine_trans old d.middle new gotten.keeps moved_keeps
 
         def_unfree : (s : Register) → q ≡ InRegister s → is_free new.allocatable u s ≡ false
         def_unfree s is = unfree_kept new.allocatable new.allocatable d.inst_regs u s refl moved_less
-            (allocs_operand_settled (after i) o q t d.inst_regs old d.middle d.gets some new.allocatable s is)
+            (placed_register_is_not_free (after i) o q t d.inst_regs old d.middle d.gets some new.allocatable s is)
 
       allocs_def_op_pays : (q : Place) (u : InstRegs) (new : StateValue) → is_def (op_at ops k).kind ≡ true →
           ((n : ℕ) → (op_at ops k).constraint ≡ Reuse n → ⊥) →

@@ -183,7 +183,7 @@ pub record AreFresh (env : MachineValue) (old : StateValue) : Type 0 where
   pub sizes : List ℕ
   pub by_last : Bool
   pub watched : List Bool
-  pub nobody : old.places ≡ no_allocs vregs watched
+  pub none_held : old.places ≡ no_allocs vregs watched
   pub slots : old.slots ≡ no_slots owners sizes by_last
   pub none : old.edits ≡ []
   pub units : (c : RegClass) → 0 < units_of (no_slots owners sizes by_last) c
@@ -192,7 +192,8 @@ pub record AreFresh (env : MachineValue) (old : StateValue) : Type 0 where
   pub allocatable : (r : Register) → is_allocatable env r.class r ≡ true → has_register old.allocatable r ≡ true
   pub dedicated_scratch : old.dedicated_scratch ≡ env.scratch
 
--- From the tables with which the walk begins: if the walk runs out of registers, it does so at an instruction that doesn't fit.
+-- From the tables with which the walk begins: if the walk runs out of registers, it does so at an instruction that
+-- doesn't fit.
 pub walk_stops : {f : FunctionValue} {env : MachineValue} → MachineFits f env → IsLimited f → IsWellFormed env f → AreTaken f
     → {blank : List Place} {old : StateValue} → AreFresh env old → AllocBlocks f blank old no_register →
     (i : ℕ) × (i < length f.insts) × (Fits f env (inst_at f i) → ⊥)
@@ -207,7 +208,7 @@ walk_stops {f} {env} fits limited ok taken {blank} {old} fresh stops =
               allocatable = fresh.allocatable;
               dedicated_scratch = fresh.dedicated_scratch;
             };
-            safe = begun_safe env (Made f) AllWrite AllMay old fresh.vregs fresh.owners fresh.sizes fresh.by_last fresh.nobody fresh.slots fresh.none
+            safe = begun_safe env (Made f) AllWrite AllMay old fresh.vregs fresh.owners fresh.sizes fresh.by_last fresh.none_held fresh.slots fresh.none
                 fresh.units fresh.machine;
           }) stops
     ]

@@ -22,7 +22,7 @@ use Rattle.regalloc2_fastalloc_proofs.proofs.Safety.StepsKeepMachine.{keeps_of, 
 use Rattle.regalloc2_fastalloc_proofs.proofs.Changes.InstChanges.{evicts_vreg_changes}
 use Rattle.regalloc2_fastalloc_proofs.proofs.Pressure.TablesHaveAllRegs.{HasAll}
 use Rattle.regalloc2_fastalloc_proofs.proofs.Pressure.OneRegTaken.{free_but_one, free_kept, ample_kept, ample_none, ample_some, HasStack, has_stack}
-use Rattle.regalloc2_fastalloc_proofs.proofs.Pressure.OneRegTaken.{spare_is_one, spare_is_none}
+use Rattle.regalloc2_fastalloc_proofs.proofs.Pressure.OneRegTaken.{scratch_reserve_is_one, spare_is_none}
 
 -- a vreg in a register is known, and of its class
 abbrev pub AreHeld : (VirtualRegister → Type 0) → StateValue → Type 0
@@ -54,7 +54,7 @@ module _ (Named : RegClass → Type 0) (needed : RegClass → ℕ) (point : ℕ)
             ∙ ap (slice_index_or (slice_set t.scratch (class_code class) (Some by)) (class_code c)) refl
             ∙ ap (λ (k : ℕ). slice_index_or (slice_set t.scratch (class_code class) (Some by)) k None) e
             ∙ get_or-set_same t.scratch (class_code class) (Some by) None (let s = class_code-lt class in omega (arith, s, three)) in
-            let one : scratch_reserve_left old.fixed_stack old.dedicated_scratch t c ≡ 1 = spare_is_one old.fixed_stack old.dedicated_scratch t c
+            let one : scratch_reserve_left old.fixed_stack old.dedicated_scratch t c ≡ 1 = scratch_reserve_is_one old.fixed_stack old.dedicated_scratch t c
             (subst (HasStack old.fixed_stack) (sym same) stack)
             (ap (λ (k : ℕ). slice_index_or old.dedicated_scratch k None) e ∙ none) (ap (λ (k : ℕ). slice_index_or t.scratch k None) e ∙ unset) in
             let none_left : scratch_reserve_left old.fixed_stack old.dedicated_scratch u c ≡ 0 = spare_is_none old.fixed_stack old.dedicated_scratch u c by here
@@ -77,7 +77,7 @@ module _ (Named : RegClass → Type 0) (needed : RegClass → ℕ) (point : ℕ)
   some_scratch : (class : RegClass) (t : InstRegs) (old : StateValue) → LacksScratchReg class t old → Named class → HasStack old.fixed_stack class →
       HasEnoughRegs Named needed t old → ⊥
   some_scratch class t old s named stack h =
-      let one : scratch_reserve_left old.fixed_stack old.dedicated_scratch t class ≡ 1 = spare_is_one old.fixed_stack old.dedicated_scratch t class stack
+      let one : scratch_reserve_left old.fixed_stack old.dedicated_scratch t class ≡ 1 = scratch_reserve_is_one old.fixed_stack old.dedicated_scratch t class stack
       s.none_kept s.none_taken in
       let r = ample_some Named needed t old class named (omega (arith, one)) h in
       let a = (and_parts (has_register old.allocatable (register_number class r.0)) _ r.2).0 in
@@ -95,8 +95,8 @@ module _ (Named : RegClass → Type 0) (needed : RegClass → ℕ) (point : ℕ)
       subst (HasEnoughRegs Named needed u) (sym en) (ample_allocs_scratch_reg class t u by old m scratches three (stack two) h)
   ample_add_move {class} {t} {old} (no_scratch two none) named three stack h = some_scratch class t old none named (stack two) h
 
--- The demand for registers: the named classes; how many registers of each are needed; the point of the moves; a machine,
--- whose kinds of registers are disjoint; and the known vregs, of named classes.
+-- The demand for registers: the named classes; how many registers of each are needed; the point of the moves; a
+-- machine, whose kinds of registers are disjoint; and the known vregs, of named classes.
 pub record Demand : Type 1 where
   pub Named : RegClass → Type 0
   pub needed : RegClass → ℕ
@@ -145,7 +145,7 @@ module _ (demand : Demand) where
   pub ample_evict_preg : {r : Register} {t : InstRegs} {old : StateValue} {o : Outcome InstRegs} → EvictPReg point r t old o → AreHeld Known old →
       AreSafeRegs env t → HasEnoughRegs Named needed t old → LeavesEnoughRegs Named needed o
   ample_evict_preg {t} {old} (empty {u} {new} none eu en) held_by ht h = ample_none Named needed t u old new eu en h
-  ample_evict_preg {r} {t} {old} (cleared v s m lt held gives settles edits machine order crosses) held_by ht h =
+  ample_evict_preg {r} {t} {old} (cleared v s m lt held gives sets_alloc edits machine order crosses) held_by ht h =
       let was = held_by r v lt held in
       ample_add_move Named needed point crosses (named v was.0) ht.three (at_stack r v m machine lt was.1 s)
       (ample_kept Named needed t old m (keeps_of old m machine) h)

@@ -43,9 +43,9 @@ pub waits_not : (ops : List OperandValue) (here : List Place) (c : RegClass) (k 
 waits_not ops here c k e = rw e refl
 
 -- an operand of another class doesn't wait
-pub waits_elsewhere : (ops : List OperandValue) (here : List Place) (c : RegClass) (k : ℕ) → (class_code c ≡ class_code (op_at ops k).vreg.class → ⊥) →
+pub other_class_does_not_wait : (ops : List OperandValue) (here : List Place) (c : RegClass) (k : ℕ) → (class_code c ≡ class_code (op_at ops k).vreg.class → ⊥) →
     waits ops here c k ≡ false
-waits_elsewhere ops here c k ne =
+other_class_does_not_wait ops here c k ne =
     let e : nat_eq (class_code (op_at ops k).vreg.class) (class_code c) ≡ false = ne_eqb (class_code (op_at ops k).vreg.class) (class_code c)
     (λ same. ne (sym same)) in
     rw e (and_left (is_under_reg (op_at ops k).constraint && false) (not (is_in_register (slice_index_or here k NoPlace)))

@@ -70,9 +70,10 @@ later_blocks_same f b within blank old i places t (one_in n before_it p s u ge l
     later_same f n before_it places s a.middle (omega (arith, lt, within)) a.allocates j (omega (arith, lt, le)) less k
     ∙ later_blocks_same f b within blank old (n + 1) before_it s prev j k le less
 
--- The context of a function's walk: a machine, whose kinds of registers are disjoint; the known vregs, among them parameters and the vregs that stores
--- are for; the function, with sound operands; and the places at the walk's end. Blocks follow one another, definitions that need a return have one, branches end
--- their blocks, and lead to blocks of the function.
+-- The context of a function's walk: a machine, whose kinds of registers are disjoint; the known vregs, among them
+-- parameters and the vregs that stores are for; the function, with sound operands; and the places at the walk's end.
+-- Blocks follow one another, definitions that need a return have one, branches end their blocks, and lead to blocks of
+-- the function.
 pub record WalkRules : Type 1 where
   pub env : MachineValue
   pub apart : AreKindsApart env

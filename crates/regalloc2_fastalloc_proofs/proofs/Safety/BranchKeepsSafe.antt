@@ -95,10 +95,10 @@ in_memory env t (InRegister r) m h = m.memory r h
 in_memory env t (InSlot k) m h = refl
 
 -- moves of the class may go through a scratch register or the borrowed one
-lent_through : (env : MachineValue) (inst_regs : InstRegs) (t : StateValue) (class : RegClass) (r : Register) → HasMachine env t →
+scratch_is_move_reg : (env : MachineValue) (inst_regs : InstRegs) (t : StateValue) (class : RegClass) (r : Register) → HasMachine env t →
     MayBeScratch inst_regs t class r → IsMoveReg env class r
-lent_through env inst_regs t class r m (inl own) = inr (m.dedicated_scratch class r own)
-lent_through env inst_regs t class r m (inr free) = inl (m.allocatable r free.0.small free.0.allocatable, free.0.of_class)
+scratch_is_move_reg env inst_regs t class r m (inl own) = inr (m.dedicated_scratch class r own)
+scratch_is_move_reg env inst_regs t class r m (inr free) = inl (m.allocatable r free.0.small free.0.allocatable, free.0.of_class)
 
 module _ (rules : StepRules) where
   open rules use {env, apart, Known, Writes, May, point, can}
@@ -121,11 +121,11 @@ module _ (rules : StepRules) where
         is = n.1;
         own = changes_stay (evicts_preg_changes (λ q x. tt) clears) a.number n.0 (gives.gives ∙ n.1);
       }
-  spills_argument_kept a s t u old new (in_slot away gives settles edits machine order eu) h ht =
+  spills_argument_kept a s t u old new (in_slot away gives sets_alloc edits machine order eu) h ht =
       let n = slot_number new.slots.count s gives.there gives.below in
       record {
         kept = record {
-          safe = safe_after_spill rules old new a s gives settles machine (given_edits env Known Writes May old new a s gives edits h) h;
+          safe = safe_after_spill rules old new a s gives sets_alloc machine (given_edits env Known Writes May old new a s gives edits h) h;
           inst_regs = subst (AreSafeRegs env) (sym eu) ht;
         };
         number = n.0;
@@ -148,14 +148,14 @@ module _ (rules : StepRules) where
     gathers_edge_moves_kept good {t} {old} h ht begin none_gathered =
         (kept_none env Known Writes May old old t t refl refl h ht, begin)
     gathers_edge_moves_kept {params} {arguments} good {t} {old} {before_it} h ht begin {u} {new}
-        (one_gathered j some to from w x m n o lt prev gives places edits machine order settles foreign) =
+        (one_gathered j some to from w x m n o lt prev gives places edits machine order sets_alloc foreign) =
         let p = gathers_edge_moves_kept good h ht begin prev in
         let v : VirtualRegister = slice_index_or params j no_vreg in
         let a : VirtualRegister = slice_index_or arguments j no_vreg in
         let first : IsSafe env Known Writes May n = given_safe env Known Writes May m n v to gives places edits machine p.0.safe in
-        let second : Argued a from u new = spills_argument_kept a from w u n new settles first p.0.inst_regs in
+        let second : Argued a from u new = spills_argument_kept a from w u n new sets_alloc first p.0.inst_regs in
         let number = slot_number n.slots.count to gives.there gives.below in
-        let later : SlotsStay n.slots new.slots = changes_stay (spills_argument_changes (λ q x. tt) tt tt settles) in (
+        let later : SlotsStay n.slots new.slots = changes_stay (spills_argument_changes (λ q x. tt) tt tt sets_alloc) in (
           second.kept,
           All-push (λ (g : ClassMove). IsGatheredMove Known Passed new.slots g.from g.to) some (record { class = a.class; from = from; to = to })
               (all_given_stay Known Passed m.slots new.slots some (λ x d is. later x d (gives_stay m.slots n.slots v to gives x d is)) p.1)
@@ -207,7 +207,7 @@ module _ (rules : StepRules) where
 
       in_hand_end : (p : Place) → IsScratchUsed inst_regs old middle class p → IsEndOfArgMove env middle.slots class p
       in_hand_end p (inl (r, is, inl num_temp_slots)) = subst (IsEndOfArgMove env middle.slots class) (sym is)
-          (lent_through env inst_regs old class r h.machine num_temp_slots)
+          (scratch_is_move_reg env inst_regs old class r h.machine num_temp_slots)
       in_hand_end p (inl (r, is, inr borrowed)) = subst (IsEndOfArgMove env middle.slots class) (sym is)
           (inl (h.machine.allocatable r borrowed.small borrowed.allocatable, borrowed.of_class))
       in_hand_end p (inr (k, is, above_it, below, j, which, ends)) = subst (IsEndOfArgMove env middle.slots class) (sym is) below

@@ -1,4 +1,5 @@
--- The whole walk over a well-formed function with any number of blocks keeps the tables safe, and what holds at its end.
+-- The whole walk over a well-formed function with any number of blocks keeps the tables safe, and what holds at its
+-- end.
 use Rattle.std.proofs.Common.{ℕ, ◌≡◌, ◌≢◌, ◌+◌, ◌<◌, ◌≤◌, ◌⊎◌, ◌||◌, ◌&&◌, Bool, true, false, List, [], length, nat_eq, nat_lt, eq-eqb, refl, sym, ap, inl}
 use Rattle.std.proofs.Common.{inr, subst, arith}
 use Rattle.std.specs.Prelude.{All, slice_index_or}
@@ -27,7 +28,7 @@ use Rattle.regalloc2_fastalloc_proofs.proofs.Safety.OutputOfWalk.{IsOutputOfWalk
 use Rattle.regalloc2_fastalloc_proofs.proofs.Safety.WellFormedKeepsSafe.{sound_ops_at}
 use Rattle.regalloc2_fastalloc_proofs.proofs.Safety.InstsKeepSafe.{AreLast, WalkKept, WritesByBranch, WritesFrom}
 use Rattle.regalloc2_fastalloc_proofs.proofs.Safety.BlocksKeepSafe.{MayInBlocks, WalkRules, allocs_blocks_kept, within_kept}
-use Rattle.regalloc2_fastalloc_proofs.proofs.Safety.StoredDefs.{concerned_made, stored_alike}
+use Rattle.regalloc2_fastalloc_proofs.proofs.Safety.StoredDefs.{concerned_made, stored_has_class_of_vreg}
 
 -- a block's last instruction
 is_last : (f : FunctionValue) (b i : ℕ) → i + 1 ≡ (block_at f b).range.end → i ≡ last_of (block_at f b)
@@ -56,8 +57,8 @@ SafeWithin env f blank old places = (b : ℕ) → b < length f.blocks → (p : L
     (q : List Place) (u : StateValue) → AllocsBlockInsts f b p s i q u → AreLast f places i q →
     IsSafe env (Made f) (WritesFrom f places (b + 1)) (MayInBlocks f) u
 
--- A walk over all blocks of a well-formed function whose machine fits, from the tables at the start: no vreg has a place or a slot and no move is listed, slots
--- have at least one unit, and registers are the machine's.
+-- A walk over all blocks of a well-formed function whose machine fits, from the tables at the start: no vreg has a
+-- place or a slot and no move is listed, slots have at least one unit, and registers are the machine's.
 pub record FreshWalk : Type 0 where
   pub env : MachineValue
   pub f : FunctionValue
@@ -74,7 +75,7 @@ pub record FreshWalk : Type 0 where
   pub sizes : List ℕ
   pub by_last : Bool
   pub watched : List Bool
-  pub nobody : begin.places ≡ no_allocs n watched
+  pub none_held : begin.places ≡ no_allocs n watched
   pub slots : begin.slots ≡ no_slots m sizes by_last
   pub none : begin.edits ≡ []
   pub units : (c : RegClass) → 0 < units_of (no_slots m sizes by_last) c
@@ -83,10 +84,10 @@ pub record FreshWalk : Type 0 where
 
 -- All blocks of a well-formed function are allocated from a fresh state.
 module _ (fresh : FreshWalk) (outside : (c : ℕ) (ps : List Place) (u : StateValue) → AllocsBlocks fresh.f fresh.blank fresh.begin c ps u → IsOutside u) where
-  open fresh use {env, f, fits, limited, ok, taken, blank, places, begin, last, n, m, sizes, by_last, nobody, slots, none, units, machine, walks}
+  open fresh use {env, f, fits, limited, ok, taken, blank, places, begin, last, n, m, sizes, by_last, none_held, slots, none, units, machine, walks}
 
   begun : IsSafe env (Made f) (WritesFrom f places (length f.blocks)) (MayInBlocks f) begin
-  begun = begun_safe env (Made f) (WritesFrom f places (length f.blocks)) (MayInBlocks f) begin n m sizes by_last nobody slots none units machine
+  begun = begun_safe env (Made f) (WritesFrom f places (length f.blocks)) (MayInBlocks f) begin n m sizes by_last none_held slots none units machine
 
   params_made : (b k : ℕ) → b < length f.blocks → k < length (block_at f b).params → Made f (slice_index_or (block_at f b).params k no_vreg)
   params_made b k lt less = Made.by_param b k (record { block = lt; param = less; number = refl }) refl
@@ -109,7 +110,7 @@ module _ (fresh : FreshWalk) (outside : (c : ℕ) (ps : List Place) (u : StateVa
     params = params_made;
     targets = targets;
     concerned = concerned_made f ok.successors ok.follow;
-    alike = stored_alike limited ok taken machine walks;
+    alike = stored_has_class_of_vreg limited ok taken machine walks;
   }
 
   -- the walk ends in a safe state, with a good place for each operand

@@ -17,7 +17,7 @@ use Rattle.regalloc2_fastalloc_proofs.proofs.BlockEnd.NoMoveForOperand.{IsEmpty}
 pub begun_empty : (t : StateValue) (n : ℕ) {watched : List Bool} → t.places ≡ no_allocs n watched → IsEmpty t
 begun_empty t n places = record {
   nowhere = λ k. ap (λ (p : VRegAllocsValue). alloc_of p k) places ∙ always n k NoPlace;
-  nobody = λ r small. ap (λ (p : VRegAllocsValue). vreg_of_preg p r) places ∙ always 256 (bits_of_register r) None;
+  none_held = λ r small. ap (λ (p : VRegAllocsValue). vreg_of_preg p r) places ∙ always 256 (bits_of_register r) None;
 }
 
 -- the machine's registers, as State::new sets them
@@ -41,7 +41,7 @@ begun_safe env Known Writes May t n m sizes by_last places slots none units mach
     record {
       machine = machine;
       places = λ v known. subst (MayBeLocatedAtOrNone env t.slots v) (sym (e.nowhere v.number)) tt;
-      holders = λ r v small held. absurd (no_some v (sym (e.nobody r small) ∙ held));
+      holders = λ r v small held. absurd (no_some v (sym (e.none_held r small) ∙ held));
       slots = λ k. subst (IsSlotOrNone t.slots.count) (sym (ap (λ (s : SpillSlotsValue). slot_name s k) slots ∙ always m k NoPlace)) tt;
       units = λ c. subst (λ (s : SpillSlotsValue). 0 < units_of s c) (sym slots) (units c);
       edits = rw none (λ k d lt. absurd (omega arith));

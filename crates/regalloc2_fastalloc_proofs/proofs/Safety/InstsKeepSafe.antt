@@ -37,7 +37,8 @@ offset_rises f i (suc n) le =
 abbrev pub place_of : FunctionValue → List Place → ℕ → ℕ → Place
 place_of f places j k = at_place places (offset_of f j + k)
 
--- the slots that the walk writes for operands: after an instruction the slots of the vregs that it defines, before it the slots in which it reads
+-- the slots that the walk writes for operands: after an instruction the slots of the vregs that it defines, before it
+-- the slots in which it reads
 abbrev pub WritesByOperand : FunctionValue → List Place → ℕ → VirtualRegister → ℕ → Type 0
 WritesByOperand f places point v n =
     (i k : ℕ) × (i < length f.insts) × (k < length (inst_at f i).operands) × ((op_at (inst_at f i).operands k).vreg ≡ v)
@@ -51,7 +52,8 @@ WritesByBranch f point v =
     × (k < length (block_at f b).succs) × (j < length (block_at f (target_at f b k)).params)
     × (slice_index_or (block_at f (target_at f b k)).params j no_vreg ≡ v)
 
--- the output may write a vreg's value to a slot at a point: for an operand there, or for a parameter of a branch's successor
+-- the output may write a vreg's value to a slot at a point: for an operand there, or for a parameter of a branch's
+-- successor
 abbrev pub WritesAt : FunctionValue → List Place → ℕ → VirtualRegister → ℕ → Type 0
 WritesAt f places point v n = WritesByOperand f places point v n ⊎ WritesByBranch f point v
 
@@ -75,8 +77,8 @@ pub record HasGood (env : MachineValue) (slots : SpillSlotsValue) (f : FunctionV
   pub shared : (n : ℕ) → (op_at (inst_at f j).operands k).constraint ≡ Reuse n → (n < length (inst_at f j).operands)
       × (place_of f places j k ≡ place_of f places j n)
 
--- the tables are safe while the block before c is walked, and the operands of the instructions from i on have good places; at the walk's end all places
--- are final
+-- the tables are safe while the block before c is walked, and the operands of the instructions from i on have good
+-- places; at the walk's end all places are final
 pub record WalkKept (env : MachineValue) (Known : VirtualRegister → Type 0) (f : FunctionValue) (May : ℕ → Type 0) (last : List Place) (c i : ℕ)
     (places : List Place) (t : StateValue) : Type 0 where
   pub safe : IsSafe env Known (WritesFrom f last c) May t

@@ -1,5 +1,6 @@
 -- The passes over an instruction's operands keep the tables safe and fill the places.
--- The fold in `Changes` serves its evictions alone: an operand's place is passed from its selection to the steps that follow.
+-- The fold in `Changes` serves its evictions alone: an operand's place is passed from its selection to the steps that
+-- follow.
 use Rattle.regalloc2_carry.proofs.Operands.{reads_use}
 use Rattle.std.proofs.Common.{ℕ, ◌≡◌, ◌≢◌, ◌+◌, ◌<◌, ◌≤◌, List, Bool, true, false, refl, sym, ap, ◌∙◌, ◌⊎◌, inl, inr, subst, arith, length, set}
 use Rattle.std.proofs.lemmas.Bool.{cases_eq, false_from_ne_true, true_from_ne_false, both_ways}
@@ -21,7 +22,7 @@ use Rattle.regalloc2_fastalloc_proofs.proofs.Slots.LocatedStaysLocated.{changes_
 use Rattle.regalloc2_fastalloc_proofs.proofs.Safety.StepsKeepSafe.{AreKindsApart, rules_of}
 use Rattle.regalloc2_fastalloc_proofs.proofs.Safety.OperandKeepsSafe.{allocs_def_op_kept, allocs_use_kept}
 use Rattle.regalloc2_fastalloc_proofs.proofs.Operands.AllocsSoFar.{at_place, IsInRegister, MeetsByItself, IsGood, FillingContext, reads_allocated}
-use Rattle.regalloc2_fastalloc_proofs.proofs.Operands.AllocsSoFar.{answer_meets, answer_named, reuse_meets, fixed_meets, asked_fixed, asked_as_fixed}
+use Rattle.regalloc2_fastalloc_proofs.proofs.Operands.AllocsSoFar.{answer_meets, answer_named, reuse_meets, fixed_meets, requires_fixed_reg, reuse_requires_fixed_reg}
 use Rattle.regalloc2_fastalloc_proofs.proofs.Operands.AllocsSoFar.{fixed_class, FixedAreKnown, Filled, DefsAreWritten, reuse_register, no_place_register}
 use Rattle.regalloc2_fastalloc_proofs.proofs.Operands.AllocsSoFar.{OneMore, filled_same, filled_on, written, written_twice}
 
@@ -40,8 +41,9 @@ shared_register env slots v w NoPlace h e place = place
 shared_register env slots v w (InRegister r) h e place = (place.0, place.1 ∙ e)
 shared_register env slots v w (InSlot n) h e place = absurd h
 
--- The two passes over an instruction's operands, on a machine whose kinds of registers are disjoint: the operands are fixed to registers of the machine only;
--- moves may follow the instruction, which ends its block or not, and its definitions may be written.
+-- The two passes over an instruction's operands, on a machine whose kinds of registers are disjoint: the operands are
+-- fixed to registers of the machine only; moves may follow the instruction, which ends its block or not, and its
+-- definitions may be written.
 pub record PassesContext : Type 1 where
   pub filling : FillingContext
   pub apart : AreKindsApart filling.env
@@ -83,7 +85,7 @@ module _ (passes : PassesContext) where
       let allocated : is_fixed_nonallocatable o ≡ false = reads_allocated o reads in
       let w = allocs_use_kept (rules_of env apart Known Writes May (after i) can) sound_ops.same (use_request o NoPlace) p t u old new places
       (sound_ops.known k less allocated)
-      (λ r asks. (let e : o.constraint ≡ FixedReg r = asked_fixed o.constraint r asks in
+      (λ r asks. (let e : o.constraint ≡ FixedReg r = requires_fixed_reg o.constraint r asks in
       (fixed k r less allocated e, fixed_class o.vreg.class o.constraint r (sound_ops.constraint k less) e))) h.safe h.inst_regs in
       let f = filled_on filling D here t u old new w.given.kept.safe w.given.kept.inst_regs (changes_stay (allocs_use_changes (λ q s. tt) tt tt places))
       (λ j within r there. changes_last (op_at ops j).vreg.number (allocs_use_changes (λ q s. tt) tt tt places) there) h in
@@ -134,7 +136,7 @@ module _ (passes : PassesContext) where
       let w = allocs_def_op_kept (rules_of env apart Known Writes May (after i) can) sound_ops.same (def_request o) ends_block p t u old new places
       (sound_ops.known k less allocated)
       (λ n. writes k n less def)
-      (λ r asks. (let e : o.constraint ≡ FixedReg r = asked_fixed o.constraint r asks in
+      (λ r asks. (let e : o.constraint ≡ FixedReg r = requires_fixed_reg o.constraint r asks in
       (fixed k r less allocated e, fixed_class o.vreg.class o.constraint r (sound_ops.constraint k less) e))) h.safe h.inst_regs in
       let f = filled_on filling D here t u old new w.kept.safe w.kept.inst_regs (changes_stay (allocs_def_op_changes (λ q s. tt) tt tt places))
       (λ j within r there. changes_last (op_at ops j).vreg.number (allocs_def_op_changes (λ q s. tt) tt (sound_ops.unread k j less within def r) places) there) h in
@@ -156,7 +158,7 @@ module _ (passes : PassesContext) where
       let named = sound_ops.named k n less reuses in
       let w = allocs_def_op_kept (rules_of env apart Known Writes May (after i) can) sound_ops.same (reuse_request o m) ends_block p t u old new places
       (sound_ops.known k less (sound_ops.allocated k less def)) (λ x. writes k x less def)
-      (λ r asks. (let e : m.constraint ≡ FixedReg r = asked_as_fixed m.constraint r asks in
+      (λ r asks. (let e : m.constraint ≡ FixedReg r = reuse_requires_fixed_reg m.constraint r asks in
       (fixed n r named.0 (reads_allocated m named.2) e, fixed_class m.vreg.class m.constraint r (sound_ops.constraint n named.0) e ∙ named.3))) h.safe
       h.inst_regs in
       let f = filled_on filling D here t u old new w.kept.safe w.kept.inst_regs (changes_stay (allocs_def_op_changes (λ q s. tt) tt tt places))

@@ -97,7 +97,8 @@ pass_is_no_place env s class NoPlace h = absurd h
 pass_is_no_place env s class (InRegister r) h = λ e. cc
 pass_is_no_place env s class (InSlot k) h = λ e. cc
 
--- an output made of the final state is well-ordered: one offset for each instruction, edits by rising points, both ends of each a place
+-- an output made of the final state is well-ordered: one offset for each instruction, edits by rising points, both ends
+-- of each a place
 pub made_in_order : (f : FunctionValue) (env : MachineValue) (Known : VirtualRegister → Type 0) (May : ℕ → Type 0) (t : StateValue) (o : OutputValue) →
     IsOutputOfWalk f env Known May t o → IsInOrder f o
 made_in_order f env Known May t o m = record {

@@ -1,4 +1,5 @@
--- What several steps that add temporary slots keep of the tables; and an instruction whose fields are known, with the registers that it leaves.
+-- What several steps that add temporary slots keep of the tables; and an instruction whose fields are known, with the
+-- registers that it leaves.
 use Rattle.std.proofs.Common.{ℕ, ◌≡◌, ◌+◌, ◌-◌, ◌*◌, ◌<◌, ◌≤◌, Bool, true, false, List, length, refl, sym, ap, ◌∙◌, subst, inl, inr, arith}
 use Rattle.std.specs.Prelude.{if◌then◌else◌, All, Option, None, slice_index_or}
 use Rattle.std.proofs.Math.Nat.{mul-le-mul_right}
@@ -20,15 +21,15 @@ use Rattle.regalloc2_fastalloc_state.specs.OutOfResources.{IsResourceError, Slot
 use Rattle.regalloc2_fastalloc_proofs.specs.BranchSteps.{RegsAvoidStack, AddsTempSlotsAtMost}
 use Rattle.regalloc2_fastalloc_proofs.specs.InstSteps.{StateValue, SameMachine, ends_block}
 use Rattle.regalloc2_fastalloc_proofs.specs.BlockSteps.{AllocsInstInto, DefinesBelow, temp_slots_at}
-use Rattle.regalloc2_fastalloc_state.proofs.SpillSlotUnits.{lacks_then}
+use Rattle.regalloc2_fastalloc_state.proofs.SpillSlotUnits.{resource_error_weaken}
 
 -- no temporary slot is added over no step
-pub none_lends : (most : ℕ) (a : StateValue) → AddsTempSlotsAtMost most a a
-none_lends most a = record { allocatable = refl; fixed_stack = refl; dedicated_scratch = refl; sizes = refl; vregs = refl; num_temp_slots = omega arith }
+pub adds_temp_slots_refl : (most : ℕ) (a : StateValue) → AddsTempSlotsAtMost most a a
+adds_temp_slots_refl most a = record { allocatable = refl; fixed_stack = refl; dedicated_scratch = refl; sizes = refl; vregs = refl; num_temp_slots = omega arith }
 
 -- no temporary slot is added if the machine stays
-pub same_lends : (most : ℕ) (a b : StateValue) → SameMachine a b → AddsTempSlotsAtMost most a b
-same_lends most a b h = record {
+pub adds_temp_slots_of_same_machine : (most : ℕ) (a b : StateValue) → SameMachine a b → AddsTempSlotsAtMost most a b
+adds_temp_slots_of_same_machine most a b h = record {
   allocatable = h.allocatable;
   fixed_stack = h.fixed_stack;
   dedicated_scratch = h.dedicated_scratch;
@@ -38,8 +39,8 @@ same_lends most a b h = record {
 }
 
 -- the temporary slots of two steps
-pub lends_then : (j k most : ℕ) (a b c : StateValue) → j + k ≤ most → AddsTempSlotsAtMost j a b → AddsTempSlotsAtMost k b c → AddsTempSlotsAtMost most a c
-lends_then j k most a b c few f g = record {
+pub adds_temp_slots_trans : (j k most : ℕ) (a b c : StateValue) → j + k ≤ most → AddsTempSlotsAtMost j a b → AddsTempSlotsAtMost k b c → AddsTempSlotsAtMost most a c
+adds_temp_slots_trans j k most a b c few f g = record {
   allocatable = g.allocatable ∙ f.allocatable;
   fixed_stack = g.fixed_stack ∙ f.fixed_stack;
   dedicated_scratch = g.dedicated_scratch ∙ f.dedicated_scratch;
@@ -60,15 +61,16 @@ full_kept s t more most sizes vregs few full = λ size upto.
 -- a resource error at a step, as one of all steps
 pub lacks_all : (k j most : ℕ) (a b : StateValue) → AddsTempSlotsAtMost k a b → k + j ≤ most → (e : RegAllocError) →
     IsResourceError (SlotsExhaustedWith b.slots (b.slots.num_temp_slots + j)) e → IsResourceError (SlotsExhaustedWith a.slots (a.slots.num_temp_slots + most)) e
-lacks_all k j most a b h few e = lacks_then (SlotsExhaustedWith b.slots (b.slots.num_temp_slots + j))
+lacks_all k j most a b h few e = resource_error_weaken (SlotsExhaustedWith b.slots (b.slots.num_temp_slots + j))
     (SlotsExhaustedWith a.slots (a.slots.num_temp_slots + most))
     (full_kept b.slots a.slots (b.slots.num_temp_slots + j) (a.slots.num_temp_slots + most) h.sizes h.vregs (let l = h.num_temp_slots in omega (arith, l, few)))
     e
 
--- a resource error of a later state is one of an earlier state, if the temporary slots that may be added between are counted
+-- a resource error of a later state is one of an earlier state, if the temporary slots that may be added between are
+-- counted
 pub lack_all : (k most : ℕ) (a b : StateValue) → AddsTempSlotsAtMost k a b → k ≤ most → (e : RegAllocError) → IsResourceErrorIn b.slots e →
     IsResourceError (SlotsExhaustedWith a.slots (a.slots.num_temp_slots + most)) e
-lack_all k most a b h few e = lacks_then (SlotsExhaustedWith b.slots b.slots.num_temp_slots) (SlotsExhaustedWith a.slots (a.slots.num_temp_slots + most))
+lack_all k most a b h few e = resource_error_weaken (SlotsExhaustedWith b.slots b.slots.num_temp_slots) (SlotsExhaustedWith a.slots (a.slots.num_temp_slots + most))
     (full_kept b.slots a.slots b.slots.num_temp_slots (a.slots.num_temp_slots + most) h.sizes h.vregs (let l = h.num_temp_slots in omega (arith, l, few))) e
 
 -- no fixed stack slot is allocatable or reserved for moves, as long as the machine stays
@@ -81,23 +83,23 @@ apart_kept k a b h apart = record {
       (ap (λ (l : List (Option Register)). slice_index_or l (class_code class) None) (sym h.dedicated_scratch) ∙ has);
 }
 
-lent_few : (f : FunctionValue) (i : ℕ) → temp_slots_at f i ≤ 6
-lent_few f i = few (inst_at f i).is_branch
+temp_slots_at_is_few : (f : FunctionValue) (i : ℕ) → temp_slots_at f i ≤ 6
+temp_slots_at_is_few f i = few (inst_at f i).is_branch
   where
     few : (b : Bool) → (if b then 6 else 0) ≤ 6
     few true = omega arith
     few false = omega arith
 
 -- no instruction of a block but its last one is a branch; only branches add temporary slots
-lent_none : (f : FunctionValue) → EachBlock f (EndsAt f) → (b i : ℕ) → b < length f.blocks → (block_at f b).range.first ≤ i → i + 1 < (block_at f b).range.end →
+no_temp_slots_before_last : (f : FunctionValue) → EachBlock f (EndsAt f) → (b i : ℕ) → b < length f.blocks → (block_at f b).range.first ≤ i → i + 1 < (block_at f b).range.end →
     temp_slots_at f i ≡ 0
-lent_none f ends b i lt from upto =
+no_temp_slots_before_last f ends b i lt from upto =
     let e : (inst_at f i).is_branch ≡ false = ((ends b lt).1 i from (omega (arith, upto)) (omega (arith, upto))).0 in
     rw e refl
 
 -- a branch may add six temporary slots, two for each class
-pub lent_six : (f : FunctionValue) (i : ℕ) (b : Bool) → b ≡ (inst_at f i).is_branch → b ≡ true → temp_slots_at f i ≡ 6
-lent_six f i b same on = let e : (inst_at f i).is_branch ≡ true = sym same ∙ on in rw e refl
+pub six_temp_slots_at_branch : (f : FunctionValue) (i : ℕ) (b : Bool) → b ≡ (inst_at f i).is_branch → b ≡ true → temp_slots_at f i ≡ 6
+six_temp_slots_at_branch f i b same on = let e : (inst_at f i).is_branch ≡ true = sym same ∙ on in rw e refl
 
 -- a branch is the last instruction of its block
 pub ends_in_branch : (f : FunctionValue) → EachBlock f (EndsAt f) → (b i : ℕ) → b < length f.blocks → (block_at f b).range.first ≤ i → i < (block_at f b).range.end →
@@ -108,12 +110,12 @@ ends_in_branch f ends b i lt from upto on = elim (cases_eq (i + 1) (block_at f b
 ]
 
 -- how many temporary slots a block has added before an instruction, and may add at it
-pub lent_so_far : (f : FunctionValue) → EachBlock f (EndsAt f) → (b i : ℕ) → b < length f.blocks → (block_at f b).range.first ≤ i → i < (block_at f b).range.end
+pub temp_slots_so_far : (f : FunctionValue) → EachBlock f (EndsAt f) → (b i : ℕ) → b < length f.blocks → (block_at f b).range.first ≤ i → i < (block_at f b).range.end
     → (old new : StateValue) → AddsTempSlotsAtMost 6 old new → (i + 1 ≡ (block_at f b).range.end → AddsTempSlotsAtMost 0 old new) → (k : ℕ)
     × (k + temp_slots_at f i ≤ 6) × AddsTempSlotsAtMost k old new
-lent_so_far f ends b i lt from upto old new all none = elim (cases_eq (i + 1) (block_at f b).range.end) [
-  | inl e ↦ (0, (let few = lent_few f i in omega (arith, few)), none e)
-  | inr d ↦ (6, (let no = lent_none f ends b i lt from (omega (arith, d, upto)) in omega (arith, no)), all)
+temp_slots_so_far f ends b i lt from upto old new all none = elim (cases_eq (i + 1) (block_at f b).range.end) [
+  | inl e ↦ (0, (let few = temp_slots_at_is_few f i in omega (arith, few)), none e)
+  | inr d ↦ (6, (let no = no_temp_slots_before_last f ends b i lt from (omega (arith, d, upto)) in omega (arith, no)), all)
 ]
 
 -- a block begins where the one before it ends

@@ -50,10 +50,10 @@ whole_tidy t w = record {
 }
 
 -- a vreg that leaves the registers, for a slot or for nowhere
-settled_away : (old new : VRegAllocsValue) (v : VirtualRegister) (p : Place) → ((q : Register) → is_place p (InRegister q) ≡ false) → SetsAlloc old new v p →
+holder_after_leaving : (old new : VRegAllocsValue) (v : VirtualRegister) (p : Place) → ((q : Register) → is_place p (InRegister q) ≡ false) → SetsAlloc old new v p →
     (r : Register) → r.number < 64 →
     vreg_of_preg new r ≡ cond (is_place (alloc_of old v.number) (InRegister r)) None (vreg_of_preg old r)
-settled_away old new v p away s r lt = s.holders r lt
+holder_after_leaving old new v p away s r lt = s.holders r lt
     ∙ ap (λ b. cond b (Some v) (cond (is_place (alloc_of old v.number) (InRegister r)) None (vreg_of_preg old r))) (away r)
 
 holder_left : (b : Bool) (x : Option VirtualRegister) (w : VirtualRegister) → cond b None x ≡ Some w → (b ≡ false) × (x ≡ Some w)
@@ -69,7 +69,7 @@ module _ (old new : StateValue) (v : VirtualRegister) (p : Place) (away : (q : R
   pub away_holds : (r : Register) (u : VirtualRegister) → r.number < 64 → vreg_of_preg new.places r ≡ Some u → place_in new u.number ≡ InRegister r
   away_holds r u lt h =
       let x = holder_left (is_place (alloc_of old.places v.number) (InRegister r)) (vreg_of_preg old.places r) u
-      (sym (settled_away old.places new.places v p away s r lt) ∙ h) in
+      (sym (holder_after_leaving old.places new.places v p away s r lt) ∙ h) in
       let there : place_in old u.number ≡ InRegister r = w.holds r u lt x.1 in
       let ne : u.number ≢ v.number = λ e. not_here (alloc_of old.places v.number) r x.0 (ap (alloc_of old.places) (sym e) ∙ there) in
       s.others u.number ne ∙ there
@@ -84,7 +84,7 @@ module _ (old new : StateValue) (v : VirtualRegister) (p : Place) (away : (q : R
         let x = w.stands_in n r there in
         let other : is_place (alloc_of old.places v.number) (InRegister r) ≡ false = is_place-other (alloc_of old.places v.number) (InRegister r)
         (λ e. ne ((whole_tidy old w).apart n v.number r there e)) in
-        (x.0, (x.1.0, x.1.1, settled_away old.places new.places v p away s r x.0 ∙ ap (λ b. cond b None (vreg_of_preg old.places r)) other ∙ x.1.2)))
+        (x.0, (x.1.0, x.1.1, holder_after_leaving old.places new.places v p away s r x.0 ∙ ap (λ b. cond b None (vreg_of_preg old.places r)) other ∙ x.1.2)))
   ]
 
 -- a slot that is given
@@ -171,7 +171,8 @@ module _ (old new : StateValue) (v : VirtualRegister) (r : Register) (lt : r.num
           let ne : u.number ≢ v.number = λ y. let z : NoPlace ≡ InRegister q = sym nowhere ∙ ap (place_in old) (sym y) ∙ there in cc in
           s.others u.number ne ∙ there
 
-  -- once a vreg has moved to an empty register, each vreg that is located in a register is the one that this register has
+  -- once a vreg has moved to an empty register, each vreg that is located in a register is the one that this register
+  -- has
   pub arrive_stands : (n : ℕ) (q : Register) → place_in new n ≡ InRegister q → (q.number < 64)
       × ((u : VirtualRegister) × (u.number ≡ n) × (vreg_of_preg new.places q ≡ Some u))
   arrive_stands n q h = elim (cases_eq n v.number) [

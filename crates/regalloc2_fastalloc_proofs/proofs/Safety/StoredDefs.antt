@@ -1,4 +1,5 @@
--- In a well-formed function on a machine that fits: what a block's start stores is defined, of one class, and fixed to a register of that class.
+-- In a well-formed function on a machine that fits: what a block's start stores is defined, of one class, and fixed to
+-- a register of that class.
 use Rattle.std.proofs.Common.{ℕ, ◌≡◌, ◌+◌, ◌<◌, List, true, inl, inr, length, map, refl, sym, ap, ◌∙◌, subst, arith}
 use Rattle.std.specs.Prelude.{None, Some, slice_index_or, if◌then◌else◌}
 use Rattle.std.proofs.lemmas.List.{get_or-map}
@@ -58,10 +59,10 @@ same_at : {X Y : Type 0} (g : X → Y) (xs ys : List X) (d : X) (k : ℕ) → ma
     g (slice_index_or xs k d) ≡ g (slice_index_or ys k d)
 same_at g xs ys d k e lx ly = sym (get_or-map g xs k d (g d) lx) ∙ ap (λ l. slice_index_or l k (g d)) e ∙ get_or-map g ys k d (g d) ly
 
-pub made_alike : (env : MachineValue) (f : FunctionValue) → IsWellFormed env f → (b k j : ℕ) → b < length f.blocks → HasEdge f b k →
+pub argument_has_class_of_param : (env : MachineValue) (f : FunctionValue) → IsWellFormed env f → (b k j : ℕ) → b < length f.blocks → HasEdge f b k →
     j < length (block_at f (target_at f b k)).params
     → AreKnownOfOneClass (Made f) (slice_index_or (block_at f (target_at f b k)).params j no_vreg) (slice_index_or (arguments_at f b k) j no_vreg)
-made_alike env f ok b k j lt edge within =
+argument_has_class_of_param env f ok b k j lt edge within =
     let target : target_at f b k < length f.blocks = (well_formed_are_sound env f ok).targets b k edge in
     let counted : length (arguments_at f b k) ≡ length (block_at f (target_at f b k)).params = ok.counted b lt k edge in
     let less : j < length (arguments_at f b k) = omega (arith, within, counted) in
@@ -80,7 +81,8 @@ fixed_class : (c : OperandConstraint) (class : RegClass) (r : Register) → IsCo
 fixed_class (FixedReg g) class r of is = (let same : g ≡ r = cc in subst (λ (x : Register). x.class ≡ class) same of.1)
 fixed_class c class r of is = cc
 
--- what the operand j of the branch at the end of the block e defines is of v's class, and so is the register that it is fixed to
+-- what the operand j of the branch at the end of the block e defines is of v's class, and so is the register that it is
+-- fixed to
 pub record IsStoredOfClass (f : FunctionValue) (e j : ℕ) (v : VirtualRegister) : Type 0 where
   pub class : (op_at (branch_operands f e) j).vreg.class ≡ v.class
   pub fixed : (r : Register) → fixed_definition (op_at (branch_operands f e) j) ≡ Some r → r.class ≡ v.class
@@ -111,7 +113,7 @@ stored_of_class env f limited ok taken b e k j v slots edge is = record {
     same_class : IsStoredFor f e k slots j v → o.vreg.class ≡ v.class
     same_class (its_own own same) = ap (λ (w : VirtualRegister). w.class) same
     same_class (given n lt at defines has) =
-        let alike = made_alike env f ok e k n edge.block edge.edge lt in
+        let alike = argument_has_class_of_param env f ok e k n edge.block edge.edge lt in
         let made : Made f o.vreg = concerned_made f ok.successors ok.follow b e k o.vreg edge (inl (j, d, refl)) in
         let same : o.vreg ≡ slice_index_or (arguments_at f e k) n no_vreg = one_made f ok.defined_once o.vreg (slice_index_or (arguments_at f e k) n no_vreg)
         made
@@ -119,10 +121,10 @@ stored_of_class env f limited ok taken b e k j v slots edge is = record {
         ap (λ (w : VirtualRegister). w.class) same ∙ sym alike.2 ∙ ap (λ (w : VirtualRegister). w.class) at
 
 -- once all blocks are walked, the register of a stored definition is the machine's
-pub stored_alike : {env : MachineValue} {f : FunctionValue} → IsLimited f → IsWellFormed env f → AreTaken f → {blank places : List Place}
+pub stored_has_class_of_vreg : {env : MachineValue} {f : FunctionValue} → IsLimited f → IsWellFormed env f → AreTaken f → {blank places : List Place}
     {old t : StateValue} → HasMachine env old → AllocsBlocks f blank old 0 places t → (b e k j : ℕ)
     (v : VirtualRegister) (slots : SpillSlotsValue) → IsEdgeInto f b e k → IsStoredFor f e k slots j v → IsAlike env f e j v
-stored_alike {env} {f} limited ok taken {blank} {places} {old} {t} machine walks b e k j v slots edge is = record {
+stored_has_class_of_vreg {env} {f} limited ok taken {blank} {places} {old} {t} machine walks b e k j v slots edge is = record {
   class = c.class;
   fixed = λ r fixed. (
     fixed_of_machine env f (Made f) last sound_ops old machine allocated j r d.operand d.definition

@@ -21,7 +21,8 @@ use Rattle.regalloc2_fastalloc_proofs.proofs.Safety.StepsKeepSafe.{MayBeHeld, ma
 use Rattle.regalloc2_fastalloc_proofs.proofs.Safety.BlockStartKeepsSafe.{given_safe}
 use Rattle.regalloc2_fastalloc_proofs.proofs.BlockBegin.StoresOfDefs.{with_slots}
 
--- what the operand j of the branch at the end of the block e defines is of v's class, and the register that it is fixed to is one of the machine, of that class
+-- what the operand j of the branch at the end of the block e defines is of v's class, and the register that it is fixed
+-- to is one of the machine, of that class
 pub record IsAlike (env : MachineValue) (f : FunctionValue) (e j : ℕ) (v : VirtualRegister) : Type 0 where
   pub class : (op_at (branch_operands f e) j).vreg.class ≡ v.class
   pub fixed : (r : Register) → fixed_definition (op_at (branch_operands f e) j) ≡ Some r → IsOfMachine env r × (r.class ≡ v.class)
@@ -112,8 +113,9 @@ stack_memory env t h NoPlace s = absurd s
 stack_memory env t h (InRegister r) s = h.memory r s
 stack_memory env t h (InSlot n) s = refl
 
--- A store x at a point, into the slot of the known vreg v, of what the operand j of the branch of the block e defines; old and new: the tables before it and
--- after it. The operand's vreg is known, and of v's class; the store goes to the stack, through a register.
+-- A store x at a point, into the slot of the known vreg v, of what the operand j of the branch of the block e defines;
+-- old and new: the tables before it and after it. The operand's vreg is known, and of v's class; the store goes to the
+-- stack, through a register.
 pub record OneStore (env : MachineValue) (Known : VirtualRegister → Type 0) (Writes : ℕ → VirtualRegister → ℕ → Type 0) (May : ℕ → Type 0) : Type 0 where
   pub f : FunctionValue
   pub e : ℕ

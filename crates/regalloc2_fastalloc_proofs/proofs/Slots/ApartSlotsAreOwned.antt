@@ -28,8 +28,8 @@ abbrev pub IsBeforeBranch : (ℕ → Owner) → ℕ × MoveValue → Type 0
 IsBeforeBranch owner e = (n i : ℕ) (class : RegClass) (time : ℕ) → owner n ≡ OfBranch i class time → (e.1.from ≡ InSlot n) ⊎ (e.1.to ≡ InSlot n) →
     e.0 ≡ before i
 
--- Slots are owned: that of a known vreg by that vreg. A branch has at most two for a class, which aren't the place of any operand or debug location, and
--- which only the moves before it name.
+-- Slots are owned: that of a known vreg by that vreg. A branch has at most two for a class, which aren't the place of
+-- any operand or debug location, and which only the moves before it name.
 pub record OwnsSlots (Known : VirtualRegister → Type 0) (f : FunctionValue) (s : SpillSlotsValue) (out : OutputValue) : Type 0 where
   pub owned : AreSlotsOwned f out
   pub vregs : (v : VirtualRegister) (n : ℕ) → Known v → slot_name s v.number ≡ InSlot n → owned.owner n ≡ OfVReg v

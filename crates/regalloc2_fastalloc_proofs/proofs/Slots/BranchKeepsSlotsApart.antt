@@ -93,10 +93,10 @@ branch_of : (a b : ℕ) (c d : RegClass) (j k : ℕ) → OfBranch a c j ≡ OfBr
 branch_of a b c d j k e = ((let x : b ≡ a = cc in x), (let x : d ≡ c = cc in x), (let x : k ≡ j = cc in x))
 
 -- a temporary slot that ends below the new count is a taken one
-lent_below : (s t : SpillSlotsValue) (class : RegClass) (taken j : ℕ) → 0 < units_of s class → AddsTempSlots s t class taken → later_end s class j ≤ t.count
+temp_slot_index_below : (s t : SpillSlotsValue) (class : RegClass) (taken j : ℕ) → 0 < units_of s class → AddsTempSlots s t class taken → later_end s class j ≤ t.count
     → j < taken
-lent_below s t class zero j some lends upto = (let same = lends.none refl in absurd (omega (arith, same, upto, some)))
-lent_below s t class (suc k) j some lends upto = elim (cases_le j k) [
+temp_slot_index_below s t class zero j some lends upto = (let same = lends.none refl in absurd (omega (arith, same, upto, some)))
+temp_slot_index_below s t class (suc k) j some lends upto = elim (cases_le j k) [
   | inl le ↦ omega (arith, le)
   | inr past ↦ (
       let end = lends.some k (omega arith) in
@@ -123,9 +123,9 @@ module _ (Known : VirtualRegister → Type 0) (same : (v w : VirtualRegister) �
           own = own_grows m.slots new.slots a s (changes_stay (evicts_preg_changes (λ q r. tt) clears))
               (slot_own m.slots a s m.slots.count gives.gives gives.below);
         }
-    spills_argument_classed a s t u old new (in_slot away gives settles edits machine order eu) known h ht = record {
+    spills_argument_classed a s t u old new (in_slot away gives sets_alloc edits machine order eu) known h ht = record {
       step = record {
-        classed = to_slot_only Known same named Met old new a s known gives settles machine edits h;
+        classed = to_slot_only Known same named Met old new a s known gives sets_alloc machine edits h;
         inst_regs = subst IsClassedTurn (sym eu) ht;
       };
       own = slot_own new.slots a s new.slots.count gives.gives gives.below;
@@ -144,14 +144,14 @@ module _ (Known : VirtualRegister → Type 0) (same : (v w : VirtualRegister) �
     gathers_edge_moves_classed params arguments alike t old before_it h ht begin k u new given none_gathered =
         record { step = classed_same Known same named Met old old t t refl refl h ht; passed = begin }
     gathers_edge_moves_classed params arguments alike t old before_it h ht begin k u new given
-        (one_gathered j some to from w x m n o lt prev gives places edits machine order settles foreign) =
+        (one_gathered j some to from w x m n o lt prev gives places edits machine order sets_alloc foreign) =
         let p = gathers_edge_moves_classed params arguments alike t old before_it h ht begin j w m some prev in
         let v : VirtualRegister = slice_index_or params j no_vreg in
         let a : VirtualRegister = slice_index_or arguments j no_vreg in
         let known = alike j lt in
         let first : IsClassed Known named Met n = only_slot Known same named Met m n v to known.0 gives places machine edits p.step.classed in
-        let second : Argued a from u new = spills_argument_classed a from w u n new settles known.1 first p.step.inst_regs in
-        let later : SlotsStay n.slots new.slots = changes_stay (spills_argument_changes (λ q r. tt) tt tt settles) in
+        let second : Argued a from u new = spills_argument_classed a from w u n new sets_alloc known.1 first p.step.inst_regs in
+        let later : SlotsStay n.slots new.slots = changes_stay (spills_argument_changes (λ q r. tt) tt tt sets_alloc) in
         record {
           step = second.step;
           passed = All-push (λ (g : ClassMove). IsOwnPlaceOfClass Known new.slots g.class g.from × IsOwnPlaceOfClass Known new.slots g.class g.to) some
@@ -183,11 +183,11 @@ module _ (Known : VirtualRegister → Type 0) (same : (v w : VirtualRegister) �
     reloads_param_classed : (v : VirtualRegister) (t u : InstRegs) (old new : StateValue) → ReloadsParam point v t u old new → Known v →
         IsClassed Known named Met old → IsClassedTurn t → StepClassed Known named Met u new
     reloads_param_classed v t u old new (nowhere none eu en) known h ht = classed_same Known same named Met old new t u en eu h ht
-    reloads_param_classed v t u old new (comes s m there gives settles edits machine order sends) known h ht =
+    reloads_param_classed v t u old new (comes s m there gives sets_alloc edits machine order sends) known h ht =
         let q : Place = alloc_of old.places v.number in
         let stay : SlotsStay old.slots m.slots = gives_stay old.slots m.slots v s gives in
         adds_move_if_classed Known same named Met point v sends known (slot_own m.slots v s m.slots.count gives.gives gives.below)
-        (own_grows old.slots m.slots v q stay (h.places v known)) (left_in_slot Known same named Met old m v s known gives settles machine edits h) ht
+        (own_grows old.slots m.slots v q stay (h.places v known)) (left_in_slot Known same named Met old m v s known gives sets_alloc machine edits h) ht
 
     reloads_params_classed : (params : List VirtualRegister) → ((k : ℕ) → k < length params → Known (slice_index_or params k no_vreg)) →
         (t : InstRegs) (old : StateValue) → IsClassed Known named Met old → IsClassedTurn t
@@ -232,7 +232,7 @@ module _ (Known : VirtualRegister → Type 0) (same : (v w : VirtualRegister) �
     in_hand_end p (inl (r, is, inr borrowed)) = subst IsEndHere (sym is) borrowed.of_class
     in_hand_end p (inr (k, is, above_it, below, j, which, ends)) = subst IsEndHere (sym is) (
       record { owner = OfBranch branch class j; name = later_slot old.slots class j },
-      temp.each j (lent_below old.slots middle.slots class orders.lends.0 j (h.units class) orders.lends.2 ends),
+      temp.each j (temp_slot_index_below old.slots middle.slots class orders.lends.0 j (h.units class) orders.lends.2 ends),
       sym which,
       refl,
       refl,

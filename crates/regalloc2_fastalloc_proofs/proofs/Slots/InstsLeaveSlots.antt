@@ -1,4 +1,5 @@
--- If the moves of the walk write only what they may and places are good, each instruction but a block's last one leaves slots to their owners.
+-- If the moves of the walk write only what they may and places are good, each instruction but a block's last one leaves
+-- slots to their owners.
 use Rattle.regalloc2_parts.proofs.Resolving.{All-reversed}
 use Rattle.std.proofs.Common.{ℕ, ◌≡◌, ◌+◌, ◌<◌, ◌≤◌, inl, inr, true, false, List, length, refl, sym, ap, ◌∙◌, subst, arith}
 use Rattle.std.specs.Prelude.{All, Some}
@@ -26,7 +27,8 @@ use Rattle.regalloc2_fastalloc_proofs.proofs.Safety.FunctionKeepsSafe.{no_branch
 use Rattle.regalloc2_fastalloc_proofs.proofs.Walk.LastInstAndRest.{KeepsSlots}
 use Rattle.regalloc2_fastalloc_proofs.proofs.Walk.FunctionLaws.{PlacedCode}
 
--- The slots that may be written around an instruction: before it the slots in which it reads a vreg, after it the slots of the vregs that it defines.
+-- The slots that may be written around an instruction: before it the slots in which it reads a vreg, after it the slots
+-- of the vregs that it defines.
 pub record WritesSound (f : FunctionValue) (placesf : ℕ → List Place) (Writes : ℕ → VirtualRegister → ℕ → Type 0) (i : ℕ) : Type 0 where
   pub sooner : (v : VirtualRegister) (n : ℕ) → Writes (before i) v n → IsReadInPlace (inst_at f i).operands (placesf i) v (InSlot n)
   pub later : (v : VirtualRegister) (n : ℕ) → Writes (after i) v n → (k : ℕ) × (k < length (inst_at f i).operands)

@@ -17,7 +17,7 @@ use Rattle.regalloc2_fastalloc_proofs.specs.SlotLayout.{OwnedSlot, start_in, sta
 use Rattle.regalloc2_fastalloc_proofs.specs.SlotLayout.{LaysOut, IsOwnSlot, AreLaidOut}
 use Rattle.regalloc2_fastalloc_proofs.proofs.Slots.SlotsGrow.{gives_stay}
 use Rattle.regalloc2_fastalloc_proofs.proofs.Slots.StepsKeepSlots.{cases_none}
-use Rattle.regalloc2_fastalloc_proofs.proofs.Branches.ArgMovesEffect.{one_slot}
+use Rattle.regalloc2_fastalloc_proofs.proofs.Branches.ArgMovesEffect.{in_slot_injective}
 
 -- the next multiple is a multiple
 next_is_multiple : (x y : ℕ) → 0 < y → next_multiple_of x y % y ≡ 0
@@ -144,7 +144,7 @@ module _ (Known : VirtualRegister → Type 0) (same : (v w : VirtualRegister) �
             (later_laid s (OfVReg v) 0 t.count (units v.class) (omega (arith, count)))
             (λ k d lt e. let x : NoPlace ≡ InSlot _ = sym none ∙ h.own k d lt v (sym e) in cc)
             (λ w is k there. ⊎_elim
-            (λ (one : w.number ≡ v.number). let e : n ≡ k = one_slot n k (sym at ∙ ap (slot_name t) (sym one) ∙ there) in
+            (λ (one : w.number ≡ v.number). let e : n ≡ k = in_slot_injective n k (sym at ∙ ap (slot_name t) (sym one) ∙ there) in
             subst (λ (x : OwnedSlot). Contains (c ∷ made) x) (let f : v ≡ w = sym (same w v is known one) in ap (λ x. record { owner = OfVReg x; name = n }) f
             ∙ ap (λ x. record { owner = OfVReg w; name = x }) e) (contains_here c made))
             (λ (other : w.number ≢ v.number). contains_there c _ made (h.known w is k (sym (gives.others w.number other) ∙ there)))
@@ -166,8 +166,8 @@ module _ (Known : VirtualRegister → Type 0) (same : (v w : VirtualRegister) �
       })
       (cases_none (slot_name s v.number))
 
-lent_sooner : (branch : ℕ) (class : RegClass) (k : ℕ) → OfBranch branch class (suc k) ≡ OfBranch branch class 0 → ⊥
-lent_sooner branch class k e = cc
+temp_slot_owners_differ : (branch : ℕ) (class : RegClass) (k : ℕ) → OfBranch branch class (suc k) ≡ OfBranch branch class 0 → ⊥
+temp_slot_owners_differ branch class k e = cc
 
 -- a branch's moves take temporary slots of a class for the first time
 pub record LaysOutTempSlots (Known : VirtualRegister → Type 0) (Holds : OwnedSlot → Type 0) (branch : ℕ) (class : RegClass) (taken : ℕ) (s t : SpillSlotsValue)
@@ -212,7 +212,7 @@ module _ (Known : VirtualRegister → Type 0) (Holds : OwnedSlot → Type 0) (br
       let start = later_start s (OfBranch branch class 1) 1 some in
       one_more_laid Known (with_lent (later_end s class 0) num_temp_slots) (with_lent count num_temp_slots) (temp_slots_at 0 ∷ made) refl refl
       (omega (arith, upto)) g (temp_slots_at 1) (omega (arith, start)) (later_laid s (OfBranch branch class 1) 1 count some upto)
-      (All-cons (λ x. OfBranch branch class 1 ≢ x.owner) (temp_slots_at 0) made (lent_sooner branch class 0) (λ k d lt. first_time k d lt 1))
+      (All-cons (λ x. OfBranch branch class 1 ≢ x.owner) (temp_slots_at 0) made (temp_slot_owners_differ branch class 0) (λ k d lt. first_time k d lt 1))
       (λ v is k there. contains_there (temp_slots_at 1) _ (temp_slots_at 0 ∷ made) (g.known v is k there)) (λ v e. absurd (not_vreg 1 v e)) g.own
 
   -- adding temporary slots for a branch, two at most, leaves all slots disjoint, each with one owner

@@ -25,7 +25,7 @@ use Rattle.regalloc2_fastalloc_proofs.proofs.Safety.WellFormedKeepsSafe.{sound_o
 use Rattle.regalloc2_fastalloc_proofs.proofs.Slots.NewSlotsApart.{none_laid}
 use Rattle.regalloc2_fastalloc_proofs.proofs.Slots.StepsKeepSlotsApart.{IsOwnPlace, IsClassed}
 use Rattle.regalloc2_fastalloc_proofs.proofs.Slots.InstKeepsSlotsApart.{allocs_inst_classed}
-use Rattle.regalloc2_fastalloc_proofs.proofs.Safety.StoredDefs.{IsStoredOfClass, concerned_made, made_alike, stored_of_class}
+use Rattle.regalloc2_fastalloc_proofs.proofs.Safety.StoredDefs.{IsStoredOfClass, concerned_made, argument_has_class_of_param, stored_of_class}
 use Rattle.regalloc2_fastalloc_proofs.proofs.Slots.StoresKeepSlotsApart.{stores_branch_defs_classed}
 use Rattle.regalloc2_fastalloc_proofs.proofs.Slots.BranchKeepsSlotsApart.{AreKnownOfOneClass, met_more, processes_branch_classed, reloads_at_begin_classed}
 use Rattle.regalloc2_fastalloc_proofs.proofs.Safety.BlocksKeepSafe.{StartsAt, start_next}
@@ -90,7 +90,7 @@ begun_classed f env Known named kept t n m sizes places slots edits units machin
     let e = begun_empty t n places in
     let none : (k : ℕ) → slot_name t.slots k ≡ NoPlace = λ k. ap (λ (s : SpillSlotsValue). slot_name s k) slots ∙ always m k NoPlace in
     record {
-      holders = λ r v small held. absurd (no_some v (sym (e.nobody r small) ∙ held));
+      holders = λ r v small held. absurd (no_some v (sym (e.none_held r small) ∙ held));
       places = λ v known. subst (IsOwnPlace t.slots v) (sym (e.nowhere v.number)) tt;
       slots = λ k. subst (IsSlotOrNone t.slots.count) (sym (none k)) tt;
       units = λ c. subst (λ (s : SpillSlotsValue). 0 < units_of s c) (sym slots) (units c);
@@ -108,10 +108,10 @@ pub walk_classed : {env : MachineValue} {f : FunctionValue} → KeepsOfClass env
     → {watched : List Bool} → begin.places ≡ no_allocs n watched → begin.slots ≡ no_slots m sizes named → begin.edits ≡ [] → ((c : RegClass) → 0 < units_of (no_slots m sizes named) c) →
     HasMachine env begin → AllocsBlocks f blank begin 0 places last
     → IsClassed (Made f) named (BranchesFrom f 0) last
-walk_classed {env} {f} kept limited ok taken {blank} {places} {begin} {last} n m sizes {named} nobody slots none units machine walks =
+walk_classed {env} {f} kept limited ok taken {blank} {places} {begin} {last} n m sizes {named} none_held slots none units machine walks =
     let some : 0 < length f.blocks = (let entry = ok.successors.0 in omega (arith, entry)) in
     allocs_blocks_classed f (Made f) (one_made f ok.defined_once) named (sound_ops_at env f limited ok taken) ok.follow
-    (λ b k lt less. Made.by_param b k (record { block = lt; param = less; number = refl }) refl) (made_alike env f ok)
-    (concerned_made f ok.successors ok.follow) (stored_of_class env f limited ok taken) (begun_classed f env (Made f) named kept begin n m sizes nobody slots
+    (λ b k lt less. Made.by_param b k (record { block = lt; param = less; number = refl }) refl) (argument_has_class_of_param env f ok)
+    (concerned_made f ok.successors ok.follow) (stored_of_class env f limited ok taken) (begun_classed f env (Made f) named kept begin n m sizes none_held slots
     none units machine (BranchesFrom f (length f.insts))) walks
     (record { block = λ lt. sym ((ok.follow 0 some).1 refl); end = λ e. absurd (omega (arith, e, some)) })

@@ -85,9 +85,9 @@ reserved_none names gone operands t u w reg reserves h = with_turn names gone t 
 ])
 
 -- no register is held for clobbers if there are none
-pub held_none : (names : List VirtualRegister) (gone : ℕ → Bool) (clobbers : PRegSet) (t : StateValue) (u w : InstRegs) →
+pub spill_free_without_clobbers : (names : List VirtualRegister) (gone : ℕ → Bool) (clobbers : PRegSet) (t : StateValue) (u w : InstRegs) →
     ((r : Register) → has_register clobbers r ≡ false) → RemovesClobbers clobbers u w → IsSpillFree names gone t u → IsSpillFree names gone t w
-held_none names gone clobbers t u w none holds h = with_turn names gone t u w h (λ r has free.
+spill_free_without_clobbers names gone clobbers t u w none holds h = with_turn names gone t u w h (λ r has free.
     (let parts = and_parts (has_register u.early r) (has_register u.late r) free in rw (holds.early r, holds.late r, none r, parts.0, parts.1) refl))
 
 -- nothing is cleared
@@ -139,7 +139,7 @@ ready {names} {gone} {i} {operands} {clobbers} {old} {new} {u} {began} {quiet} r
     let tables : new ≡ old = c.1 ∙ f.1 in
     let inst_regs : quiet ≡ p.held = c.0 ∙ f.0 in (
       tables,
-      rw (tables, inst_regs) (held_none names gone clobbers old p.reserved p.held none p.holds
+      rw (tables, inst_regs) (spill_free_without_clobbers names gone clobbers old p.reserved p.held none p.holds
           (reserved_none names gone operands old began p.reserved reg p.reserves
           (with_turn names gone old u began h (λ r has free. fresh_free old began fresh r has)))),
     )
@@ -301,9 +301,9 @@ from_next f names i t u lt h l = record {
 }
 
 -- at the first instruction no vreg has a location: each vreg was defined
-pub nobody_left : (f : FunctionValue) (env : MachineValue) (names : List VirtualRegister) (t : StateValue) → IsWellFormed env f →
+pub no_location_at_first_inst : (f : FunctionValue) (env : MachineValue) (names : List VirtualRegister) (t : StateValue) → IsWellFormed env f →
     HasRegOperandsOnly names f → IsSpillFreeFrom names f 0 t → (n : ℕ) → alloc_of t.places n ≡ NoPlace
-nobody_left f env names t well asks h n = elim (cases_none (alloc_of t.places n)) [
+no_location_at_first_inst f env names t well asks h n = elim (cases_none (alloc_of t.places n)) [
   | inl e ↦ e
   | inr ne ↦ absurd (ne (stands_not ne))
 ]
@@ -328,7 +328,7 @@ gathers_edge_moves_none : {Own : VirtualRegister → Type 0} (point : ℕ) (para
     GathersEdgeMoves Own point params arguments t old given n u new more → (new ≡ old) × (more ≡ given)
 gathers_edge_moves_none point params arguments t old given n u new more e none_gathered = (refl, refl)
 gathers_edge_moves_none point params arguments t old given n u new more e (one_gathered j mid to from w x m k o lt before gives places edits machine order
-    settles foreign) =
+    sets_alloc foreign) =
     absurd (omega (arith, e))
 gathers_edge_moves_none point params arguments t old given n u new more e (own_argument j mid w m lt before own) = absurd (omega (arith, e))
 
@@ -374,15 +374,15 @@ none_is_stored f env names well asks b e k j v slots edge (given_param n lt is d
     target) in
     omega (arith, lt, none)
 
-none_alike : IsDistinct is_same_number []
+distinct_empty : IsDistinct is_same_number []
 unfolding IsDistinct
-none_alike = tt
+distinct_empty = tt
 
 -- before the walk
 pub begins_uncrowded : (f : FunctionValue) (names : List VirtualRegister) (t : StateValue) → ((n : ℕ) → alloc_of t.places n ≡ NoPlace) → t.edits ≡ [] →
     ((n : ℕ) → slot_name t.slots n ≡ NoPlace) → t.slots.count ≡ 0 → IsWhole t → RegsAvoidStack t
     → ((class : RegClass) → IsLruOf t.allocatable class (order_of t class)) → IsSpillFreeFrom names f (length f.insts) t
-begins_uncrowded f names t nobody edits slots count whole apart lrus = record {
+begins_uncrowded f names t none_held edits slots count whole apart lrus = record {
   gone = λ n. false;
   only = λ n e. absurd cc;
   goes = λ j n past inside. absurd (omega (arith, past, inside));
@@ -394,19 +394,19 @@ begins_uncrowded f names t nobody edits slots count whole apart lrus = record {
     whole = whole;
     apart = apart;
     lrus = lrus;
-    stand = λ n there. absurd (there (nobody n));
-    named = λ n there. absurd (there (nobody n));
-    nowhere = λ n e. nobody n;
+    stand = λ n there. absurd (there (none_held n));
+    named = λ n there. absurd (there (none_held n));
+    nowhere = λ n e. none_held n;
     each = λ class. record {
       used = [];
       unused = order_of t class;
       met = [];
       ring = refl;
       few = omega arith;
-      distinct = none_alike;
+      distinct = distinct_empty;
       of_class = λ k d lt. absurd (omega arith);
       known = λ v c. absurd (omega (arith, c.1));
-      empty = λ n r at c. (let wrong : InRegister r ≡ NoPlace = sym at ∙ nobody n in cc);
+      empty = λ n r at c. (let wrong : InRegister r ≡ NoPlace = sym at ∙ none_held n in cc);
       free = λ r c. (let has : has_register t.allocatable r ≡ true = (lrus class).has r c in rw has refl);
     };
   };

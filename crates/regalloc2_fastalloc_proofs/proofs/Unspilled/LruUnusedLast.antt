@@ -38,9 +38,9 @@ but_less r (x ∷ xs) (suc k, less, at) = by (is_register r x) (but_less r xs (k
     by true h = omega (arith, h)
     by false h = omega (arith, h)
 
-still_in : (b : Bool) (x q : Register) (xs : List Register) → Contains xs q → Contains (cond b (x ∷ xs) xs) q
-still_in true x q xs (k, less, at) = (suc k, omega arith, at)
-still_in false x q xs h = h
+contains_after_cond : (b : Bool) (x q : Register) (xs : List Register) → Contains xs q → Contains (cond b (x ∷ xs) xs) q
+contains_after_cond true x q xs (k, less, at) = (suc k, omega arith, at)
+contains_after_cond false x q xs h = h
 
 -- without one register a list still has each other one that it had
 pub but_others : (r q : Register) (xs : List Register) → Contains xs q → is_register r q ≡ false → Contains (without_register r xs) q
@@ -48,7 +48,7 @@ but_others r q [] (k, less, at) e = absurd (omega arith)
 but_others r q (x ∷ xs) (zero, less, at) e =
     let here : is_register r x ≡ false = subst (λ (y : Register). is_register r y ≡ false) (sym at) e in
     rw here (0, omega arith, at)
-but_others r q (x ∷ xs) (suc k, less, at) e = still_in (not (is_register r x)) x q (without_register r xs) (but_others r q xs (k, omega arith, at) e)
+but_others r q (x ∷ xs) (suc k, less, at) e = contains_after_cond (not (is_register r x)) x q (without_register r xs) (but_others r q xs (k, omega arith, at) e)
 
 -- what is in a list without one register is in the list
 pub but_from : (r q : Register) (xs : List Register) → Contains (without_register r xs) q → Contains xs q
@@ -65,7 +65,7 @@ same_members r xs there q = (onward, back (is_register r q) refl)
 
     back : (b : Bool) → is_register r q ≡ b → Contains xs q → Contains (r ∷ without_register r xs) q
     back true e h = (0, omega arith, is_register-true r q e)
-    back false e h = still_in true r q (without_register r xs) (but_others r q xs h e)
+    back false e h = contains_after_cond true r q (without_register r xs) (but_others r q xs h e)
 
 -- a list without a register doesn't have that register
 pub but_not : (r : Register) (xs : List Register) → Contains (without_register r xs) r → ⊥

@@ -23,7 +23,7 @@ use Rattle.regalloc2_fastalloc_proofs.specs.BlockSteps.{AllocsInstInBlock, Alloc
 use Rattle.regalloc2_fastalloc_proofs.proofs.Changes.WalkChanges.{free_inst, allocs_block_insts_changes}
 use Rattle.regalloc2_fastalloc_proofs.proofs.Safety.StepsKeepMachine.{machine_stays}
 use Rattle.regalloc2_fastalloc_proofs.specs.Safety.{IsWhole}
-use Rattle.regalloc2_fastalloc_proofs.proofs.Unspilled.BlockSpillFree.{edge_block, from_next, gathers_moves_none, inst_spill_free, no_params, nobody_left}
+use Rattle.regalloc2_fastalloc_proofs.proofs.Unspilled.BlockSpillFree.{edge_block, from_next, gathers_moves_none, inst_spill_free, no_params, no_location_at_first_inst}
 use Rattle.regalloc2_fastalloc_proofs.proofs.Unspilled.BlockSpillFree.{none_begun_none, none_is_stored, of_none, plain_at}
 use Rattle.regalloc2_fastalloc_proofs.specs.Unspilled.SpillFree.{FitInRegs, HasRegOperandsOnly, IsSpillFreeFrom}
 
@@ -49,12 +49,12 @@ branch_none f b i t u old new empty p =
 reloads_regs_none : (point : ℕ) (t : InstRegs) (old : StateValue) (u : InstRegs) (new : StateValue) → IsWhole old →
     ((n : ℕ) → alloc_of old.places n ≡ NoPlace) →
     ReloadsRegs point t old u new → new ≡ old
-reloads_regs_none point t old u new whole nobody none_emptied = refl
-reloads_regs_none point t old u new whole nobody (one_emptied r w x m n before newest clears) =
-    let same : m ≡ old = reloads_regs_none point t old w m whole nobody before in
+reloads_regs_none point t old u new whole none_held none_emptied = refl
+reloads_regs_none point t old u new whole none_held (one_emptied r w x m n before newest clears) =
+    let same : m ≡ old = reloads_regs_none point t old w m whole none_held before in
     let there : alloc_of old.places newest.vreg.number ≡ InRegister r = whole.holds r newest.vreg newest.small
     (ap (λ (y : StateValue). vreg_of_preg y.places r) (sym same) ∙ newest.held) in
-    absurd (let wrong : NoPlace ≡ InRegister r = sym (nobody newest.vreg.number) ∙ there in cc)
+    absurd (let wrong : NoPlace ≡ InRegister r = sym (none_held newest.vreg.number) ∙ there in cc)
 
 -- a list of stores without members is empty
 no_store : (stores : List Store) → ((s : Store) → IsOneOf s stores → ⊥) → stores ≡ []
@@ -63,10 +63,10 @@ no_store (s ∷ ss) none = absurd (none s (first refl))
 
 module _ (f : FunctionValue) (env : MachineValue) (well : IsWellFormed env f) (names : List VirtualRegister) (asks : HasRegOperandsOnly names f) where
   -- a block's start stores nothing
-  stores_branch_defs_nothing : (b : ℕ) (old new : StateValue) → StoresBranchDefs f b old new → (new.edits ≡ old.edits) × (new.slots ≡ old.slots)
+  stores_no_branch_defs : (b : ℕ) (old new : StateValue) → StoresBranchDefs f b old new → (new.edits ≡ old.edits) × (new.slots ≡ old.slots)
   unfolding pushed_moves store_moves
-  stores_branch_defs_nothing b old new (none_stored none same) = (ap (λ (t : StateValue). t.edits) same, ap (λ (t : StateValue). t.slots) same)
-  stores_branch_defs_nothing b old new (all_stored e k edge s) =
+  stores_no_branch_defs b old new (none_stored none same) = (ap (λ (t : StateValue). t.edits) same, ap (λ (t : StateValue). t.slots) same)
+  stores_no_branch_defs b old new (all_stored e k edge s) =
       let none : s.stores ≡ [] = no_store s.stores (λ x c. (let y = s.each x c in
       none_is_stored f env names well asks b e k y.0 y.1 old.slots edge y.2.stored)) in (
         s.edits ∙ ap (λ (l : List Store). old.edits ++ pushed_moves (before (block_at f b).range.first) (store_moves l)) none ∙ append-nil old.edits,
@@ -107,10 +107,10 @@ module _ (f : FunctionValue) (env : MachineValue) (well : IsWellFormed env f) (n
   none_walked n blank places old new e (one_block b before_it p t u w lt prev walks begins) = absurd (omega (arith, e, lt))
 
   -- The walk makes no move and no slot.
-  pub walk_spills_nothing : (n : ℕ) (blank places : List Place) (begin last : StateValue) → n ≡ 0 → FitInRegs names begin.allocatable →
+  pub walk_is_spill_free : (n : ℕ) (blank places : List Place) (begin last : StateValue) → n ≡ 0 → FitInRegs names begin.allocatable →
       IsSpillFreeFrom names f (length f.insts) begin → AllocsBlocks f blank begin n places last → (last.edits ≡ []) × (last.slots.count ≡ 0)
-  walk_spills_nothing n blank places begin last zero few h all_left = absurd (omega (arith, zero, asks.one_block))
-  walk_spills_nothing n blank places begin last zero few h (one_block b before_it p t u w lt prev walks begins) =
+  walk_is_spill_free n blank places begin last zero few h all_left = absurd (omega (arith, zero, asks.one_block))
+  walk_is_spill_free n blank places begin last zero few h (one_block b before_it p t u w lt prev walks begins) =
       let start : t ≡ begin = none_walked (b + 1) blank before_it begin t (omega (arith, zero, asks.one_block)) prev in
       let follows = well.follow b lt in
       let end : (block_at f b).range.end ≡ length f.insts = follows.3 (omega (arith, zero, asks.one_block)) in
@@ -119,13 +119,13 @@ module _ (f : FunctionValue) (env : MachineValue) (well : IsWellFormed env f) (n
       (allocs_block_insts_leave b before_it t (block_at f b).range.first places u lt end
       (subst (λ (x : StateValue). FitInRegs names x.allocatable) (sym start) few)
       (subst (IsSpillFreeFrom names f (length f.insts)) (sym start) h) walks) in
-      let nobody = nobody_left f env names u well asks done in
+      let none_held = no_location_at_first_inst f env names u well asks done in
       let reloads : ReloadsAtBegin (before (block_at f b).range.first) (block_at f b).params u begins.middle = begins.reloads in
       let params : reloads.middle ≡ u = none_begun_none _ _ _ _ _ _ _ (ap length (no_params f env names b well asks lt)) reloads.parameters in
       let whole : IsWhole reloads.middle = subst IsWhole (sym params) done.spill_free.whole in
       let same : begins.middle ≡ u = reloads_regs_none _ reloads.begun reloads.middle reloads.ended begins.middle whole
-      (λ m. ap (λ (x : StateValue). alloc_of x.places m) params ∙ nobody m) reloads.empties ∙ params in
-      let stores = stores_branch_defs_nothing b begins.middle last begins.stores in (
+      (λ m. ap (λ (x : StateValue). alloc_of x.places m) params ∙ none_held m) reloads.empties ∙ params in
+      let stores = stores_no_branch_defs b begins.middle last begins.stores in (
         stores.0 ∙ ap (λ (x : StateValue). x.edits) same ∙ done.spill_free.no_moves,
         ap (λ s. s.count) (stores.1 ∙ ap (λ (x : StateValue). x.slots) same) ∙ done.spill_free.no_units,
       )

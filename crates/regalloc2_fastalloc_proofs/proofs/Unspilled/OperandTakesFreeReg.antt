@@ -64,11 +64,11 @@ pub free_others : (t u : InstRegs) (r : Register) (p : Positions) → RemovesAva
 free_others t u r p h q e f = rw (h.early q, h.late q, e, and_right p.early false refl, and_right p.late false refl) f
 
 -- nothing changes for another class
-taken_elsewhere : (names : List VirtualRegister) (gone : ℕ → Bool) (n : ℕ) (r : Register) (class : RegClass) (old new : List Register) (t : StateValue)
+taken_in_other_class : (names : List VirtualRegister) (gone : ℕ → Bool) (n : ℕ) (r : Register) (class : RegClass) (old new : List Register) (t : StateValue)
     (inst_regs after : InstRegs) → class ≢ r.class → ((q : Register) → Contains old q → q.class ≡ class)
     → ((q : Register) → is_register r q ≡ false → is_free_throughout inst_regs q ≡ true → is_free_throughout after q ≡ true) → new ≡ old →
     IsSpillFreeIn names gone class old t inst_regs → Taken names gone n r class new t after
-taken_elsewhere names gone n r class old new t inst_regs after other members kept same h = record {
+taken_in_other_class names gone n r class old new t inst_regs after other members kept same h = record {
   used = h.used;
   unused = h.unused;
   met = h.met;
@@ -92,7 +92,7 @@ taken_elsewhere names gone n r class old new t inst_regs after other members kep
     ]
 
 -- in its class it is the most recently used; at least as many vregs were seen
-taken_here : (names : List VirtualRegister) (gone : ℕ → Bool) (n : ℕ) (r : Register) (class : RegClass) (old new : List Register) (t : StateValue)
+taken_in_own_class : (names : List VirtualRegister) (gone : ℕ → Bool) (n : ℕ) (r : Register) (class : RegClass) (old new : List Register) (t : StateValue)
     (inst_regs after : InstRegs) (met : List VirtualRegister)
     → ((q : Register) → is_register r q ≡ false → is_free_throughout inst_regs q ≡ true → is_free_throughout after q ≡ true) →
     (h : IsSpillFreeIn names gone class old t inst_regs)
@@ -100,7 +100,7 @@ taken_here : (names : List VirtualRegister) (gone : ℕ → Bool) (n : ℕ) (r :
     All (λ (v : VirtualRegister). (v.class ≡ class) × Contains names v) met
     → ((v : VirtualRegister) → Contains met v → (alloc_of t.places v.number ≢ NoPlace) ⊎ ((gone v.number ≡ true) ⊎ (v.number ≡ n))) →
     Taken names gone n r class new t after
-taken_here names gone n r class old new t inst_regs after met kept h ring few distinct of_class known = record {
+taken_in_own_class names gone n r class old new t inst_regs after met kept h ring few distinct of_class known = record {
   used = r ∷ without_register r h.used;
   unused = without_register r h.unused;
   met = met;
@@ -174,7 +174,7 @@ claim_of_own_register point o r t u old new only (in_register q m is clears hold
         EvictsOtherVRegs point q o.vreg t m old new → (new ≡ old) × (m ≡ t)
     by_clears q h (own w at number inst_regs same) = (same, inst_regs)
     by_clears q h (others ne (empty none inst_regs same)) = (same, inst_regs)
-    by_clears q h (others ne (cleared w s x small at gives settles edits machine order crosses)) = absurd (ne w at (h w at))
+    by_clears q h (others ne (cleared w s x small at gives sets_alloc edits machine order crosses)) = absurd (ne w at (h w at))
 
 -- selecting the place of an operand that requires any register makes no slot, and changes no table
 pub picked_same : (inst_regs : InstRegs) (o : OperandRequest) (p : Place) (old new : StateValue) → o.requirement ≡ AnyReg → SelectsPlace inst_regs o p old new
@@ -185,7 +185,8 @@ picked_same inst_regs o p old new any (slot asks gives places edits machine orde
     absurd (elim asks [ inl a ↦ (let wrong : AnyPlace ≡ AnyReg = sym a ∙ any in cc) | inr b ↦ (let wrong : InMemory ≡ AnyReg = sym b ∙ any in cc) ])
 picked_same inst_regs o p old new any (free r asks away may is_free first at same) = same
 
--- The result: the operand has a register, only the order of use changes, and the vreg was there or nowhere, and no other vreg was there.
+-- The result: the operand has a register, only the order of use changes, and the vreg was there or nowhere, and no
+-- other vreg was there.
 pub record Got (names : List VirtualRegister) (gone : ℕ → Bool) (o : OperandRequest) (p : Place) (u : InstRegs) (old new : StateValue) : Type 0 where
   pub register : Register
   pub is : p ≡ InRegister register
@@ -226,15 +227,15 @@ each_taken : (names : List VirtualRegister) (gone : ℕ → Bool) (n : ℕ) (r :
     Taken names gone n r class (order_of new class) old u
 each_taken names gone n r old new inst_regs u uses lrus kept each here class = elim (cases_class class r.class) [
   | inl e ↦ subst (λ (c : RegClass). Taken names gone n r c (order_of new c) old u) (sym e) (here uses.newest)
-  | inr e ↦ taken_elsewhere names gone n r class (order_of old class) (order_of new class) old inst_regs u e (λ q c. ((lrus class).of_class q c).0) kept
+  | inr e ↦ taken_in_other_class names gone n r class (order_of old class) (order_of new class) old inst_regs u e (λ q c. ((lrus class).of_class q c).0) kept
       (uses.others class e) (each class)
 ]
 
 -- the vreg is located in the register
-stays_there : (names : List VirtualRegister) (gone : ℕ → Bool) (o : OperandRequest) (r : Register) (p : Place) (t u : InstRegs) (old new : StateValue) →
+stays_in_own_register : (names : List VirtualRegister) (gone : ℕ → Bool) (o : OperandRequest) (r : Register) (p : Place) (t u : InstRegs) (old new : StateValue) →
     IsSpillFree names gone old t → p ≡ InRegister r → alloc_of old.places o.vreg.number ≡ p → has_register old.allocatable r ≡ true → r.number < 64 →
     UsesReg r old new → RemovesAvailable t u r o.positions → Got names gone o p u old new
-stays_there names gone o r p t u old new h is at allocatable small uses holds = record {
+stays_in_own_register names gone o r p t u old new h is at allocatable small uses holds = record {
   register = r;
   is = is;
   small = small;
@@ -255,18 +256,18 @@ stays_there names gone o r p t u old new h is at allocatable small uses holds = 
         ((h.lrus r.class).all r small refl allocatable) (at ∙ is) in
         let less : length (without_register r own_class.used) + 1 ≤ length own_class.used = but_less r own_class.used was_used in
         let few : length own_class.used ≤ length own_class.met = own_class.few in
-        taken_here names gone o.vreg.number r r.class (order_of old r.class) (order_of new r.class) old t u own_class.met
+        taken_in_own_class names gone o.vreg.number r r.class (order_of old r.class) (order_of new r.class) old t u own_class.met
         (free_others t u r o.positions holds) own_class
         (first ∙ newest_first r own_class.used own_class.unused (order_of old r.class) own_class.ring) (omega (arith, less, few)) own_class.distinct
         own_class.of_class
         (λ v c. elim (own_class.known v c) [ inl a ↦ inl a | inr b ↦ inr (inl b) ])
 
 -- the vreg had no location, and gets the chosen register, which no vreg used
-comes_there : (names : List VirtualRegister) (gone : ℕ → Bool) (o : OperandRequest) (r : Register) (p : Place) (t u : InstRegs) (old new : StateValue)
+gets_unused_register : (names : List VirtualRegister) (gone : ℕ → Bool) (o : OperandRequest) (r : Register) (p : Place) (t u : InstRegs) (old new : StateValue)
     (h : IsSpillFree names gone old t) → p ≡ InRegister r → alloc_of old.places o.vreg.number ≡ NoPlace → FitInRegs names old.allocatable →
     Contains names o.vreg → gone o.vreg.number ≡ false → Contains (h.each o.vreg.class).unused r → UsesReg r old new →
     RemovesAvailable t u r o.positions → Got names gone o p u old new
-comes_there names gone o r p t u old new h is nowhere are_few named there unused uses holds = record {
+gets_unused_register names gone o r p t u old new h is nowhere are_few named there unused uses holds = record {
   register = r;
   is = is;
   small = in_ring.1;
@@ -296,7 +297,7 @@ comes_there names gone o r p t u old new h is nowhere are_few named there unused
         let more = one_more names gone o.vreg (order_of old o.vreg.class) old t own_class nowhere there named in
         let most : length (without_register r own_class.used) ≤ length own_class.used = but_most r own_class.used in
         let few : length own_class.used ≤ length own_class.met = own_class.few in
-        taken_here names gone o.vreg.number r o.vreg.class (order_of old o.vreg.class) (order_of new o.vreg.class) old t u (o.vreg ∷ own_class.met)
+        taken_in_own_class names gone o.vreg.number r o.vreg.class (order_of old o.vreg.class) (order_of new o.vreg.class) old t u (o.vreg ∷ own_class.met)
         (free_others t u r o.positions holds) own_class
         (first ∙ newest_first r own_class.used own_class.unused (order_of old o.vreg.class) own_class.ring) (omega (arith, most, few)) more.0 more.1 known
       where
@@ -357,22 +358,22 @@ operand_got {names} {gone} {point} {o} {p} {t} {u} {old} {new} any h few named t
         let allocatable : has_register old.allocatable r ≡ true = ap (has_register old.allocatable) one ∙ current.2 in
         let whole = h.whole.stands_in o.vreg.number r (at ∙ is) in
         onward r is allocatable (claimed r is (λ w holds. ap (λ (v : VirtualRegister). v.number) (some_same w whole.1.0 (sym holds ∙ whole.1.2)) ∙ whole.1.1))
-        (stays_there names gone o r p t u old new h is at allocatable whole.0)
+        (stays_in_own_register names gone o r p t u old new h is at allocatable whole.0)
     by (fixed r asks is same) = absurd (let wrong : InPReg r ≡ AnyReg = sym asks ∙ any in cc)
     by (slot asks gives places edits machine order) =
         absurd (elim asks [ inl a ↦ (let wrong : AnyPlace ≡ AnyReg = sym a ∙ any in cc) | inr b ↦ (let wrong : InMemory ≡ AnyReg = sym b ∙ any in cc) ])
     by (free r asks away may is_free first is same) =
-        let nowhere : alloc_of old.places o.vreg.number ≡ NoPlace = nobody (away any) in
+        let nowhere : alloc_of old.places o.vreg.number ≡ NoPlace = none_held (away any) in
         let own_class = h.each o.vreg.class in
         let some : 0 < length own_class.unused = is_left names gone o.vreg (order_of old o.vreg.class) old.allocatable old t own_class (h.lrus o.vreg.class) few
         nowhere there named in
         let unused : Contains own_class.unused r = found_last (is_available_at t o.positions) own_class.used own_class.unused r some
         (λ q c. free_at_any t o.positions q (own_class.free q c)) (ap (chosen (is_available_at t o.positions)) (sym own_class.ring) ∙ first) in
         onward r is may.allocatable (claimed r is (λ w holds. absurd (own_class.empty w.number r (h.whole.holds r w may.small holds) unused)))
-        (comes_there names gone o r p t u old new h is nowhere few named there unused)
+        (gets_unused_register names gone o r p t u old new h is nowhere few named there unused)
       where
-        nobody : (MeetsRequirement old AnyReg (alloc_of old.places o.vreg.number) → ⊥) → alloc_of old.places o.vreg.number ≡ NoPlace
-        nobody unsuited = elim (cases_none (alloc_of old.places o.vreg.number)) [
+        none_held : (MeetsRequirement old AnyReg (alloc_of old.places o.vreg.number) → ⊥) → alloc_of old.places o.vreg.number ≡ NoPlace
+        none_held unsuited = elim (cases_none (alloc_of old.places o.vreg.number)) [
           | inl e ↦ e
           | inr e ↦ (let current = h.stand o.vreg.number e in
               absurd (unsuited (meets_requirement_so old (alloc_of old.places o.vreg.number) current.0 current.1 (h.apart.allocatable current.0 current.2))))

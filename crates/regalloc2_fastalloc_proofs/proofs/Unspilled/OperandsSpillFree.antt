@@ -23,19 +23,19 @@ use Rattle.regalloc2_fastalloc_proofs.specs.InstSteps.{a_register, a_use, a_def,
 use Rattle.regalloc2_fastalloc_proofs.specs.InstSteps.{located, use_request, SameButOrder, order_of, ProcessesOperandsAt, none_placed, of_other, one_placed}
 use Rattle.regalloc2_fastalloc_proofs.proofs.Unspilled.OperandTakesFreeReg.{Got, Taken, operand_got}
 use Rattle.regalloc2_fastalloc_proofs.specs.Unspilled.SpillFree.{FitInRegs, ArePlaced, ArePlain, IsSpillFree, IsSpillFreeIn}
-use Rattle.regalloc2_fastalloc_proofs.proofs.Evictions.PushedAndRemoved.{same_then}
+use Rattle.regalloc2_fastalloc_proofs.proofs.Evictions.PushedAndRemoved.{same_machine_trans}
 use Rattle.regalloc2_fastalloc_proofs.proofs.Operands.FreeDef.{leave_whole}
 use Rattle.regalloc2_fastalloc_proofs.proofs.Inst.AcrossInst.{arrive_register}
 use Rattle.regalloc2_fastalloc_proofs.specs.Safety.{IsWhole}
 use Rattle.regalloc2_fastalloc_proofs.proofs.Safety.StepsKeepState.{whole_used}
 
 -- the vreg for which a register was taken is there from now on, or its definition was seen and it has no location
-class_settled : (names : List VirtualRegister) (gone gone_now : ℕ → Bool) (n : ℕ) (r : Register) (class : RegClass) (ring : List Register) (t u : StateValue)
+spill_free_class_after_set_alloc : (names : List VirtualRegister) (gone gone_now : ℕ → Bool) (n : ℕ) (r : Register) (class : RegClass) (ring : List Register) (t u : StateValue)
     (inst_regs : InstRegs) → Taken names gone n r class ring t inst_regs
     → ((m : ℕ) → m ≢ n → alloc_of u.places m ≡ alloc_of t.places m) → (alloc_of u.places n ≡ InRegister r)
     ⊎ ((alloc_of u.places n ≡ NoPlace) × (gone_now n ≡ true)) → ((m : ℕ) → gone m ≡ true → gone_now m ≡ true)
     → IsSpillFreeIn names gone_now class ring u inst_regs
-class_settled names gone gone_now n r class ring t u inst_regs h others own grows = record {
+spill_free_class_after_set_alloc names gone gone_now n r class ring t u inst_regs h others own grows = record {
   used = h.used;
   unused = h.unused;
   met = h.met;
@@ -94,7 +94,7 @@ spill_free_after_location names gone gone_now o p inst_regs after_turn old left 
   stand = stand;
   named = named_there;
   nowhere = nowhere;
-  each = λ class. class_settled names gone gone_now o.vreg.number got.register class (order_of new class) old new after_turn
+  each = λ class. spill_free_class_after_set_alloc names gone gone_now o.vreg.number got.register class (order_of new class) old new after_turn
       (rw order (got.each class)) others own_register grows;
 }
   where
@@ -171,22 +171,22 @@ use_placed names gone point o p t u old new any h few named there places = by pl
           stays = λ e ne. same_at o.vreg.number;
           own = λ e. same_at o.vreg.number ∙ at;
         })
-    by (located nowhere settles slots edits machine order) =
+    by (located nowhere sets_alloc slots edits machine order) =
         let there_none : alloc_of old.places o.vreg.number ≡ NoPlace = sym (same_at o.vreg.number) ∙ nowhere in
-        let others : (m : ℕ) → m ≢ o.vreg.number → alloc_of new.places m ≡ alloc_of old.places m = λ m ne. settles.others m ne ∙ same_at m in
+        let others : (m : ℕ) → m ≢ o.vreg.number → alloc_of new.places m ≡ alloc_of old.places m = λ m ne. sets_alloc.others m ne ∙ same_at m in
         let whole : IsWhole new = arrive_register taken new o.vreg nowhere slots whole_there got.register got.small
         (λ x e. (let own : x ≡ o.vreg.number = got.only_vreg x (sym (same_at x) ∙ e) in
         let wrong : NoPlace ≡ InRegister got.register = sym nowhere ∙ ap (alloc_of taken.places) (sym own) ∙ e in cc))
-        (subst (SetsAlloc taken.places new.places o.vreg) got.is settles) in
+        (subst (SetsAlloc taken.places new.places o.vreg) got.is sets_alloc) in
         record {
-          spill_free = spill_free_after_location names gone gone o p t u old taken new h named got whole others (inl settles.here) (λ m g. g)
+          spill_free = spill_free_after_location names gone gone o p t u old taken new h named got whole others (inl sets_alloc.here) (λ m g. g)
               (λ m g. still_nowhere m g others) (edits ∙ ap (λ (x : StateValue). x.edits) got.same) (slots ∙ ap (λ (x : StateValue). x.slots) got.same)
-              (same_then old taken new (no_machine old taken got.same) machine) order;
+              (same_machine_trans old taken new (no_machine old taken got.same) machine) order;
           machine = machine.allocatable ∙ ap (λ (x : StateValue). x.allocatable) got.same;
           there = is_there;
           others = others;
           stays = λ e ne. absurd (ne there_none);
-          own = λ e. settles.here;
+          own = λ e. sets_alloc.here;
         }
 
 -- nothing is sent
@@ -203,20 +203,20 @@ nor_stored : (a b : Bool) (s p : Place) → s ≡ NoPlace → (a && (is_another 
 nor_stored a b s p e = rw e (and_right a false refl)
 
 -- a definition
-unfoldable pub and_gone : ℕ → (ℕ → Bool) → ℕ → Bool
-and_gone n gone m = nat_eq n m || gone m
+unfoldable pub and_defined : ℕ → (ℕ → Bool) → ℕ → Bool
+and_defined n gone m = nat_eq n m || gone m
 
-gone_here : (n : ℕ) (gone : ℕ → Bool) → and_gone n gone n ≡ true
-unfolding and_gone
-gone_here n gone = rw (eq-eqb n n refl) refl
+and_defined_same : (n : ℕ) (gone : ℕ → Bool) → and_defined n gone n ≡ true
+unfolding and_defined
+and_defined_same n gone = rw (eq-eqb n n refl) refl
 
-gone_grows : (n : ℕ) (gone : ℕ → Bool) (m : ℕ) → gone m ≡ true → and_gone n gone m ≡ true
-unfolding and_gone
-gone_grows n gone m e = or_right (nat_eq n m) (gone m) e
+and_defined_keeps : (n : ℕ) (gone : ℕ → Bool) (m : ℕ) → gone m ≡ true → and_defined n gone m ≡ true
+unfolding and_defined
+and_defined_keeps n gone m e = or_right (nat_eq n m) (gone m) e
 
-gone_from : (n : ℕ) (gone : ℕ → Bool) (m : ℕ) → and_gone n gone m ≡ true → (gone m ≡ true) ⊎ (n ≡ m)
-unfolding and_gone
-gone_from n gone m e = by (nat_eq n m) refl e
+and_defined_inverse : (n : ℕ) (gone : ℕ → Bool) (m : ℕ) → and_defined n gone m ≡ true → (gone m ≡ true) ⊎ (n ≡ m)
+unfolding and_defined
+and_defined_inverse n gone m e = by (nat_eq n m) refl e
   where
     by : (b : Bool) → nat_eq n m ≡ b → (b || gone m) ≡ true → (gone m ≡ true) ⊎ (n ≡ m)
     by true e h = inr (eqb-true n m e)
@@ -224,7 +224,7 @@ gone_from n gone m e = by (nat_eq n m) refl e
 
 def_placed : (names : List VirtualRegister) (gone : ℕ → Bool) (point : ℕ) (o : OperandRequest) (ends_block : Bool) (p : Place) (t u : InstRegs)
     (old new : StateValue) → o.requirement ≡ AnyReg → IsSpillFree names gone old t → FitInRegs names old.allocatable → Contains names o.vreg →
-    gone o.vreg.number ≡ false → AllocsDefOp point o ends_block p t u old new → PlacedInReg names (and_gone o.vreg.number gone) o.vreg.number p true u old new
+    gone o.vreg.number ≡ false → AllocsDefOp point o ends_block p t u old new → PlacedInReg names (and_defined o.vreg.number gone) o.vreg.number p true u old new
 def_placed names gone point o ends_block p t u old new any h few named there places =
     let first = unsent_same point o.vreg.class (not ends_block && is_another (alloc_of taken.places o.vreg.number) p) p (alloc_of taken.places o.vreg.number)
     places.inst_regs d.inst_regs d.left d.middle (no_other (not ends_block) (alloc_of taken.places o.vreg.number) p stood_there) d.expected in
@@ -236,13 +236,13 @@ def_placed names gone point o ends_block p t u old new any h few named there pla
     (slot_name taken.slots o.vreg.number) p (ap (λ (x : StateValue). slot_name x.slots o.vreg.number) got.same ∙ h.no_slots o.vreg.number)) d.stored in
     let inst_regs : u ≡ places.inst_regs = second.0 ∙ first.0 in
     let same : new ≡ d.left = second.1 ∙ first.1 in
-    subst (λ (x : StateValue). PlacedInReg names (and_gone o.vreg.number gone) o.vreg.number p true u old x) (sym same)
-    (subst (λ (x : InstRegs). PlacedInReg names (and_gone o.vreg.number gone) o.vreg.number p true x old d.left) (sym inst_regs) (record {
-      spill_free = spill_free_after_location names gone (and_gone o.vreg.number gone) o p t places.inst_regs old taken d.left h named got
-          (leave_whole taken d.left o.vreg d.settles d.slots (subst IsWhole (sym got.same) (whole_used old taken.lrus h.whole))) others
-          (inr (d.settles.here, gone_here o.vreg.number gone)) (gone_grows o.vreg.number gone) still_nowhere
+    subst (λ (x : StateValue). PlacedInReg names (and_defined o.vreg.number gone) o.vreg.number p true u old x) (sym same)
+    (subst (λ (x : InstRegs). PlacedInReg names (and_defined o.vreg.number gone) o.vreg.number p true x old d.left) (sym inst_regs) (record {
+      spill_free = spill_free_after_location names gone (and_defined o.vreg.number gone) o p t places.inst_regs old taken d.left h named got
+          (leave_whole taken d.left o.vreg d.sets_alloc d.slots (subst IsWhole (sym got.same) (whole_used old taken.lrus h.whole))) others
+          (inr (d.sets_alloc.here, and_defined_same o.vreg.number gone)) (and_defined_keeps o.vreg.number gone) still_nowhere
           (d.edits ∙ ap (λ (x : StateValue). x.edits) got.same) (d.slots ∙ ap (λ (x : StateValue). x.slots) got.same)
-          (same_then old taken d.left (no_machine old taken got.same) d.machine) d.lrus;
+          (same_machine_trans old taken d.left (no_machine old taken got.same) d.machine) d.lrus;
       machine = d.machine.allocatable ∙ ap (λ (x : StateValue). x.allocatable) got.same;
       there = λ e. (let wrong : InRegister got.register ≡ NoPlace = sym got.is ∙ e in cc);
       others = others;
@@ -266,12 +266,12 @@ def_placed names gone point o ends_block p t u old new any h few named there pla
     stood_there = elim got.stood_there [ inl a ↦ inl (same_at o.vreg.number ∙ a) | inr b ↦ inr (same_at o.vreg.number ∙ b) ]
 
     others : (m : ℕ) → m ≢ o.vreg.number → alloc_of d.left.places m ≡ alloc_of old.places m
-    others m ne = d.settles.others m ne ∙ same_at m
+    others m ne = d.sets_alloc.others m ne ∙ same_at m
 
-    still_nowhere : (m : ℕ) → and_gone o.vreg.number gone m ≡ true → alloc_of d.left.places m ≡ NoPlace
+    still_nowhere : (m : ℕ) → and_defined o.vreg.number gone m ≡ true → alloc_of d.left.places m ≡ NoPlace
     still_nowhere m g = elim (cases_eq m o.vreg.number) [
-      | inl e ↦ ap (alloc_of d.left.places) e ∙ d.settles.here
-      | inr ne ↦ others m ne ∙ elim (gone_from o.vreg.number gone m g) [ inl x ↦ h.nowhere m x | inr x ↦ absurd (ne (sym x)) ]
+      | inl e ↦ ap (alloc_of d.left.places) e ∙ d.sets_alloc.here
+      | inr ne ↦ others m ne ∙ elim (and_defined_inverse o.vreg.number gone m g) [ inl x ↦ h.nowhere m x | inr x ↦ absurd (ne (sym x)) ]
     ]
 
 -- the operand k is placed, after the operands before it
@@ -382,9 +382,9 @@ processes_operand_placed_more {names} {gone} {i} {ends_block} {operands} {k} {la
         (use_placed names h.gone_now (after_point i) o p u w m n (ap requirement_of reg) h.spill_free few_now (plain.named k lt) there_now done)
     by (a_def p defines not_reuse places set_to) =
         more_placed names gone operands k late true here there next p old m n u w plain lt here_long at defines h set_to
-        (and_gone (op_at operands k).vreg.number h.gone_now)
-        (λ a g. elim (gone_from (op_at operands k).vreg.number h.gone_now a g) [ inl x ↦ inl x | inr x ↦ inr (refl, x) ])
-        (gone_grows (op_at operands k).vreg.number h.gone_now) (λ e. gone_here (op_at operands k).vreg.number h.gone_now)
+        (and_defined (op_at operands k).vreg.number h.gone_now)
+        (λ a g. elim (and_defined_inverse (op_at operands k).vreg.number h.gone_now a g) [ inl x ↦ inl x | inr x ↦ inr (refl, x) ])
+        (and_defined_keeps (op_at operands k).vreg.number h.gone_now) (λ e. and_defined_same (op_at operands k).vreg.number h.gone_now)
         (def_placed names h.gone_now (after_point i) (def_request (op_at operands k)) ends_block p u w m n (ap requirement_of reg) h.spill_free few_now
         (plain.named k lt) there_now places)
     by (a_reuse a p defines is places set_to) = absurd (let wrong : Reuse a ≡ Reg = sym is ∙ reg in cc)

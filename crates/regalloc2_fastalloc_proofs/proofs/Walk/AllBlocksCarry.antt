@@ -23,7 +23,7 @@ use Rattle.regalloc2_fastalloc_proofs.proofs.Slots.StepsKeepSlots.{Grown, grown_
 use Rattle.regalloc2_fastalloc_proofs.proofs.Inst.OneInstCarries.{IsBetweenInsts}
 use Rattle.regalloc2_fastalloc_proofs.proofs.Walk.InstBoundaries.{IsEdge, IsWithin, grown_weaken, walk_grown, edge_next, kept_code_of}
 use Rattle.regalloc2_fastalloc_proofs.proofs.Walk.LastInstAndRest.{walk_listed}
-use Rattle.regalloc2_fastalloc_proofs.proofs.Walk.BlockCarries.{CarryingContext, ComesBefore, nothing_goes, block_carries}
+use Rattle.regalloc2_fastalloc_proofs.proofs.Walk.BlockCarries.{CarryingContext, ComesBefore, no_vreg_out_of_last_block, block_carries}
 use Rattle.regalloc2_fastalloc_proofs.proofs.Walk.FunctionLaws.{code_of}
 use Rattle.regalloc2_fastalloc_proofs.proofs.Changes.WalkChanges.{begins_block_changes, any_begin}
 
@@ -74,7 +74,7 @@ past_carries f out placesf stand b le = λ silent v used excused.
     let empty_listing : walked (inst_at f) (at_point out.edits) placesf first ((block_at f b).range.end - first) ≡ [] =
     ap (walked (inst_at f) (at_point out.edits) placesf first) many ∙ walked-none (inst_at f) (at_point out.edits) placesf first in
     subst (λ l. Carries v l (ComesIn f stand b v) (GoesOut f stand b v)) (sym empty_listing)
-    (carries_nil v (ComesIn f stand b v) (GoesOut f stand b v) (λ p e. absurd (nothing_goes f stand b v p (ap (λ (x : BlockValue). x.succs) none) e)))
+    (carries_nil v (ComesIn f stand b v) (GoesOut f stand b v) (λ p e. absurd (no_vreg_out_of_last_block f stand b v p (ap (λ (x : BlockValue). x.succs) none) e)))
 
 -- The state before the walk, with fresh tables.
 pub begin_between : (f : FunctionValue) (begin : StateValue) → Blank begin → Fit begin → IsBetweenInsts (length f.insts) begin
@@ -85,8 +85,8 @@ begin_between f begin empty fit = (let c = at_start (λ v. ⊥) (inst_at f) (λ 
 pub first_edge : (f : FunctionValue) → BlocksFollow f → 0 < length f.blocks → IsEdge f 0 0
 first_edge f follow some = (λ h. sym ((follow 0 h).1 refl), λ e. absurd (omega (arith, some, e)))
 
--- An output has the walk's moves and places. If a branch carries what it must, and every other instruction leaves slots to their vregs,
--- each block of the output carries what the lemma on paths requires.
+-- An output has the walk's moves and places. If a branch carries what it must, and every other instruction leaves slots
+-- to their vregs, each block of the output carries what the lemma on paths requires.
 module _ (carrying : CarryingContext) (out : OutputValue) (some : 0 < length carrying.laws.f.blocks)
     (walks : AllocsBlocks carrying.laws.f carrying.blank carrying.begin 0 out.allocs carrying.final) (edits : out.edits ≡ listed carrying.final.edits)
     (are_listed : AreListed carrying.laws.f carrying.placesf 0 out.allocs) where

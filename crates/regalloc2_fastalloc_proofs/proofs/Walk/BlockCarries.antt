@@ -31,7 +31,7 @@ use Rattle.regalloc2_fastalloc_proofs.specs.StoreSteps.{branch_operands, IsConce
 use Rattle.regalloc2_fastalloc_proofs.specs.BlockSteps.{AllocsInstInBlock, AllocsBlockInsts, AllocsBlocks}
 use Rattle.regalloc2_fastalloc_proofs.specs.Safety.{IsWhole}
 use Rattle.regalloc2_fastalloc_proofs.proofs.Safety.StepsKeepState.{place_in, slot_in, slot_no_register}
-use Rattle.regalloc2_fastalloc_proofs.proofs.Operands.RecordOverState.{stands_at, slots_at, opt_from, opt_real, grown_slots}
+use Rattle.regalloc2_fastalloc_proofs.proofs.Operands.RecordOverState.{location_at, slots_at, opt_from, opt_real, grown_slots}
 use Rattle.regalloc2_fastalloc_proofs.proofs.Walk.InstsCarry.{AreListed}
 use Rattle.regalloc2_fastalloc_proofs.proofs.Slots.StepsKeepSlots.{Grown, grown_then, changes_grow, AnyPlace}
 use Rattle.regalloc2_fastalloc_proofs.proofs.Moves.StepsAppendEdits.{pushed_walked}
@@ -48,8 +48,8 @@ use Rattle.regalloc2_fastalloc_proofs.proofs.Branches.Arrivals.{IsUsedBeyondBran
 use Rattle.regalloc2_fastalloc_proofs.proofs.Branches.EdgeArgsGathered.{params_on, passes_at}
 use Rattle.regalloc2_fastalloc_proofs.proofs.Slots.LiveInHasSlot.{used_at_begin}
 use Rattle.regalloc2_fastalloc_proofs.proofs.Walk.InstBoundaries.{IsEdge, grown_weaken, grown_fresh, grown_pushes, kept_code_of, in_between, edge_next}
-use Rattle.regalloc2_fastalloc_proofs.proofs.Walk.InstBoundaries.{allocs_blocks_between, allocs_blocks_settled, allocs_blocks_outside}
-use Rattle.regalloc2_fastalloc_proofs.proofs.Walk.DefsBeforeUses.{used_made, used_somewhere, param_before, written_there, stands_behind}
+use Rattle.regalloc2_fastalloc_proofs.proofs.Walk.InstBoundaries.{allocs_blocks_between, in_own_slot_or_nowhere, allocs_blocks_outside}
+use Rattle.regalloc2_fastalloc_proofs.proofs.Walk.DefsBeforeUses.{used_made, used_in_some_block, param_before, written_there, stands_behind}
 use Rattle.regalloc2_fastalloc_proofs.proofs.Walk.LastInstAndRest.{Split, split, KeepsSlots, leaves_at}
 use Rattle.regalloc2_fastalloc_proofs.proofs.Walk.FunctionLaws.{FunctionLaws, BlockInWalk, PlacedCode, code_of}
 use Rattle.regalloc2_fastalloc_proofs.proofs.Inst.ProperInsts.{proper_of}
@@ -77,11 +77,12 @@ pub record BlockEnd (f : FunctionValue) (placesf : ℕ → List Place) (F : ℕ 
   pub lives : (v : VirtualRegister) → writes_in f b last v.number ≡ true → (c : ℕ) → c < length f.blocks → c ≢ b → IsUsedIn f c v →
       place_in old v.number ≢ NoPlace
 
--- What the last instruction of a block carries: each vreg that is used somewhere, except for parameters of which nothing is required.
+-- What the last instruction of a block carries: each vreg that is used somewhere, except for parameters of which
+-- nothing is required.
 abbrev pub EndCarries : FunctionValue → (ℕ → List Place) → (ℕ → Option Place) → (ℕ → VirtualRegister → Option Place) → ℕ → ℕ → StateValue → Type 0
 EndCarries f placesf F stand b last new = ExcusedAreSilent f b → (v : VirtualRegister) → IsUsed f v → (IsExcused f b v → ⊥) →
     Carries v (walked (inst_at f) (at_point (listed new.edits)) placesf last 1)
-    (Relied (defined_from f v.number last 1) (writes_in f b last v.number) (stands_at new v.number) (slots_at new v.number) (F v.number))
+    (Relied (defined_from f v.number last 1) (writes_in f b last v.number) (location_at new v.number) (slots_at new v.number) (F v.number))
     (GoesOut f stand b v)
 
 -- a branch carries it
@@ -90,10 +91,10 @@ BranchCarries f placesf F stand = (b last : ℕ) (old new : StateValue) → b < 
     (inst_at f last).is_branch ≡ true → EndCarries f placesf F stand b last new
 
 -- no vreg is needed after a block without successors
-pub nothing_goes : (f : FunctionValue) (stand : ℕ → VirtualRegister → Option Place) (b : ℕ) (v : VirtualRegister) (p : Place) → (block_at f b).succs ≡ [] →
+pub no_vreg_out_of_last_block : (f : FunctionValue) (stand : ℕ → VirtualRegister → Option Place) (b : ℕ) (v : VirtualRegister) (p : Place) → (block_at f b).succs ≡ [] →
     GoesOut f stand b v p → ⊥
-nothing_goes f stand b v p none (inl own) = (let edge = own.1 in let n : length (block_at f b).succs ≡ 0 = ap length none in omega (arith, edge, n))
-nothing_goes f stand b v p none (inr passed) = (let edge = passed.2 in let n : length (block_at f b).succs ≡ 0 = ap length none in omega (arith, edge, n))
+no_vreg_out_of_last_block f stand b v p none (inl own) = (let edge = own.1 in let n : length (block_at f b).succs ≡ 0 = ap length none in omega (arith, edge, n))
+no_vreg_out_of_last_block f stand b v p none (inr passed) = (let edge = passed.2 in let n : length (block_at f b).succs ≡ 0 = ap length none in omega (arith, edge, n))
 
 -- a vreg that a branch defines and only its own edges pass on
 abbrev pub IsPassedOnly : FunctionValue → VirtualRegister → Type 0
@@ -103,9 +104,9 @@ IsPassedOnly f v = (b e k : ℕ) × IsEdgeInto f b e k × IsOwnDef f e v × (IsU
 abbrev pub ComesBefore : ℕ → ℕ → Type 0
 ComesBefore i p = p < before i
 
--- The context for blocks to carry each vreg: the function's properties; the places of operands and the final tables, whose slots all instructions keep if the
--- tables are safe (SafeIn); where vregs are at block starts, and what edges bring there; branches that carry; and the fresh tables from which
--- the walk, safe throughout, begins.
+-- The context for blocks to carry each vreg: the function's properties; the places of operands and the final tables,
+-- whose slots all instructions keep if the tables are safe (SafeIn); where vregs are at block starts, and what edges
+-- bring there; branches that carry; and the fresh tables from which the walk, safe throughout, begins.
 pub record CarryingContext : Type 1 where
   pub laws : FunctionLaws
   open laws use {f, follow, ends, proper, kept}
@@ -188,7 +189,7 @@ module _ (carrying : CarryingContext) where
     before_last = in_between (kept_code_of (Made f) f proper kept) b last parts.blank parts.places s parts.begin within parts.ends behind
 
     in_slot_or_nowhere : (x : ℕ) → (place_in s x ≡ NoPlace) ⊎ ((k : ℕ) × (place_in s x ≡ InSlot k) × (slot_in s x ≡ InSlot k))
-    in_slot_or_nowhere = allocs_blocks_settled (kept_code_of (Made f) f proper kept) follow blank begin start empty.nowhere (b + 1) p s prev
+    in_slot_or_nowhere = in_own_slot_or_nowhere (kept_code_of (Made f) f proper kept) follow blank begin start empty.nowhere (b + 1) p s prev
 
     at_block_end : BlockEnd f placesf (slots_at final) b last s parts.begin
     at_block_end = record {
@@ -217,12 +218,12 @@ module _ (carrying : CarryingContext) where
           let a : CarriesByItself (proper_of (Made f) f placesf proper) last s parts.ends.middle =
           carries_by_itself (proper_of (Made f) f placesf proper) last parts.ends.allocates.blank parts.ends.allocates.here s parts.ends.middle within parts.at behind
           parts.ends.allocates.allocates in
-          let there = used_somewhere f v used in
+          let there = used_in_some_block f v used in
           return_owes (proper_of (Made f) f placesf proper) (slots_at final) last s parts.begin v (used_made f once follow uses v there.0 there.1 there.2)
           (writes_in f b last v.number)
           (GoesOut f stand b v) (subst (CarriesByItself (proper_of (Made f) f placesf proper) last s) (sym (parts.ends.no_branch ret.0)) a)
           (rw (ret.0, ret.1) refl)
-          (λ x e. nothing_goes f stand b v x (nil_from_length (block_at f b).succs ret.2) e))
+          (λ x e. no_vreg_out_of_last_block f stand b v x (nil_from_length (block_at f b).succs ret.2) e))
     ]
 
     -- from the reloads at its start to the walk's end
@@ -253,7 +254,7 @@ module _ (carrying : CarryingContext) where
     reloaded : ExcusedAreSilent f b → (v : VirtualRegister) → IsUsed f v → (IsExcused f b v → ⊥) →
         Carries v (Listing begins.middle) (StandsBefore f (λ x. slots_at final x.number) b v) (GoesOut f stand b v)
     reloaded silent v used excused =
-        let there = used_somewhere f v used in
+        let there = used_in_some_block f v used in
         block_owes (proper_of (Made f) f placesf proper) once reads (slots_at final) slot_only b last parts.begin u begins.middle all_walked v
         (used_made f once follow uses v there.0 there.1 there.2) (GoesOut f stand b v) (end_carries silent v used excused)
 
@@ -281,7 +282,7 @@ module _ (carrying : CarryingContext) where
         ]) begins.stores)
       where
         made : Made f v
-        made = (let there = used_somewhere f v used in used_made f once follow uses v there.0 there.1 there.2)
+        made = (let there = used_in_some_block f v used in used_made f once follow uses v there.0 there.1 there.2)
 
         written : defined_by (branch_operands f b) v.number ≡ true → IsUnwritten f b v → ⊥
         written is unwritten =
@@ -327,7 +328,7 @@ module _ (carrying : CarryingContext) where
         ((block_at f b).range.end - (block_at f b).range.first)) (ComesIn f stand b v) (GoesOut f stand b v)
     block_carries silent v used excused =
         let n : ℕ = suc (last - first) in
-        let there = used_somewhere f v used in
+        let there = used_in_some_block f v used in
         let made : Made f v = used_made f once follow uses v there.0 there.1 there.2 in
         let c : Carries v (Listing w) (ComesIn f stand b v) (GoesOut f stand b v) = elim (decide v used) [
           | inl needed ↦ stores_branch_defs_carried (record {

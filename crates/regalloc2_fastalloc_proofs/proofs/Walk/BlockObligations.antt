@@ -16,7 +16,7 @@ use Rattle.regalloc2_carry.proofs.SingleDef.{IsDefOperand, ReadsDefined}
 use Rattle.regalloc2_carry.proofs.Order.{reads_later}
 use Rattle.regalloc2_fastalloc_proofs.specs.InstSteps.{StateValue, ends_block}
 use Rattle.regalloc2_fastalloc_proofs.specs.BlockStart.{ReloadsAtBegin}
-use Rattle.regalloc2_fastalloc_proofs.proofs.Operands.RecordOverState.{stands_at, slots_at}
+use Rattle.regalloc2_fastalloc_proofs.proofs.Operands.RecordOverState.{location_at, slots_at}
 use Rattle.regalloc2_fastalloc_proofs.proofs.Operands.DefinedNumbers.{defined_by, defined_by-some}
 use Rattle.regalloc2_fastalloc_proofs.proofs.Inst.OneInstCarries.{IsBetweenInsts}
 use Rattle.regalloc2_fastalloc_proofs.proofs.Walk.InstForOneVReg.{LeavesOwnSlot, undefined_by}
@@ -71,7 +71,8 @@ module _ (code : ProperCode) (once : DefinedOnce code.f) (reads : (i : ℕ) → 
   abbrev pub EachLeaves : ℕ → StateValue → StateValue → Type 0
   EachLeaves i t u = (v : VirtualRegister) → Known v → LeavesOwnSlot f placesf F v i t u
 
-  -- The walk over the block b: after its last instruction the tables are begin, before its first one middle, and at its start new.
+  -- The walk over the block b: after its last instruction the tables are begin, before its first one middle, and at its
+  -- start new.
   pub record Walked (last : ℕ) (begin middle new : StateValue) : Type 0 where
     pub end : last + 1 ≡ (block_at f b).range.end
     pub some : first_of ≤ last
@@ -90,9 +91,10 @@ module _ (code : ProperCode) (once : DefinedOnce code.f) (reads : (i : ℕ) → 
     -- what the last instruction carries
     abbrev pub EndCarries : Type 0
     EndCarries = Carries v (walked (inst_at f) (at_point (listed begin.edits)) placesf last 1)
-        (Relied (defined_from f v.number last 1) written (stands_at begin v.number) (slots_at begin v.number) (F v.number)) E
+        (Relied (defined_from f v.number last 1) written (location_at begin v.number) (slots_at begin v.number) (F v.number)) E
 
-    -- if its last instruction carries what is needed after the block, the whole block carries v from its place on paths before it
+    -- if its last instruction carries what is needed after the block, the whole block carries v from its place on paths
+    -- before it
     pub block_owes : EndCarries → Carries v (walked (inst_at f) (at_point (listed new.edits)) placesf first_of (suc (last - first_of)))
         (StandsBefore f (λ u. F u.number) b v) E
     block_owes c =
@@ -101,7 +103,7 @@ module _ (code : ProperCode) (once : DefinedOnce code.f) (reads : (i : ℕ) → 
         let between : IsBetweenInsts first_of middle = goes_between code EachLeaves begin first_of last (omega (arith, within)) w.start
         first_of middle w.goes in
         let carried : Carries v (walked (inst_at f) (at_point (listed middle.edits)) placesf first_of (suc (last - first_of)))
-        (Relied written written (stands_at middle v.number) (slots_at middle v.number) (F v.number)) E =
+        (Relied written written (location_at middle v.number) (slots_at middle v.number) (F v.number)) E =
         goes_carried code EachLeaves begin first_of last (omega (arith, within)) w.start (record {
           F = F;
           v = v;

@@ -1,5 +1,6 @@
--- The walk over the blocks of a well-formed function, from a fresh state to the output: each block carries what the lemmas on paths require, and
--- a vreg that is used in a block that doesn't write it, or passed as an argument, has a slot.
+-- The walk over the blocks of a well-formed function, from a fresh state to the output: each block carries what the
+-- lemmas on paths require, and a vreg that is used in a block that doesn't write it, or passed as an argument, has a
+-- slot.
 use Rattle.std.proofs.Common.{ℕ, ◌≡◌, ◌≢◌, ◌<◌, ◌≤◌, ◌+◌, true, List, length, subst, refl, sym, inr, arith}
 use Rattle.std.specs.Prelude.{Contains, Option}
 use Rattle.regalloc2_names.specs.Register.{VirtualRegister}
@@ -88,11 +89,12 @@ module _ (walk : WholeWalk)
       places b lb is_branch
       (last_allocated code blank begin
       (allocs_blocks_outside (kept_code_of (Made f) f (all_proper env f limited ok) branch) ok.follow blank begin (begin_between f begin empty fit)
-      (record { nowhere = empty.nowhere; nobody = empty.nobody })) 0 out.allocs last walks 0 (first_edge f ok.follow (some_block env f limited ok)) are_listed
+      (record { nowhere = empty.nowhere; none_held = empty.none_held })) 0 out.allocs last walks 0 (first_edge f ok.follow (some_block env f limited ok)) are_listed
       b (omega arith)
       lb)
 
-  -- If the tables are safe along the whole walk, and branches define in known places, each block carries what the lemmas on paths require.
+  -- If the tables are safe along the whole walk, and branches define in known places, each block carries what the
+  -- lemmas on paths require.
   pub blocks_carry : out.edits ≡ listed last.edits → AreListed f (allocs_of out) 0 out.allocs → (Writes : ℕ → ℕ → VirtualRegister → ℕ → Type 0)
       → (May : ℕ → Type 0)
       → ((b : ℕ) → b < length f.blocks → (p : List Place) (s : StateValue) → AllocsBlocks f blank begin (b + 1) p s → (i : ℕ) (q : List Place)
@@ -123,7 +125,7 @@ module _ (walk : WholeWalk)
         blank = blank;
         begin = begin;
         start = begin_between f begin empty fit;
-        empty = record { nowhere = empty.nowhere; nobody = empty.nobody };
+        empty = record { nowhere = empty.nowhere; none_held = empty.none_held };
         safe = safe;
       } in
       all_blocks_carry carrying out (some_block env f limited ok) walks edits are_listed

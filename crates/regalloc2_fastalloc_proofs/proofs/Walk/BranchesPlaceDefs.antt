@@ -83,9 +83,9 @@ module _ (code : PlacedCode) where
       ]
 
 -- two definitions claim their registers at the same time
-both_late : (a b : OperandValue) → is_def a.kind ≡ true → is_def b.kind ≡ true →
+defs_share_position : (a b : OperandValue) → is_def a.kind ≡ true → is_def b.kind ≡ true →
     (((positions_of a).early && (positions_of b).early) || ((positions_of a).late && (positions_of b).late)) ≡ true
-both_late a b x y = or_right ((positions_of a).early && (positions_of b).early) ((positions_of a).late && (positions_of b).late)
+defs_share_position a b x y = or_right ((positions_of a).early && (positions_of b).early) ((positions_of a).late && (positions_of b).late)
     (and_from (positions_of a).late (positions_of b).late
     (or_left (is_def a.kind) (is_late a.position) x) (or_left (is_def b.kind) (is_late b.position) y))
 
@@ -98,7 +98,8 @@ in_place (FixedReg r) h nay = inl (r, refl)
 in_place (Reuse n) h nay = absurd h
 in_place (Limit n) h nay = absurd (nay n refl)
 
--- Each branch leaves its definitions in known places, if it defines in known places and each operand has a good place at the walk's end.
+-- Each branch leaves its definitions in known places, if it defines in known places and each operand has a good place
+-- at the walk's end.
 pub defs_placed : (env : MachineValue) (f : FunctionValue) → IsLimited f → IsWellFormed env f → AreTaken f → (placesf : ℕ → List Place) (final : StateValue) →
     ((i k : ℕ) → i < length f.insts → k < length (inst_at f i).operands → IsGood env final.slots (op_at (inst_at f i).operands k) (place_at (placesf i) k)) →
     ((i : ℕ) → i < length f.insts → BranchDefinesInPlace (inst_at f i)) → (e : ℕ) → e < length f.blocks →
@@ -109,7 +110,7 @@ defs_placed env f limited ok taken placesf final good places e le branch m = rec
   slotted = λ j lt def kind. in_slot j lt def kind (left_at f placesf e j) refl ((good last j within lt).place (sound_ops.allocated j lt def));
   apart = λ j k r lj lk dj dk at_j at_k. m.allocates.prepares.reserves.apart j k r (positions_of (op_at (branch_operands f e) j))
       (positions_of (op_at (branch_operands f e) k)) lj lk (NeedsFixedReg.own (sound_ops.allocated j lj dj) at_j refl)
-      (NeedsFixedReg.own (sound_ops.allocated k lk dk) at_k refl) (both_late (op_at (branch_operands f e) j) (op_at (branch_operands f e) k) dj dk);
+      (NeedsFixedReg.own (sound_ops.allocated k lk dk) at_k refl) (defs_share_position (op_at (branch_operands f e) j) (op_at (branch_operands f e) k) dj dk);
 }
   where
     last : ℕ

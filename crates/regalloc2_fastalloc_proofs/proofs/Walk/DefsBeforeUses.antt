@@ -1,4 +1,5 @@
--- Definitions precede uses: what a block writes and another block uses is used in a later block, and has a location at the writing block's end.
+-- Definitions precede uses: what a block writes and another block uses is used in a later block, and has a location at
+-- the writing block's end.
 use Rattle.std.proofs.Common.{ℕ, ◌≡◌, ◌≢◌, ◌+◌, ◌<◌, ◌≤◌, inl, inr, true, List, [], length, refl, sym, ap, ◌∙◌, subst, arith}
 use Rattle.std.specs.Prelude.{slice_index_or}
 use Rattle.std.proofs.lemmas.Bool.{cases_Bool, cases_lt}
@@ -103,13 +104,13 @@ module _ (laws : FunctionLaws) (b : ℕ) (lb : b < length laws.f.blocks) (v : Vi
       ])
 
 -- a block that uses a vreg
-pub used_somewhere : (f : FunctionValue) (v : VirtualRegister) → IsUsed f v → (c : ℕ) × (c < length f.blocks) × IsUsedIn f c v
-used_somewhere f v (inl r) = elim (cases_lt r.0 (length f.blocks)) [
+pub used_in_some_block : (f : FunctionValue) (v : VirtualRegister) → IsUsed f v → (c : ℕ) × (c < length f.blocks) × IsUsedIn f c v
+used_in_some_block f v (inl r) = elim (cases_lt r.0 (length f.blocks)) [
   | inl lt ↦ (r.0, lt, inl r.1)
   | inr le ↦ (let none : (block_at f r.0).range.end ≡ 0 = ap (λ (b : BlockValue). b.range.end) (get_or_past f.blocks r.0 no_block le) in let less = r.1.3 in
       absurd (omega (arith, none, less)))
 ]
-used_somewhere f v (inr p) = elim (cases_lt p.0 (length f.blocks)) [
+used_in_some_block f v (inr p) = elim (cases_lt p.0 (length f.blocks)) [
   | inl lt ↦ (p.0, lt, inr (p.1, p.2, p.3))
   | inr le ↦ (let none : length (block_at f p.0).succs ≡ 0 = ap (λ (b : BlockValue). length b.succs) (get_or_past f.blocks p.0 no_block le) in let less = p.2 in
       absurd (omega (arith, none, less)))

@@ -10,8 +10,9 @@ use Rattle.regalloc2_fastalloc_proofs.specs.BlockSteps.{AllocsBlockInsts, Begins
 use Rattle.regalloc2_fastalloc_proofs.proofs.Walk.InstBoundaries.{BranchKept}
 use Rattle.regalloc2_fastalloc_proofs.proofs.Inst.ProperInsts.{ProperInsts}
 
--- A function whose vregs are defined once and before they are used, whose blocks follow one another and end in a branch or a return, with an argument for
--- each parameter; its instructions are proper, and branches keep what holds between instructions.
+-- A function whose vregs are defined once and before they are used, whose blocks follow one another and end in a branch
+-- or a return, with an argument for each parameter; its instructions are proper, and branches keep what holds between
+-- instructions.
 pub record FunctionLaws : Type 0 where
   pub f : FunctionValue
   pub once : DefinedOnce f
@@ -28,8 +29,8 @@ abbrev pub laws_of : (f : FunctionValue) → DefinedOnce f → BlocksFollow f �
 laws_of f once follow ends uses counted proper kept =
     record { f = f; once = once; follow = follow; ends = ends; uses = uses; counted = counted; proper = proper; kept = kept }
 
--- A function and the places of its operands. Known: the vregs, one for each number. Its instructions are proper, branches keep what holds between instructions,
--- and blocks follow one another and end in a branch or a return.
+-- A function and the places of its operands. Known: the vregs, one for each number. Its instructions are proper,
+-- branches keep what holds between instructions, and blocks follow one another and end in a branch or a return.
 pub record PlacedCode : Type 1 where
   pub Known : VirtualRegister → Type 0
   pub f : FunctionValue
@@ -45,8 +46,8 @@ abbrev pub code_of : (Known : VirtualRegister → Type 0) (f : FunctionValue) �
 code_of Known f proper kept follow ends placesf =
     record { Known = Known; f = f; proper = proper; kept = kept; follow = follow; ends = ends; placesf = placesf }
 
--- A block in the walk from the tables begin: p and s are the places and the tables after it, q and u the places and tables before its first instruction, and w the tables
--- at its start.
+-- A block in the walk from the tables begin: p and s are the places and the tables after it, q and u the places and
+-- tables before its first instruction, and w the tables at its start.
 pub record BlockInWalk (f : FunctionValue) (blank : List Place) (begin : StateValue) : Type 0 where
   pub b : ℕ
   pub lb : b < length f.blocks

@@ -12,7 +12,7 @@ use Rattle.regalloc2_carry.proofs.ListingParts.{walked_split}
 use Rattle.regalloc2_carry.proofs.NotRead.{ReadsOthersOnly}
 use Rattle.regalloc2_carry.proofs.BlockBackward.{Relied, step_carried}
 use Rattle.regalloc2_fastalloc_proofs.specs.InstSteps.{StateValue, AllocsInst, ends_block}
-use Rattle.regalloc2_fastalloc_proofs.proofs.Operands.RecordOverState.{stands_at, slots_at}
+use Rattle.regalloc2_fastalloc_proofs.proofs.Operands.RecordOverState.{location_at, slots_at}
 use Rattle.regalloc2_fastalloc_proofs.proofs.Operands.DefinedNumbers.{defined_by}
 use Rattle.regalloc2_fastalloc_proofs.proofs.Inst.OneInstCarries.{IsBetweenInsts, CarriesByItself, carries_by_itself}
 use Rattle.regalloc2_fastalloc_proofs.proofs.Walk.InstForOneVReg.{step_at, LeavesOwnSlot, step_of}
@@ -28,7 +28,8 @@ pub defined_from-more : (f : FunctionValue) (x i n : ℕ) → defined_from f x i
 unfolding defined_from
 defined_from-more f x i n = refl
 
--- Instructions are allocated, from the one before stop down to i, none before first; L holds of each with the tables after and before it.
+-- Instructions are allocated, from the one before stop down to i, none before first; L holds of each with the tables
+-- after and before it.
 pub data Goes (f : FunctionValue) (placesf : ℕ → List Place) (L : ℕ → StateValue → StateValue → Type 0) (begin : StateValue) (first stop : ℕ) : ℕ → StateValue
     → Type 0 where
   stopped : Goes f placesf L begin first stop stop begin
@@ -36,8 +37,9 @@ pub data Goes (f : FunctionValue) (placesf : ℕ → List Place) (L : ℕ → St
       → ((k : ℕ) → k < length (inst_at f i).operands → place_at (placesf i) k ≡ slice_index_or here k NoPlace) → AllocsInst i (inst_at f i) blank here t u →
       L i t u → Goes f placesf L begin first stop i u
 
--- What is required of such instructions for one vreg v, with m more after stop; v is needed in E then. F: the slots at the walk's end; block: whether the block
--- writes v. None of them ends its block; they don't define v if the block doesn't write it, leave its slot alone, and don't read it before its definition.
+-- What is required of such instructions for one vreg v, with m more after stop; v is needed in E then. F: the slots at
+-- the walk's end; block: whether the block writes v. None of them ends its block; they don't define v if the block
+-- doesn't write it, leave its slot alone, and don't read it before its definition.
 pub record VRegGoes (code : ProperCode) (L : ℕ → StateValue → StateValue → Type 0) (first stop : ℕ) : Type 1 where
   pub F : ℕ → Option Place
   pub v : VirtualRegister
@@ -73,7 +75,7 @@ module _ (code : ProperCode) (L : ℕ → StateValue → StateValue → Type 0) 
     -- what is carried from a boundary on
     abbrev pub CarriedFrom : ℕ → ℕ → StateValue → Type 0
     CarriedFrom i n t = Carries v (walked (inst_at f) (at_point (listed t.edits)) placesf i n)
-        (Relied (defined_from f v.number i n) block (stands_at t v.number) (slots_at t v.number) (F v.number)) E
+        (Relied (defined_from f v.number i n) block (location_at t v.number) (slots_at t v.number) (F v.number)) E
 
     one_carried : (i n : ℕ) (t u : StateValue) (blank here : List Place) → first ≤ i → (lt : i < stop) → i + 1 + n ≡ stop + m →
         (prev : Goes f placesf L begin first stop (i + 1) t)
@@ -86,11 +88,11 @@ module _ (code : ProperCode) (L : ℕ → StateValue → StateValue → Type 0) 
         walked_split (inst_at f) (at_point (listed u.edits)) placesf i n ∙ ap (λ r. step_at f placesf F i u ++ r) (x.same n) in
         let k = step_of f placesf F v i t u (defined_from f v.number (i + 1) n) (x.carries (returns i ge lt) v known) (x.ends.gone v.number)
         (leaves i t u ge lt l) (unread i n ge lt count) in
-        subst (λ l. Carries v l (Relied (defined_from f v.number i (suc n)) block (stands_at u v.number) (slots_at u v.number) (F v.number)) E) (sym whole)
-        (subst (λ b. Carries v (step_at f placesf F i u ++ rest) (Relied b block (stands_at u v.number) (slots_at u v.number) (F v.number)) E)
+        subst (λ l. Carries v l (Relied (defined_from f v.number i (suc n)) block (location_at u v.number) (slots_at u v.number) (F v.number)) E) (sym whole)
+        (subst (λ b. Carries v (step_at f placesf F i u ++ rest) (Relied b block (location_at u v.number) (slots_at u v.number) (F v.number)) E)
         (sym (defined_from-more f v.number i n))
         (step_carried v (step_at f placesf F i u) rest (defined_by (inst_at f i).operands v.number) (defined_from f v.number (i + 1) n) block
-        (stands_at u v.number) (slots_at u v.number) (stands_at t v.number) (slots_at t v.number) (F v.number) E
+        (location_at u v.number) (slots_at u v.number) (location_at t v.number) (slots_at t v.number) (F v.number) E
         (writes i ge lt) k c))
 
     -- if each instruction carries what its lemma says, the listing from any of them to the block's last one does

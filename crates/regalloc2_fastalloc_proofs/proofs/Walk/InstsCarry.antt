@@ -15,7 +15,7 @@ use Rattle.regalloc2_fastalloc_proofs.specs.InstSteps.{StateValue}
 use Rattle.regalloc2_fastalloc_proofs.specs.BlockSteps.{offset_of}
 use Rattle.regalloc2_fastalloc_state.specs.StateParts.{alloc_of, vreg_of_preg, slot_name, units_of, IsSlotOrNone}
 use Rattle.regalloc2_fastalloc_proofs.specs.Safety.{IsWhole}
-use Rattle.regalloc2_fastalloc_proofs.proofs.Operands.RecordOverState.{stands_at, slots_at}
+use Rattle.regalloc2_fastalloc_proofs.proofs.Operands.RecordOverState.{location_at, slots_at}
 use Rattle.regalloc2_fastalloc_proofs.proofs.Moves.ScratchRegTaken.{Fit}
 use Rattle.regalloc2_fastalloc_proofs.proofs.Inst.AcrossInst.{lives_in}
 use Rattle.regalloc2_fastalloc_proofs.proofs.Inst.BoundaryToFirstOperand.{Carried}
@@ -23,14 +23,14 @@ use Rattle.regalloc2_fastalloc_proofs.proofs.Inst.BoundaryToFirstOperand.{Carrie
 -- no vreg has a location, no vreg has a slot, and no move is pushed
 pub record Blank (t : StateValue) : Type 0 where
   pub nowhere : (n : ℕ) → alloc_of t.places n ≡ NoPlace
-  pub nobody : (r : Register) → r.number < 64 → vreg_of_preg t.places r ≡ None
+  pub none_held : (r : Register) → r.number < 64 → vreg_of_preg t.places r ≡ None
   pub no_slot : (n : ℕ) → slot_name t.slots n ≡ NoPlace
   pub units : (c : RegClass) → 0 < units_of t.slots c
   pub no_move : t.edits ≡ []
 
 pub blank_whole : (t : StateValue) → Blank t → IsWhole t
 blank_whole t b = record {
-  holds = λ r v lt h. let x : None ≡ Some v = sym (b.nobody r lt) ∙ h in absurd cc;
+  holds = λ r v lt h. let x : None ≡ Some v = sym (b.none_held r lt) ∙ h in absurd cc;
   stands_in = λ n r h. let x : NoPlace ≡ InRegister r = sym (b.nowhere n) ∙ h in absurd cc;
   own_slot = λ n k h. let x : NoPlace ≡ InSlot k = sym (b.nowhere n) ∙ h in absurd cc;
   below = λ n. subst (IsSlotOrNone t.slots.count) (sym (b.no_slot n)) tt;
@@ -45,9 +45,9 @@ unfolding AllFrom
 at_start Known insts placesf i t b fit = record {
   whole = blank_whole t b;
   later = subst (λ es. AllFrom (before i) (listed es)) (sym b.no_move) tt;
-  claims = λ v known. subst (λ l. Carries v l (Need (lives_in t) (λ x. false) (λ p x. false) (stands_at t) (slots_at t) v.number) (λ p. ⊥))
+  claims = λ v known. subst (λ l. Carries v l (Need (lives_in t) (λ x. false) (λ p x. false) (location_at t) (slots_at t) v.number) (λ p. ⊥))
       (sym (walked-none insts (at_point (listed t.edits)) placesf i))
-      (carries_nil v (Need (lives_in t) (λ x. false) (λ p x. false) (stands_at t) (slots_at t) v.number) (λ p. ⊥) (λ p h. absurd h));
+      (carries_nil v (Need (lives_in t) (λ x. false) (λ p x. false) (location_at t) (slots_at t) v.number) (λ p. ⊥) (λ p h. absurd h));
   fit = fit;
   apart = λ c q e x h. let y : NoPlace ≡ InRegister q = sym (b.nowhere x) ∙ h in cc;
 }

@@ -1,4 +1,5 @@
--- The instructions of a block in the walk: its last one, and the instructions before it, which are no branches and no returns.
+-- The instructions of a block in the walk: its last one, and the instructions before it, which are no branches and no
+-- returns.
 -- The fold in `Changes` doesn't apply: what holds depends on how far the walk is.
 use Rattle.std.proofs.Common.{ℕ, ◌≡◌, ◌+◌, ◌<◌, ◌≤◌, inl, inr, false, List, length, sym, ◌∙◌, subst, arith}
 use Rattle.std.specs.Prelude.{Some, slice_index_or}
@@ -23,7 +24,8 @@ use Rattle.regalloc2_fastalloc_proofs.proofs.Walk.FunctionLaws.{PlacedCode}
 use Rattle.regalloc2_fastalloc_proofs.proofs.Safety.BlocksKeepSafe.{block_start}
 use Rattle.regalloc2_fastalloc_proofs.proofs.Changes.WalkChanges.{allocs_inst_in_block_changes, any_inst}
 
--- The last instruction of a block, with the tables after and before it, and the instructions before it; the walk continues from there to its end.
+-- The last instruction of a block, with the tables after and before it, and the instructions before it; the walk
+-- continues from there to its end.
 pub record Split (f : FunctionValue) (placesf : ℕ → List Place) (L : ℕ → StateValue → StateValue → Type 0) (final : StateValue) (b last : ℕ) (old : StateValue)
     (i : ℕ) (t : StateValue) : Type 0 where
   pub begin : StateValue
@@ -46,7 +48,8 @@ module _ (code : PlacedCode) (final : StateValue) where
     within : (i : ℕ) → i < (block_at f b).range.end → i < length f.insts
     within i less = (let h = ends_within f follow b lb in omega (arith, less, h))
 
-    -- if the places of all instructions from i on are listed, the places of the instructions after the block were listed before its walk
+    -- if the places of all instructions from i on are listed, the places of the instructions after the block were
+    -- listed before its walk
     pub walk_listed : (i : ℕ) (places : List Place) (t : StateValue) → AllocsBlockInsts f b blank old i places t → AreListed f placesf i places →
         AreListed f placesf (block_at f b).range.end blank
     walk_listed i places t at_end = λ h. h
@@ -55,7 +58,8 @@ module _ (code : PlacedCode) (final : StateValue) where
     module _ (L : ℕ → StateValue → StateValue → Type 0) (each : (i : ℕ) (q : List Place) (s u : StateValue) → (block_at f b).range.first ≤ i →
         i < last_of (block_at f b) → AllocsBlockInsts f b blank old i q u → AreListed f placesf i q →
         Grown AnyPlace s final → Grown AnyPlace u final → L i s u) where
-      -- the walk over a block from i on is its last instruction and the instructions from i on before it, each of which has the property L
+      -- the walk over a block from i on is its last instruction and the instructions from i on before it, each of which
+      -- has the property L
       pub split : (i : ℕ) (places : List Place) (t : StateValue) → AllocsBlockInsts f b blank old i places t → i < (block_at f b).range.end →
           AreListed f placesf i places → Grown AnyPlace t final → Split f placesf L final b (last_of (block_at f b)) old i t
       split i places t at_end = λ lt. absurd (omega (arith, lt))
@@ -95,8 +99,8 @@ module _ (code : PlacedCode) (final : StateValue) where
                 })
           ]
 
-  -- Each instruction but a block's last one leaves each slot at the walk's end to its own vreg, with the moves pushed so far, if the tables are
-  -- safe.
+  -- Each instruction but a block's last one leaves each slot at the walk's end to its own vreg, with the moves pushed
+  -- so far, if the tables are safe.
   abbrev pub KeepsSlots : (ℕ → StateValue → Type 0) → Type 0
   KeepsSlots SafeIn = (b i : ℕ) → b < length f.blocks → (block_at f b).range.first ≤ i → i < last_of (block_at f b) → (u : StateValue) → SafeIn b u →
       Grown AnyPlace u final → (v : VirtualRegister) → Known v →
@@ -104,7 +108,8 @@ module _ (code : PlacedCode) (final : StateValue) where
       Keeps (inst_at f i).operands (placesf i) (inst_at f i).clobbers
       (at_point (listed u.edits) (before i)) (at_point (listed u.edits) (after i)) v s
 
-  -- an instruction before its block's last one leaves a vreg's final slot to that vreg, as the lemma for one vreg requires
+  -- an instruction before its block's last one leaves a vreg's final slot to that vreg, as the lemma for one vreg
+  -- requires
   pub leaves_at : (SafeIn : ℕ → StateValue → Type 0) → KeepsSlots SafeIn → (b i : ℕ) (s u : StateValue) → b < length f.blocks →
       (block_at f b).range.first ≤ i → i < last_of (block_at f b) → SafeIn b u →
       Grown AnyPlace s final → Grown AnyPlace u final → (v : VirtualRegister) → Known v → LeavesOwnSlot f placesf (slots_at final) v i s u

@@ -29,7 +29,7 @@ pub fresh_blank : (t : StateValue) (n : ℕ) (sizes : List ℕ) (by_last : Bool)
     ((c : RegClass) → 0 < units_of (no_slots n sizes by_last) c) → Blank t
 fresh_blank t n sizes by_last places slots none units = record {
   nowhere = λ k. ap (λ (p : VRegAllocsValue). alloc_of p k) places ∙ always n k NoPlace;
-  nobody = λ r small. ap (λ (p : VRegAllocsValue). vreg_of_preg p r) places ∙ always 256 (bits_of_register r) None;
+  none_held = λ r small. ap (λ (p : VRegAllocsValue). vreg_of_preg p r) places ∙ always 256 (bits_of_register r) None;
   no_slot = λ k. ap (λ (s : SpillSlotsValue). slot_name s k) slots ∙ always n k NoPlace;
   units = λ c. subst (λ (s : SpillSlotsValue). 0 < units_of s c) (sym slots) (units c);
   no_move = none;

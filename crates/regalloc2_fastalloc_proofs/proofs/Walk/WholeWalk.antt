@@ -10,7 +10,8 @@ use Rattle.regalloc2_fastalloc_proofs.specs.BlockSteps.{AllocsBlocks}
 use Rattle.regalloc2_fastalloc_proofs.proofs.Moves.ScratchRegTaken.{Fit}
 use Rattle.regalloc2_fastalloc_proofs.proofs.Walk.InstsCarry.{Blank}
 
--- A walk over all blocks of a well-formed function, from a fresh state and its list of places to the final state and the output's list.
+-- A walk over all blocks of a well-formed function, from a fresh state and its list of places to the final state and
+-- the output's list.
 pub record WholeWalk : Type 0 where
   pub env : MachineValue
   pub f : FunctionValue

@@ -24,10 +24,12 @@ abbrev pub ShowsAt : FunctionValue → OutputValue → VirtualRegister → Place
 ShowsAt f out v p ws = after_moves (moves_at f out (end_of f ws)) (cells_before f out ws) p ≡ source_before f ws v
 
 -- What an output guarantees of the slot of v:
---     entered   where a path enters a block with v live, once the moves before its first instruction have run, the slot holds v's value, if
---               that instruction is no branch and doesn't define v
---     defined   after a definition of v, once the moves before the next instruction have run, the slot holds v's value, if v is live and it is no branch
---     written   no move before any other instruction of a block writes the slot, unless the instruction reads v there, or is a branch
+--     entered   where a path enters a block with v live, once the moves before its first instruction have run, the slot
+--               holds v's value, if that instruction is no branch and doesn't define v
+--     defined   after a definition of v, once the moves before the next instruction have run, the slot holds v's value,
+--               if v is live and it is no branch
+--     written   no move before any other instruction of a block writes the slot, unless the instruction reads v there,
+--               or is a branch
 --     spared    an instruction that doesn't define v doesn't write the slot
 pub record IsKeptInSlot (f : FunctionValue) (out : OutputValue) (v : VirtualRegister) (p : Place) : Type 0 where
   pub entered : (ws : List Way) → IsPath f ws → HasEntered f ws → IsLive f v (end_of f ws) → Undefined (inst_at f (end_of f ws).inst).operands v →

@@ -12,8 +12,8 @@ use Rattle.regalloc2_names.specs.Operand.{is_def}
 use Rattle.regalloc2_fastalloc_proofs.specs.StoreSteps.{IsStoredAt}
 use Rattle.regalloc2_fastalloc_proofs.specs.Debug.SlotHoldsValue.{ReadsInPlace, ShowsAt}
 
--- where a move may write v's slot: after an instruction that defines v, before an instruction that reads v there, before a branch, or at the start of
--- a block if the branch into it defines v, or passes what it defines to v
+-- where a move may write v's slot: after an instruction that defines v, before an instruction that reads v there,
+-- before a branch, or at the start of a block if the branch into it defines v, or passes what it defines to v
 pub data MayWrite (f : FunctionValue) (out : OutputValue) (v : VirtualRegister) (p : Place) : ℕ → Type 0 where
   after_definition : (i k : ℕ) → k < length (inst_at f i).operands → is_def (op_at (inst_at f i).operands k).kind ≡ true →
       (op_at (inst_at f i).operands k).vreg ≡ v → MayWrite f out v p (after i)
@@ -22,9 +22,10 @@ pub data MayWrite (f : FunctionValue) (out : OutputValue) (v : VirtualRegister) 
   at_begin : (b : ℕ) → b < length f.blocks → IsStoredAt f b v → MayWrite f out v p (before (block_at f b).range.first)
 
 -- What the walk guarantees of v's slot:
---     entered   where a path enters a block with v live, once the moves before its first instruction have run, the slot holds v's value, if
---               that instruction is no branch and doesn't define v
---     defined   after a definition of v, once the moves before the next instruction have run, the slot holds v's value, if v is live and it is no branch
+--     entered   where a path enters a block with v live, once the moves before its first instruction have run, the slot
+--               holds v's value, if that instruction is no branch and doesn't define v
+--     defined   after a definition of v, once the moves before the next instruction have run, the slot holds v's value,
+--               if v is live and it is no branch
 --     moves     each move that writes the slot is where `MayWrite` allows it
 --     own       no operand of another vreg has it as its place
 pub record IsSlotOfValue (f : FunctionValue) (out : OutputValue) (v : VirtualRegister) (n : ℕ) : Type 0 where

@@ -41,8 +41,10 @@ none_needed c = 0
 abbrev pub AllWrite : ℕ → VirtualRegister → ℕ → Type 0
 AllWrite point v n = Unit {0}
 
+-- moves are allowed at every point
 abbrev pub AllMay : ℕ → Type 0
 AllMay point = Unit {0}
 
+-- the invariant `IsSafe`, where every slot and every point may have moves
 abbrev pub AreSafe : MachineValue → (VirtualRegister → Type 0) → StateValue → Type 0
 AreSafe env Known t = IsSafe env Known AllWrite AllMay t

@@ -26,8 +26,8 @@ abbrev pub FitInRegs : List VirtualRegister → PRegSet → Type 0
 FitInRegs names allocatable = (class : RegClass) (vs : List VirtualRegister) → IsDistinct is_same_number vs → All (λ v. (v.class ≡ class) × Contains names v) vs
     → length vs ≤ count_below (λ n. has_register allocatable (register_number class n)) 64
 
--- Of one class: the used registers, which are no more than the vregs seen so far, and then the unused registers, which are free and
--- hold no vreg. A vreg seen so far has a location, unless its definition was seen.
+-- Of one class: the used registers, which are no more than the vregs seen so far, and then the unused registers, which
+-- are free and hold no vreg. A vreg seen so far has a location, unless its definition was seen.
 pub record IsSpillFreeIn (names : List VirtualRegister) (gone : ℕ → Bool) (class : RegClass) (order : List Register) (t : StateValue)
     (inst_regs : InstRegs) : Type 0 where
   pub used : List Register
@@ -41,7 +41,8 @@ pub record IsSpillFreeIn (names : List VirtualRegister) (gone : ℕ → Bool) (c
   pub empty : (n : ℕ) (r : Register) → alloc_of t.places n ≡ InRegister r → Contains unused r → ⊥
   pub free : (r : Register) → Contains unused r → is_free_throughout inst_regs r ≡ true
 
--- no move and no slot was made; each vreg with a location is in an allocatable register, and its definition wasn't seen; each class is as above
+-- no move and no slot was made; each vreg with a location is in an allocatable register, and its definition wasn't
+-- seen; each class is as above
 pub record IsSpillFree (names : List VirtualRegister) (gone : ℕ → Bool) (t : StateValue) (inst_regs : InstRegs) : Type 0 where
   pub no_moves : t.edits ≡ []
   pub no_slots : (n : ℕ) → slot_name t.slots n ≡ NoPlace
@@ -54,7 +55,8 @@ pub record IsSpillFree (names : List VirtualRegister) (gone : ℕ → Bool) (t :
   pub nowhere : (n : ℕ) → gone n ≡ true → alloc_of t.places n ≡ NoPlace
   pub each : (class : RegClass) → IsSpillFreeIn names gone class (order_of t class) t inst_regs
 
--- an instruction whose operands of a position are under `Reg` and name listed vregs, none defined so far; the vregs that it defines are named once
+-- an instruction whose operands of a position are under `Reg` and name listed vregs, none defined so far; the vregs
+-- that it defines are named once
 pub record ArePlain (names : List VirtualRegister) (gone : ℕ → Bool) (operands : List OperandValue) (late : Bool) : Type 0 where
   pub under_reg : (k : ℕ) → k < length operands → (op_at operands k).constraint ≡ Reg
   pub named : (k : ℕ) → k < length operands → Contains names (op_at operands k).vreg

@@ -64,10 +64,10 @@ unfolding AreNamed
 all_named ops k named e h n = (λ t. let x = (h n).0 t in (x.0, omega (arith, x.1, e), x.2), λ x. (h n).1 (x.0, omega (arith, x.1, e), x.2))
 
 -- a marked operand is reused by one of the first k
-pub one_named : (ops : List OperandValue) (k n : ℕ) (named : List Bool) → AreNamed ops k named → IsTrue (slice_index_or named n false) → (j : ℕ) × (j < k)
+pub named_by_a_reuse : (ops : List OperandValue) (k n : ℕ) (named : List Bool) → AreNamed ops k named → IsTrue (slice_index_or named n false) → (j : ℕ) × (j < k)
     × ((op_at ops j).constraint ≡ Reuse n)
 unfolding AreNamed
-one_named ops k n named h t = (h n).0 t
+named_by_a_reuse ops k n named h t = (h n).0 t
 
 -- an operand without a mark is reused by none of the first k
 pub not_named : (ops : List OperandValue) (k n : ℕ) (named : List Bool) → AreNamed ops k named → slice_index_or named n false ≡ false → (j : ℕ) → j < k →
@@ -178,10 +178,10 @@ clear_read clobbers ops k o named b is same n =
     (clear_by clobbers ops k b (λ t. n.0 (sym same ∙ t)) (λ r. same ∙ n.1 r))
 
 -- an instruction's reuses are valid where each is and they are apart
-pub valid_then : (env : MachineValue) (i : InstValue) (ops : List OperandValue) (b : Bool) → ops ≡ i.operands →
+pub sound_reuses : (env : MachineValue) (i : InstValue) (ops : List OperandValue) (b : Bool) → ops ≡ i.operands →
     ((k : ℕ) → k < length ops → IsSoundReuse env ops (op_at ops k))
     → (IsTrue b ↔ AreReusesApart ops (length ops)) → IsTrue b ↔ ReusesAreSound env i
-valid_then env i ops b e each apart = (
+sound_reuses env i ops b e each apart = (
   λ t. reuses_valid env i (subst (λ os. (k : ℕ) → k < length os → IsSoundReuse env os (op_at os k)) e each)
       (subst (λ os. AreReusesApart os (length os)) e (apart.0 t)),
   λ s. apart.1 (subst (λ os. AreReusesApart os (length os)) (sym e) (apart_reuses env i s)),

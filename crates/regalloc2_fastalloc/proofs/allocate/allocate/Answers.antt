@@ -32,15 +32,15 @@ fill_places-requires g c =
 abbrev made_of : ℕ → List (ℕ × MoveValue) → List Place → List ℕ → List DebugLocation → OutputValue
 made_of n es ps os ds = record { num_spillslots = n; edits = es; allocs = ps; offsets = os; debug_locations = ds }
 
-same_out : (f : FunctionValue) (env : MachineValue) (n : ℕ) (es : List (ℕ × MoveValue)) (ps qs : List Place) (os us : List ℕ) (ds : List DebugLocation)
+allocation_of_same_output : (f : FunctionValue) (env : MachineValue) (n : ℕ) (es : List (ℕ × MoveValue)) (ps qs : List Place) (os us : List ℕ) (ds : List DebugLocation)
     → qs ≡ ps → os ≡ us → IsAllocation f env (made_of n es ps os ds) → IsAllocation f env (made_of n es qs us ds)
-same_out f env n es ps qs os us ds places offsets h =
+allocation_of_same_output f env n es ps qs os us ds places offsets h =
     subst (λ (x : List Place). IsAllocation f env (made_of n es x us ds)) (sym places)
     (subst (λ (x : List ℕ). IsAllocation f env (made_of n es ps x ds)) offsets h)
 
 pub returns-clause-allocation : goal.returns-clause-allocation
 returns-clause-allocation g c =
-    same_out (g.F.Function.function c.args.f.now) (machine_of c.args.env.now) c.in_ok-rest.rest.num_spillslots (map edit_of c.in_ok-rest.rest.edits.items)
+    allocation_of_same_output (g.F.Function.function c.args.f.now) (machine_of c.args.env.now) c.in_ok-rest.rest.num_spillslots (map edit_of c.in_ok-rest.rest.edits.items)
     c.fill_places.new.allocs
     (with_items c.in_ok-allocs.allocs c.fill_places.new.allocs).items c.deref.result.now c.args.survey.offsets.items
     (map location_of c.in_ok-rest.rest.debug_locations.items)

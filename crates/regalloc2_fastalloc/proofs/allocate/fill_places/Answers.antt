@@ -27,14 +27,14 @@ use Rattle.regalloc2_fastalloc_proofs.specs.BranchSteps.{AddsTempSlotsAtMost}
 use Rattle.regalloc2_fastalloc_proofs.specs.BlockSteps.{DefinesBelow}
 use Rattle.regalloc2_fastalloc_proofs.specs.Safety.{HasMachine}
 use Rattle.regalloc2_fastalloc_state.specs.StateParts.{VRegAllocsValue, SpillSlotsValue, no_allocs, no_slots, slot_name, units_of}
-use Rattle.regalloc2_fastalloc.proofs.ReadsAgree.{made_blocks_agree, made_in_slots, made_label_shown, walk_kept_through, walk_safe_through}
+use Rattle.regalloc2_fastalloc.proofs.ReadsAgree.{made_blocks_agree, made_in_slots, made_label_shown, walk_is_good, walk_is_safe}
 use Rattle.regalloc2_fastalloc.proofs.DebugLocationPlaces.{locations_stand, shows_labels}
 use Rattle.regalloc2_fastalloc.proofs.BranchSlots.{branch_slots_serve}
 use Rattle.regalloc2_fastalloc_proofs.proofs.Walk.BlocksCarryFromFreshState.{passed_slots}
 use Rattle.regalloc2_fastalloc_proofs.proofs.Safety.InitialState.{begun_machine}
 use Rattle.regalloc2_fastalloc_proofs.proofs.Safety.OutputOfWalk.{IsOutputOfWalk, made_in_order, made_constraints, made_proper, made_in_registers}
 use Rattle.regalloc2_fastalloc_proofs.proofs.Safety.WellFormedKeepsSafe.{sound_ops_at}
-use Rattle.regalloc2_fastalloc_proofs.proofs.Safety.StateKept.{none_lends}
+use Rattle.regalloc2_fastalloc_proofs.proofs.Safety.StateKept.{adds_temp_slots_refl}
 use Rattle.regalloc2_fastalloc_proofs.proofs.Walk.UsesReadOwnDefs.{fresh_blank, some_units, fresh_fit}
 use Rattle.regalloc2_fastalloc_proofs.proofs.Safety.MachineRegs.{fit_apart}
 use Rattle.regalloc2_fastalloc_proofs.proofs.Slots.WalkKeepsSlotsApart.{BranchesFrom, walk_classed}
@@ -47,7 +47,7 @@ use Rattle.regalloc2_function.specs.WellFormed.{BranchDefinesInPlace}
 use Rattle.regalloc2_fastalloc_state.specs.Validate.NoLimits.{AreTaken}
 use Rattle.regalloc2_fastalloc_walk.specs.Findings.{ListsAddingFrom}
 use Rattle.regalloc2_fastalloc_walk.proofs.Findings.{lists_reversed}
-use Rattle.regalloc2_fastalloc.proofs.ErrorsHaveReasons.{lacks_where, passed_not_refused}
+use Rattle.regalloc2_fastalloc.proofs.ErrorsHaveReasons.{lacks_of_resource_error, passed_not_refused}
 use Rattle.regalloc2_fastalloc.proofs.UsesReadNumbers.{reads_numbers}
 use Rattle.regalloc2_fastalloc.proofs.UnitsNeeded.{sizes_of, sizes_agree, few_slots, full_needs}
 use Rattle.regalloc2_fastalloc_proofs.proofs.Walk.InstsCarry.{Blank, blank_whole}
@@ -57,9 +57,9 @@ use Rattle.regalloc2_fastalloc_proofs.proofs.Moves.ScratchRegTaken.{Fit}
 use Rattle.regalloc2_fastalloc_proofs.proofs.Safety.BranchArgsKeepState.{processes_branch_between}
 use Rattle.regalloc2_fastalloc_proofs.proofs.Safety.InstsKeepSafe.{WalkKept}
 use Rattle.regalloc2_fastalloc_proofs.proofs.Unspilled.BlockSpillFree.{begins_uncrowded}
-use Rattle.regalloc2_fastalloc_proofs.proofs.Unspilled.OneBlock.{walk_spills_nothing}
+use Rattle.regalloc2_fastalloc_proofs.proofs.Unspilled.OneBlock.{walk_is_spill_free}
 use Rattle.regalloc2_fastalloc.proofs.RoomInTables.{has_room}
-use Rattle.regalloc2_fastalloc.proofs.RegistersForAll.{are_few, asks_for_registers, names_in}
+use Rattle.regalloc2_fastalloc.proofs.RegistersForAll.{are_few, requires_only_registers, names_in}
 use Rattle.regalloc2_fastalloc.proofs.allocate.fill_places.Given.{Over}
 use Rattle.regalloc2_fastalloc.proofs.allocate.fill_places.Goals as goal
 use Rattle.regalloc2_fastalloc_proofs.proofs.Walk.WholeWalk.{WholeWalk, whole_walk}
@@ -208,7 +208,7 @@ fresh_is g c = record {
   sizes = sizes_of (g.F.Function.function c.args.f.now);
   by_last = (g.F.Function.function c.args.f.now).named_by_last_slot;
   watched = c.args.wanted.now;
-  nobody = c.in_ok-state.ensures.places;
+  none_held = c.in_ok-state.ensures.places;
   slots = c.in_ok-state.ensures.slots;
   none = c.in_ok-state.ensures.edits;
   units = units_are g c;
@@ -220,12 +220,12 @@ fresh_is g c = record {
 walk_keeps : (g : Over) (c : goal.After-reads_the_same_numbers g) →
     WalkKept (machine_of c.args.env.now) (Made (g.F.Function.function c.args.f.now)) (g.F.Function.function c.args.f.now)
     (MayInBlocks (g.F.Function.function c.args.f.now)) c.alloc_blocks.new.allocs 0 0 c.alloc_blocks.new.allocs (left g c)
-walk_keeps g c = walk_kept_through (fresh_is g c) (blank_is g c) (fit_is g c)
+walk_keeps g c = walk_is_good (fresh_is g c) (blank_is g c) (fit_is g c)
 
 -- the states of the walk are safe at each instruction of a block
 safe_is : (g : Over) (c : goal.After-reads_the_same_numbers g) →
     SafeWithin (machine_of c.args.env.now) (g.F.Function.function c.args.f.now) c.args.allocs.now (begun g c) c.alloc_blocks.new.allocs
-safe_is g c = walk_safe_through (fresh_is g c) (blank_is g c) (fit_is g c)
+safe_is g c = walk_is_safe (fresh_is g c) (blank_is g c) (fit_is g c)
 
 -- a vreg that is passed as an argument has a slot
 handed_is : (g : Over) (c : goal.After-reads_the_same_numbers g) → (v : VirtualRegister) (l : Location) → PassesAt (g.F.Function.function c.args.f.now) v l →
@@ -303,9 +303,9 @@ labels_are g c =
     c.requires.machine c.num_units-num_spillslots.ensures.owned sound_ops) c.in_ok-debug_locations.ensures.ok
 
 -- there are few temporary slots
-few_lent : (f : FunctionValue) (begun left : StateValue) (n : ℕ) (by_last : Bool) (most : ℕ) → begun.slots ≡ no_slots n (sizes_of f) by_last →
+temp_slots_are_few : (f : FunctionValue) (begun left : StateValue) (n : ℕ) (by_last : Bool) (most : ℕ) → begun.slots ≡ no_slots n (sizes_of f) by_last →
     AddsTempSlotsAtMost most begun left → left.slots.num_temp_slots ≤ most
-few_lent f begun left n by_last most slots machine =
+temp_slots_are_few f begun left n by_last most slots machine =
     let none : begun.slots.num_temp_slots ≡ 0 = ap (λ (s : SpillSlotsValue). s.num_temp_slots) slots in
     let num_temp_slots = machine.num_temp_slots in
     omega (arith, none, num_temp_slots)
@@ -321,7 +321,7 @@ slots_are g c =
     let n : ℕ = c.table_length-vregs.result in
     few_slots f last.slots (out_of g c) c.num_units-num_spillslots.ensures.count (sizes_kept f begin last n f.named_by_last_slot _ slots machine)
     (vregs_few f begin last n f.named_by_last_slot _ slots machine c.table_length-vregs.ensures.few)
-    (few_lent f begin last n f.named_by_last_slot _ slots machine) c.num_units-num_spillslots.ensures.owned
+    (temp_slots_are_few f begin last n f.named_by_last_slot _ slots machine) c.num_units-num_spillslots.ensures.owned
 
 -- where registers suffice for all vregs, the walk makes no move and no slot
 unspilled_is : (g : Over) (c : goal.After-reads_the_same_numbers g) → HasRegistersForAll (g.F.Function.function c.args.f.now) (machine_of c.args.env.now) →
@@ -331,7 +331,7 @@ unspilled_is g c = λ h.
     let begin : StateValue = tables_of c.in_ok-state.state in
     let e = c.in_ok-state.ensures in
     let b = blank_is g c in
-    let none = walk_spills_nothing f (machine_of c.args.env.now) c.requires.well_formed (names_in f.insts) (asks_for_registers f (machine_of c.args.env.now) h) 0
+    let none = walk_is_spill_free f (machine_of c.args.env.now) c.requires.well_formed (names_in f.insts) (requires_only_registers f (machine_of c.args.env.now) h) 0
     c.args.allocs.now c.alloc_blocks.new.allocs begin (left g c) refl (are_few f (machine_of c.args.env.now) begin.allocatable h e.all)
     (begins_uncrowded f (names_in f.insts) begin b.nowhere b.no_move b.no_slot (ap (λ (s : SpillSlotsValue). s.count) e.slots)
     (blank_whole begin b) (fit_apart begin (fit_is g c)) e.lrus) c.in_ok-found.ensures.outcome in
@@ -368,7 +368,7 @@ returns-in_err-found-clause-err g c =
     let slots = c.in_ok-state.ensures.slots in
     let most : ℕ = begin.slots.num_temp_slots + 6 * length f.blocks in
     let none : begin.slots.num_temp_slots ≡ 0 = ap (λ (s : SpillSlotsValue). s.num_temp_slots) slots in
-    let same : AddsTempSlotsAtMost 0 begin begin = none_lends 0 begin in
+    let same : AddsTempSlotsAtMost 0 begin begin = adds_temp_slots_refl 0 begin in
     let p = err_from_is_err_and c.from_residual-in_err-found.result c.from_residual-in_err-found.ensures.1 in
     let n : ℕ = c.table_length-vregs.result in
     let more : SlotsExhaustedWith begin.slots most → 2 ^ 24 < units_at_most f = full_needs f begin.slots most
@@ -384,7 +384,7 @@ returns-in_err-found-clause-err g c =
       sizes = sizes_of f;
       by_last = f.named_by_last_slot;
       watched = c.args.wanted.now;
-      nobody = e.places;
+      none_held = e.places;
       slots = e.slots;
       none = e.edits;
       units = some_units n (slot_size f.slot_sizes Int) (slot_size f.slot_sizes Float) (slot_size f.slot_sizes Vector) f.named_by_last_slot
@@ -395,5 +395,5 @@ returns-in_err-found-clause-err g c =
       dedicated_scratch = e.dedicated_scratch;
     } in
     rw p.1 (λ all. subst (Lacks (SomeDoesNotFit f env) (2 ^ 24 < units_at_most f)) (sym p.2)
-    (lacks_where (SomeDoesNotFit f env) (SlotsExhaustedWith begin.slots most) (2 ^ 24 < units_at_most f) more _ c.in_err-found.ensures.err
+    (lacks_of_resource_error (SomeDoesNotFit f env) (SlotsExhaustedWith begin.slots most) (2 ^ 24 < units_at_most f) more _ c.in_err-found.ensures.err
     (λ lacks. walk_stops c.requires.machine limited c.requires.well_formed (λ i lt. (all i lt).taken) fresh (c.in_err-found.ensures.outcome lacks))))

@@ -2,7 +2,7 @@ use Rattle.std.proofs.Common.{ℕ, ◌≡◌, List, false, length, length-set, r
 use Rattle.regalloc2_names.specs.Operand.{OperandValue}
 use Rattle.regalloc2_fastalloc_state.specs.Validate.Constraints.{AreReusesApart}
 use Rattle.regalloc2_carry.proofs.Plain.{always}
-use Rattle.regalloc2_fastalloc_state.proofs.ValidateLemmas.ConstraintTests.{named_none, named_same, named_more, one_named, not_named, apart_none, apart_same, apart_more}
+use Rattle.regalloc2_fastalloc_state.proofs.ValidateLemmas.ConstraintTests.{named_none, named_same, named_more, named_by_a_reuse, not_named, apart_none, apart_same, apart_more}
 use Rattle.regalloc2_fastalloc_state.proofs.ValidateLemmas.OperandReads.{read_operand}
 use Rattle.std.proofs.lemmas.Bool.{false≢true}
 use Rattle.regalloc2_fastalloc_state.proofs.validate.constraints.are_apart.Goals as goal
@@ -16,7 +16,7 @@ returns-then-named-index c =
     let ops : List OperandValue = c.args.operands.now in
     let is = ap (λ (o : OperandValue). o.constraint) (sym (read_operand ops c.loop-k.k c.index-operands-k.result c.loop-k-test.true c.index-operands-k.is))
     ∙ c.in-Some.ensures.some in
-    let other = one_named ops c.loop-k.k c.in-Some.index c.loop-k.named c.loop-k.invariant.named c.if-named-index.true in (
+    let other = named_by_a_reuse ops c.loop-k.k c.in-Some.index c.loop-k.named c.loop-k.invariant.named c.if-named-index.true in (
       λ h. absurd (false≢true h),
       λ all. let same = all other.0 c.loop-k.k c.in-Some.index (omega (arith, other.1, c.loop-k-test.true)) c.loop-k-test.true other.2 is in
           absurd (omega (arith, other.1, same)),

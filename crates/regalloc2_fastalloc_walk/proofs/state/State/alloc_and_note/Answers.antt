@@ -3,7 +3,7 @@ use Rattle.regalloc2_function.specs.FunctionValue.{FunctionValue}
 use Rattle.regalloc2_analysis.specs.LiveRanges.LiveRanges.{IsWanted}
 use Rattle.regalloc2_fastalloc_walk.specs.StateView.{tables_of}
 use Rattle.regalloc2_fastalloc_walk.proofs.Findings.{found_more, not_false}
-use Rattle.regalloc2_fastalloc_proofs.proofs.Debug.ChangesCounted.{unchanged_adds_nothing}
+use Rattle.regalloc2_fastalloc_proofs.proofs.Debug.ChangesCounted.{unchanged_adds_no_range}
 use Rattle.std.proofs.lemmas.Result.{on_ok_weaker, err_from_is_err_and, IfErr-weaker}
 use Rattle.regalloc2_fastalloc_walk.proofs.Steps.{outcome_of, on_ok_any, on_ok_both}
 use Rattle.regalloc2_fastalloc_walk.proofs.StepsFail.{no_lack}
@@ -18,7 +18,7 @@ returns-clause-found g c =
     found_more f (IsWanted c.args.self.now.places.watched) c.args.at.inst c.args.found.now c.note.new.self c.in_ok-passes.passes
     (not c.is_unchanged-is_changed.result) b.inst c.requires.found c.in_ok-passes.ensures.passes
     (λ same. let e = c.is_unchanged-is_changed.ensures.0 (not_false c.is_unchanged-is_changed.result same) in
-    unchanged_adds_nothing f c.args.block c.args.at.inst c.args.allocs.now c.alloc_inst_in_block.new.allocs (tables_of c.args.self.now)
+    unchanged_adds_no_range f c.args.block c.args.at.inst c.args.allocs.now c.alloc_inst_in_block.new.allocs (tables_of c.args.self.now)
     (tables_of c.alloc_inst_in_block.new.self) c.in_ok-passes.ensures.outcome (g.met.F.Function.limited c.args.cx.now.f.now) b.well_formed.0
     b.well_formed.1 b.inst c.requires.located (e.0 ∙ c.changes-changes.ensures) (subst (λ (n : ℕ). n < 2 ^ 64 - 1) c.changes-changes.ensures e.1))
     both.0 both.1)

@@ -15,7 +15,7 @@ use Rattle.regalloc2_fastalloc_walk.specs.declared.state.State.{State}
 use Rattle.regalloc2_fastalloc_proofs.specs.BranchSteps.{AddsTempSlotsAtMost}
 use Rattle.regalloc2_fastalloc_proofs.specs.BlockSteps.{AllocsInstInBlock, AllocInstInBlock, AllocsBlockInsts, DefinesBelow, at_end, one_in, temp_slots_at}
 use Rattle.regalloc2_fastalloc_proofs.specs.BlockSteps.{offset_of}
-use Rattle.regalloc2_fastalloc_proofs.proofs.Safety.StateKept.{none_lends, lends_then, apart_kept, lacks_all, lent_so_far}
+use Rattle.regalloc2_fastalloc_proofs.proofs.Safety.StateKept.{adds_temp_slots_refl, adds_temp_slots_trans, apart_kept, lacks_all, temp_slots_so_far}
 use Rattle.regalloc2_analysis.specs.LiveRanges.LiveRanges.{IsWanted}
 use Rattle.regalloc2_fastalloc_proofs.specs.Located.{LocatedAreUsed}
 use Rattle.regalloc2_fastalloc_proofs.proofs.Debug.ChangesCounted.{insts_watched}
@@ -50,8 +50,8 @@ loop-i-init g c =
       blank = λ k lt. c.requires.no_places k (let e = ap (offset_of f) end in omega (arith, lt, e));
       later = subst Q (sym end) c.requires.later;
       long = refl;
-      machine = none_lends 6 t;
-      begun = λ e. none_lends 0 t;
+      machine = adds_temp_slots_refl 6 t;
+      begun = λ e. adds_temp_slots_refl 0 t;
       located = subst (λ (n : ℕ). LocatedAreUsed f n t) (sym end) c.requires.located;
       found = subst (λ (n : ℕ). IsFound f (IsWanted c.args.self.now.places.watched) n c.args.found.now) (sym end) c.requires.found;
     }
@@ -107,7 +107,7 @@ loop-i-preserved g c =
     let L : ℕ → Type 0 = λ n. AddsTempSlotsAtMost (temp_slots_at f n) t u in
     let a : A i = subst A at c.in_ok-alloc_and_note.ensures.outcome in
     let well = c.requires.well_formed.1 in
-    let so_far = lent_so_far f c.requires.well_formed.1.end c.args.block i c.requires.block from upto (tables_of c.args.self.now) (tables_of c.loop-i.self)
+    let so_far = temp_slots_so_far f c.requires.well_formed.1.end c.args.block i c.requires.block from upto (tables_of c.args.self.now) (tables_of c.loop-i.self)
     c.loop-i.invariant.machine (λ e. c.loop-i.invariant.begun (next ∙ e)) in
     record {
       first = c.loop-i.invariant.first;
@@ -118,7 +118,7 @@ loop-i-preserved g c =
       blank = λ k less. a.allocates.outside k (inl less) ∙ c.loop-i.invariant.blank k (let e = ap (offset_of f) next in omega (arith, less, more, e));
       later = subst Q at c.in_ok-alloc_and_note.ensures.step.later;
       long = c.in_ok-alloc_and_note.ensures.step.long ∙ c.loop-i.invariant.long;
-      machine = lends_then so_far.0 (temp_slots_at f i) 6 (tables_of c.args.self.now) t u so_far.1 so_far.2
+      machine = adds_temp_slots_trans so_far.0 (temp_slots_at f i) 6 (tables_of c.args.self.now) t u so_far.1 so_far.2
           (subst L at c.alloc_and_note.ensures.step.machine);
       begun = λ e. absurd (omega (arith, e, upto));
       located = inst_located f well.follow well.end well.counted c.args.block c.requires.block i c.loop-i.allocs c.alloc_and_note.new.allocs t u
@@ -144,12 +144,12 @@ returns-in_err-alloc_and_note-clause-step g c =
     let next : c.loop-i.i ≡ i + 1 = omega (arith, c.loop-i-test.true) in
     let from : (block_at f c.args.block).range.first ≤ i = omega (arith, c.loop-i.invariant.first, c.loop-i-test.true) in
     let upto : i < (block_at f c.args.block).range.end = omega (arith, next, c.loop-i.invariant.within) in
-    let so_far = lent_so_far f c.requires.well_formed.1.end c.args.block i c.requires.block from upto (tables_of c.args.self.now) (tables_of c.loop-i.self)
+    let so_far = temp_slots_so_far f c.requires.well_formed.1.end c.args.block i c.requires.block from upto (tables_of c.args.self.now) (tables_of c.loop-i.self)
     c.loop-i.invariant.machine (λ e. c.loop-i.invariant.begun (next ∙ e)) in
     let few : so_far.0 + temp_slots_at f c.new.result ≤ 6 = subst (λ (n : ℕ). so_far.0 + temp_slots_at f n ≤ 6) (sym c.new.ensures) so_far.1 in
     let p = err_from_is_err_and c.from_residual.result c.from_residual.ensures.1 in
     branch_fails c.from_residual.result c.args.self.now c.alloc_and_note.new.self p.1 p.2
-    (lends_then so_far.0 (temp_slots_at f (c.loop-i.i - 1)) 6 a m (tables_of c.alloc_and_note.new.self)
+    (adds_temp_slots_trans so_far.0 (temp_slots_at f (c.loop-i.i - 1)) 6 a m (tables_of c.alloc_and_note.new.self)
     so_far.1 so_far.2 (subst L c.new.ensures c.alloc_and_note.ensures.step.machine))
     (lacks_all so_far.0 (temp_slots_at f c.new.result) 6 a m so_far.2 few _ c.in_err-alloc_and_note.ensures.step.err)
 

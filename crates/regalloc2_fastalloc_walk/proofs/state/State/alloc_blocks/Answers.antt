@@ -12,7 +12,7 @@ use Rattle.regalloc2_fastalloc_proofs.specs.InstSteps.{StateValue, no_register}
 use Rattle.regalloc2_fastalloc_proofs.specs.BlockSteps.{AllocBlock, BeginBlock, in_block, at_beginning, AllocsBlockInsts, AllocsBlocks, BeginsBlock}
 use Rattle.regalloc2_fastalloc_proofs.specs.BlockSteps.{DefinesBelow, all_left, one_block, offset_of}
 use Rattle.regalloc2_fastalloc_walk.specs.StateView.{tables_of}
-use Rattle.regalloc2_fastalloc_proofs.proofs.Safety.StateKept.{none_lends, same_lends, lends_then, apart_kept, lacks_all, lack_all, joins_at}
+use Rattle.regalloc2_fastalloc_proofs.proofs.Safety.StateKept.{adds_temp_slots_refl, adds_temp_slots_of_same_machine, adds_temp_slots_trans, apart_kept, lacks_all, lack_all, joins_at}
 use Rattle.regalloc2_function.proofs.Following.{end_within}
 use Rattle.regalloc2_analysis.specs.LiveRanges.LiveRanges.{IsWanted}
 use Rattle.regalloc2_analysis.specs.LiveRanges.WalkInvariant.{begin_of}
@@ -48,7 +48,7 @@ loop-b-init g c =
       blank = λ some k lt. c.requires.no_places k;
       later = λ some. subst Q (sym c.requires.fresh) (λ k d lt. absurd (omega arith));
       long = refl;
-      machine = none_lends _ t;
+      machine = adds_temp_slots_refl _ t;
       located = none_located f (begin_of f n) c.requires.nowhere.0 c.args.self.now.places.watched t c.requires.nowhere.1;
       found = record { passes = none_fail f (begin_of f n) past; changed = rw c.new.ensures.items (none_listed f W (begin_of f n) past) };
     }
@@ -87,7 +87,7 @@ begin_block-requires g c =
     let f : FunctionValue = g.F.Function.function c.args.f.now in
     let same : c.new-block.result ≡ c.loop-b.b - 1 = c.new-block.ensures in
     let lt : c.new-block.result < length f.blocks = omega (arith, same, c.loop-b-test.true, c.loop-b.invariant.within) in
-    let machine = lends_then (6 * (length f.blocks - c.loop-b.b)) 6 (6 * (length f.blocks - c.loop-b.b) + 6) (tables_of c.args.self.now) (tables_of
+    let machine = adds_temp_slots_trans (6 * (length f.blocks - c.loop-b.b)) 6 (6 * (length f.blocks - c.loop-b.b) + 6) (tables_of c.args.self.now) (tables_of
     c.loop-b.self)
     (tables_of c.alloc_block.new.self) (omega arith) c.loop-b.invariant.machine c.alloc_block.ensures.step.machine in (
       omega arith,
@@ -131,8 +131,8 @@ loop-b-preserved g c =
           (let e = ap (offset_of f) (joins some) in let h = ap (λ (n : ℕ). offset_of f (block_at f n).range.first) same in omega (arith, less, e, h));
       later = λ some. subst N (first ∙ sym (joins some)) c.in_ok-begin_block.ensures.step.later;
       long = c.in_ok-begin_block.ensures.step.long ∙ c.in_ok-alloc_block.ensures.step.long ∙ c.loop-b.invariant.long;
-      machine = lends_then (6 * (length f.blocks - c.loop-b.b)) 6 _ a t w (omega (arith, next, lt)) c.loop-b.invariant.machine
-          (lends_then 6 0 6 t u w (omega arith) c.alloc_block.ensures.step.machine (same_lends 0 u w c.begin_block.ensures.step.machine));
+      machine = adds_temp_slots_trans (6 * (length f.blocks - c.loop-b.b)) 6 _ a t w (omega (arith, next, lt)) c.loop-b.invariant.machine
+          (adds_temp_slots_trans 6 0 6 t u w (omega arith) c.alloc_block.ensures.step.machine (adds_temp_slots_of_same_machine 0 u w c.begin_block.ensures.step.machine));
       located = subst (λ (n : ℕ). LocatedAreUsed f n w) (sym begin)
           (begin_located f well.follow well.end well.counted b lt (block_at f b).range.first u w begins
           (insts_located f well.follow well.end well.counted b lt (end_within f well.follow b lt) insts
@@ -145,7 +145,7 @@ loop-b-preserved g c =
 pub returns-in_err-alloc_block-clause-machine : goal.returns-in_err-alloc_block-clause-machine
 returns-in_err-alloc_block-clause-machine g c =
     let f : FunctionValue = g.F.Function.function c.args.f.now in
-    lends_then (6 * (length f.blocks - c.loop-b.b)) 6 _ (tables_of c.args.self.now) (tables_of c.loop-b.self) (tables_of c.alloc_block.new.self)
+    adds_temp_slots_trans (6 * (length f.blocks - c.loop-b.b)) 6 _ (tables_of c.args.self.now) (tables_of c.loop-b.self) (tables_of c.alloc_block.new.self)
     (omega (arith, c.loop-b-test.true, c.loop-b.invariant.within)) c.loop-b.invariant.machine c.alloc_block.ensures.step.machine
 
 pub returns-in_err-begin_block-clause-machine : goal.returns-in_err-begin_block-clause-machine
@@ -154,9 +154,9 @@ returns-in_err-begin_block-clause-machine g c =
     let t : StateValue = tables_of c.loop-b.self in
     let u : StateValue = tables_of c.alloc_block.new.self in
     let w : StateValue = tables_of c.begin_block.new.self in
-    lends_then (6 * (length f.blocks - c.loop-b.b)) 6 _ (tables_of c.args.self.now) t w (omega (arith, c.loop-b-test.true, c.loop-b.invariant.within))
+    adds_temp_slots_trans (6 * (length f.blocks - c.loop-b.b)) 6 _ (tables_of c.args.self.now) t w (omega (arith, c.loop-b-test.true, c.loop-b.invariant.within))
     c.loop-b.invariant.machine
-    (lends_then 6 0 6 t u w (omega arith) c.alloc_block.ensures.step.machine (same_lends 0 u w c.begin_block.ensures.step.machine))
+    (adds_temp_slots_trans 6 0 6 t u w (omega arith) c.alloc_block.ensures.step.machine (adds_temp_slots_of_same_machine 0 u w c.begin_block.ensures.step.machine))
 
 pub returns-in_err-alloc_block-clause-err : goal.returns-in_err-alloc_block-clause-err
 returns-in_err-alloc_block-clause-err g c =
@@ -179,8 +179,8 @@ returns-in_err-begin_block-clause-err g c =
     let p = err_from_is_err_and c.from_residual-in_err-begin_block.result c.from_residual-in_err-begin_block.ensures.1 in
     fails_as (IsResourceError (SlotsExhaustedWith a.slots (a.slots.num_temp_slots + most))) c.from_residual-in_err-begin_block.result p.1 p.2
     (lack_all most most a w
-    (lends_then (6 * (length f.blocks - c.loop-b.b)) 6 most a t w (omega (arith, c.loop-b-test.true, c.loop-b.invariant.within)) c.loop-b.invariant.machine
-    (lends_then 6 0 6 t u w (omega arith) c.alloc_block.ensures.step.machine (same_lends 0 u w c.begin_block.ensures.step.machine)))
+    (adds_temp_slots_trans (6 * (length f.blocks - c.loop-b.b)) 6 most a t w (omega (arith, c.loop-b-test.true, c.loop-b.invariant.within)) c.loop-b.invariant.machine
+    (adds_temp_slots_trans 6 0 6 t u w (omega arith) c.alloc_block.ensures.step.machine (adds_temp_slots_of_same_machine 0 u w c.begin_block.ensures.step.machine)))
     (omega arith) _ c.in_err-begin_block.ensures.step.err)
 
 pub returns-clause-outcome : goal.returns-clause-outcome
@@ -193,8 +193,8 @@ pub returns-clause-machine : goal.returns-clause-machine
 returns-clause-machine g c =
     let f : FunctionValue = g.F.Function.function c.args.f.now in
     let t : StateValue = tables_of c.loop-b.self in
-    lends_then (6 * (length f.blocks - c.loop-b.b)) 0 (6 * length f.blocks) (tables_of c.args.self.now) t t (omega arith) c.loop-b.invariant.machine
-    (none_lends 0 t)
+    adds_temp_slots_trans (6 * (length f.blocks - c.loop-b.b)) 0 (6 * length f.blocks) (tables_of c.args.self.now) t t (omega arith) c.loop-b.invariant.machine
+    (adds_temp_slots_refl 0 t)
 
 -- where the walk stops
 pub returns-in_err-alloc_block-clause-outcome : goal.returns-in_err-alloc_block-clause-outcome
@@ -227,7 +227,7 @@ returns-in_err-begin_block-clause-outcome g c =
 
 -- where there is no memory for what branches define
 pub returns-in_err-defs-clause-machine : goal.returns-in_err-defs-clause-machine
-returns-in_err-defs-clause-machine g c = none_lends _ (tables_of c.args.self.now)
+returns-in_err-defs-clause-machine g c = adds_temp_slots_refl _ (tables_of c.args.self.now)
 
 pub returns-in_err-defs-clause-err : goal.returns-in_err-defs-clause-err
 returns-in_err-defs-clause-err g c =

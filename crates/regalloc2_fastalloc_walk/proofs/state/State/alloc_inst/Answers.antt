@@ -1,11 +1,11 @@
 use Rattle.std.proofs.Common.{sym, ◌∙◌, rules, arith}
 use Rattle.std.proofs.lemmas.Result.{err_from_is_err_and}
-use Rattle.regalloc2_fastalloc_proofs.proofs.Evictions.PushedAndRemoved.{same_then}
+use Rattle.regalloc2_fastalloc_proofs.proofs.Evictions.PushedAndRemoved.{same_machine_trans}
 use Rattle.regalloc2_fastalloc_proofs.specs.InstSteps.{in_prepare}
 use Rattle.regalloc2_fastalloc_walk.specs.PlaceSteps.{in_lates, in_earlies}
 use Rattle.regalloc2_fastalloc_walk.specs.StateView.{tables_of}
-use Rattle.regalloc2_fastalloc_walk.proofs.InstPlaced.{allocs_inst, stops_inst, placed, not_placed, still_in_tables}
-use Rattle.regalloc2_fastalloc_walk.proofs.Steps.{fails_with, step_ok, step_then, step_then_fails}
+use Rattle.regalloc2_fastalloc_walk.proofs.InstPlaced.{allocs_inst, stops_inst, placed, not_placed, operands_stay_in_tables}
+use Rattle.regalloc2_fastalloc_walk.proofs.Steps.{fails_with, step_ok, step_trans, step_trans_fails}
 use Rattle.regalloc2_fastalloc_walk.proofs.state.State.alloc_inst.Goals as goal
 
 pub process_operands_at-requires : goal.process_operands_at-requires
@@ -20,7 +20,7 @@ process_operands_at-requires g c = (
         (
           c.in_ok-sorted.ensures.step.later,
           (
-            still_in_tables _ (tables_of c.args.self.now) (tables_of c.prepare_regs.new.self) c.in_ok-sorted.ensures.step.long c.requires.in_tables,
+            operands_stay_in_tables _ (tables_of c.args.self.now) (tables_of c.prepare_regs.new.self) c.in_ok-sorted.ensures.step.long c.requires.in_tables,
             c.requires.allocs_long,
           ),
         ),
@@ -41,7 +41,7 @@ process_operands_at-requires-2 g c = (
         (
           c.in_ok-process_operands_at.ensures.step.later,
           (
-            still_in_tables _ (tables_of c.args.self.now) (tables_of c.process_operands_at.new.self)
+            operands_stay_in_tables _ (tables_of c.args.self.now) (tables_of c.process_operands_at.new.self)
                 (c.in_ok-process_operands_at.ensures.step.long ∙ c.in_ok-sorted.ensures.step.long) c.requires.in_tables,
             c.process_operands_at.auto.allocs ∙ c.requires.allocs_long,
           ),
@@ -62,7 +62,7 @@ move_uses-requires g c =
           (
             λ k d lt. let w = c.in_ok-process_operands_at-2.ensures.step.later k d lt in omega (arith, w, at),
             (
-              still_in_tables _ (tables_of c.args.self.now) (tables_of c.process_operands_at-2.new.self)
+              operands_stay_in_tables _ (tables_of c.args.self.now) (tables_of c.process_operands_at-2.new.self)
                   (c.in_ok-process_operands_at-2.ensures.step.long ∙ c.in_ok-process_operands_at.ensures.step.long ∙ c.in_ok-sorted.ensures.step.long)
                   c.requires.in_tables,
               c.process_operands_at-2.auto.allocs ∙ c.process_operands_at.auto.allocs ∙ c.requires.allocs_long,
@@ -96,27 +96,27 @@ returns-in_err-sorted-clause-step g c =
 pub returns-in_err-process_operands_at-clause-step : goal.returns-in_err-process_operands_at-clause-step
 returns-in_err-process_operands_at-clause-step g c =
     let e = err_from_is_err_and c.from_residual-in_err-process_operands_at.result c.from_residual-in_err-process_operands_at.ensures.1 in
-    step_then_fails c.from_residual-in_err-process_operands_at.result c.args.self.now c.prepare_regs.new.self c.process_operands_at.new.self e.1 e.2
+    step_trans_fails c.from_residual-in_err-process_operands_at.result c.args.self.now c.prepare_regs.new.self c.process_operands_at.new.self e.1 e.2
     c.prepare_regs.ensures.step.machine c.in_err-process_operands_at.ensures.step
 
 pub returns-in_err-process_operands_at-2-clause-step : goal.returns-in_err-process_operands_at-2-clause-step
 returns-in_err-process_operands_at-2-clause-step g c =
     let e = err_from_is_err_and c.from_residual-in_err-process_operands_at-2.result c.from_residual-in_err-process_operands_at-2.ensures.1 in
-    step_then_fails c.from_residual-in_err-process_operands_at-2.result c.args.self.now c.process_operands_at.new.self c.process_operands_at-2.new.self e.1 e.2
-    (same_then _ _ _ c.prepare_regs.ensures.step.machine c.process_operands_at.ensures.step.machine) c.in_err-process_operands_at-2.ensures.step
+    step_trans_fails c.from_residual-in_err-process_operands_at-2.result c.args.self.now c.process_operands_at.new.self c.process_operands_at-2.new.self e.1 e.2
+    (same_machine_trans _ _ _ c.prepare_regs.ensures.step.machine c.process_operands_at.ensures.step.machine) c.in_err-process_operands_at-2.ensures.step
 
 pub returns-in_err-move_uses-clause-step : goal.returns-in_err-move_uses-clause-step
 returns-in_err-move_uses-clause-step g c =
     let e = err_from_is_err_and c.from_residual-in_err-move_uses.result c.from_residual-in_err-move_uses.ensures.1 in
-    step_then_fails c.from_residual-in_err-move_uses.result c.args.self.now c.process_operands_at-2.new.self c.move_uses.new.self e.1 e.2
-    (same_then _ _ _ (same_then _ _ _ c.prepare_regs.ensures.step.machine c.process_operands_at.ensures.step.machine)
+    step_trans_fails c.from_residual-in_err-move_uses.result c.args.self.now c.process_operands_at-2.new.self c.move_uses.new.self e.1 e.2
+    (same_machine_trans _ _ _ (same_machine_trans _ _ _ c.prepare_regs.ensures.step.machine c.process_operands_at.ensures.step.machine)
     c.process_operands_at-2.ensures.step.machine) c.in_err-move_uses.ensures.step
 
 pub returns-clause-step : goal.returns-clause-step
 returns-clause-step g c = step_ok {t = tt {0}} c.args.self.now c.move_uses.new.self (c.before-2.ensures.point (λ e. omega (arith, c.requires.inst)))
-    (step_then {t = tt {0}} c.args.self.now c.process_operands_at-2.new.self c.move_uses.new.self
-    (step_then {t = tt {0}} c.args.self.now c.process_operands_at.new.self c.process_operands_at-2.new.self
-    (step_then c.args.self.now c.prepare_regs.new.self c.process_operands_at.new.self c.in_ok-sorted.ensures.step c.in_ok-process_operands_at.ensures.step)
+    (step_trans {t = tt {0}} c.args.self.now c.process_operands_at-2.new.self c.move_uses.new.self
+    (step_trans {t = tt {0}} c.args.self.now c.process_operands_at.new.self c.process_operands_at-2.new.self
+    (step_trans c.args.self.now c.prepare_regs.new.self c.process_operands_at.new.self c.in_ok-sorted.ensures.step c.in_ok-process_operands_at.ensures.step)
     c.in_ok-process_operands_at-2.ensures.step) c.in_ok-move_uses.ensures.step)
 
 -- where an instruction stops

@@ -15,7 +15,7 @@ use Rattle.regalloc2_fastalloc_proofs.specs.InstSteps.{StateValue, InTables, no_
 use Rattle.regalloc2_fastalloc_walk.specs.StateView.{tables_of, IsBranchStepAt}
 use Rattle.regalloc2_fastalloc_walk.specs.declared.state.State.{State}
 use Rattle.regalloc2_fastalloc_proofs.specs.BlockSteps.{AllocInstAt, in_inst, in_pass, DefinesBelow, offset_of, temp_slots_at}
-use Rattle.regalloc2_fastalloc_proofs.proofs.Safety.StateKept.{same_lends, lends_then, apart_kept, ends_in_branch, lack_all, lacks_all, lent_six, to_inst}
+use Rattle.regalloc2_fastalloc_proofs.proofs.Safety.StateKept.{adds_temp_slots_of_same_machine, adds_temp_slots_trans, apart_kept, ends_in_branch, lack_all, lacks_all, six_temp_slots_at_branch, to_inst}
 use Rattle.regalloc2_fastalloc_proofs.proofs.Walk.UsesReadOwnDefs.{all_in_tables}
 use Rattle.regalloc2_fastalloc_proofs.proofs.Branches.WellFormedMayBranch.{may_pass, parameters_differ}
 use Rattle.regalloc2_fastalloc_state.specs.Validate.NoLimits.{IsTakenOperand}
@@ -102,7 +102,7 @@ process_branch-requires g c =
         };
         differ = parameters_differ env f c.requires.well_formed.1 c.args.block c.requires.block;
         apart = apart_kept 0 (tables_of c.args.self.now) (tables_of c.alloc_inst_at.new.self)
-            (same_lends 0 (tables_of c.args.self.now) (tables_of c.alloc_inst_at.new.self) c.alloc_inst_at.ensures.step.machine) c.requires.apart;
+            (adds_temp_slots_of_same_machine 0 (tables_of c.args.self.now) (tables_of c.alloc_inst_at.new.self) c.alloc_inst_at.ensures.step.machine) c.requires.apart;
       },
     )
 
@@ -119,24 +119,24 @@ returns-in_err-unlimited-clause-step g c =
     let a : StateValue = tables_of c.args.self.now in
     let m : StateValue = tables_of c.alloc_inst_at.new.self in
     let p = err_from_is_err_and c.from_residual.result c.from_residual.ensures.1 in
-    branch_fails c.from_residual.result c.args.self.now c.alloc_inst_at.new.self p.1 p.2 (same_lends n a m c.alloc_inst_at.ensures.step.machine)
-    (lack_all 0 n a m (same_lends 0 a m c.alloc_inst_at.ensures.step.machine) (omega arith) _ c.in_err-unlimited.ensures.step.err)
+    branch_fails c.from_residual.result c.args.self.now c.alloc_inst_at.new.self p.1 p.2 (adds_temp_slots_of_same_machine n a m c.alloc_inst_at.ensures.step.machine)
+    (lack_all 0 n a m (adds_temp_slots_of_same_machine 0 a m c.alloc_inst_at.ensures.step.machine) (omega arith) _ c.in_err-unlimited.ensures.step.err)
 
 pub returns-in_err-process_branch-clause-step : goal.returns-in_err-process_branch-clause-step
 returns-in_err-process_branch-clause-step g c =
     let n : ℕ = temp_slots_at (g.F.Function.function c.args.cx.now.f.now) c.args.at.inst in
-    let few : n ≡ 6 = lent_six (g.F.Function.function c.args.cx.now.f.now) c.args.at.inst c.is_branch.result c.is_branch.ensures c.if-not-is_branch.false in
+    let few : n ≡ 6 = six_temp_slots_at_branch (g.F.Function.function c.args.cx.now.f.now) c.args.at.inst c.is_branch.result c.is_branch.ensures c.if-not-is_branch.false in
     let a : StateValue = tables_of c.args.self.now in
     let m : StateValue = tables_of c.alloc_inst_at.new.self in
     let p = err_from_is_err_and c.from_residual-in_err-process_branch.result c.from_residual-in_err-process_branch.ensures.1 in
     branch_fails c.from_residual-in_err-process_branch.result c.args.self.now c.process_branch.new.self p.1 p.2
-    (lends_then 0 6 n a m (tables_of c.process_branch.new.self) (omega (arith, few)) (same_lends 0 a m c.alloc_inst_at.ensures.step.machine)
+    (adds_temp_slots_trans 0 6 n a m (tables_of c.process_branch.new.self) (omega (arith, few)) (adds_temp_slots_of_same_machine 0 a m c.alloc_inst_at.ensures.step.machine)
     c.process_branch.ensures.step.machine)
-    (lacks_all 0 6 n a m (same_lends 0 a m c.alloc_inst_at.ensures.step.machine) (omega (arith, few)) _ c.in_err-process_branch.ensures.step.err)
+    (lacks_all 0 6 n a m (adds_temp_slots_of_same_machine 0 a m c.alloc_inst_at.ensures.step.machine) (omega (arith, few)) _ c.in_err-process_branch.ensures.step.err)
 
 pub returns-then-not-is_branch-clause-step : goal.returns-then-not-is_branch-clause-step
 returns-then-not-is_branch-clause-step g c = record {
-  machine = same_lends _ (tables_of c.args.self.now) (tables_of c.alloc_inst_at.new.self) c.alloc_inst_at.ensures.step.machine;
+  machine = adds_temp_slots_of_same_machine _ (tables_of c.args.self.now) (tables_of c.alloc_inst_at.new.self) c.alloc_inst_at.ensures.step.machine;
   later = c.in_ok-unlimited.ensures.step.later;
   long = c.in_ok-unlimited.ensures.step.long;
   err = tt;
@@ -144,13 +144,13 @@ returns-then-not-is_branch-clause-step g c = record {
 
 pub returns-clause-step : goal.returns-clause-step
 returns-clause-step g c =
-    let few = lent_six (g.F.Function.function c.args.cx.now.f.now) c.args.at.inst c.is_branch.result c.is_branch.ensures c.if-not-is_branch.false in
+    let few = six_temp_slots_at_branch (g.F.Function.function c.args.cx.now.f.now) c.args.at.inst c.is_branch.result c.is_branch.ensures c.if-not-is_branch.false in
     let a : StateValue = tables_of c.args.self.now in
     let m : StateValue = tables_of c.alloc_inst_at.new.self in
     record {
-      machine = lends_then 0 6 (temp_slots_at (g.F.Function.function c.args.cx.now.f.now) c.args.at.inst) a m (tables_of c.process_branch.new.self) (omega
+      machine = adds_temp_slots_trans 0 6 (temp_slots_at (g.F.Function.function c.args.cx.now.f.now) c.args.at.inst) a m (tables_of c.process_branch.new.self) (omega
           (arith, few))
-          (same_lends 0 a m c.alloc_inst_at.ensures.step.machine) c.process_branch.ensures.step.machine;
+          (adds_temp_slots_of_same_machine 0 a m c.alloc_inst_at.ensures.step.machine) c.process_branch.ensures.step.machine;
       later = c.in_ok-process_branch.ensures.step.later;
       long = c.in_ok-process_branch.ensures.step.long ∙ c.in_ok-unlimited.ensures.step.long;
       err = tt;

@@ -10,7 +10,7 @@ use Rattle.regalloc2_fastalloc_state.specs.StateParts.{AllAtOrAfter}
 use Rattle.regalloc2_fastalloc_proofs.specs.BlockStart.{ReloadsAtBegin, ReloadAtBegin}
 use Rattle.regalloc2_fastalloc_proofs.specs.BlockSteps.{DefinesBelow, at_reloads, at_stores}
 use Rattle.regalloc2_fastalloc_proofs.specs.InstSteps.{StateValue, no_register}
-use Rattle.regalloc2_fastalloc_proofs.proofs.Safety.StateKept.{same_lends, apart_kept, params_known}
+use Rattle.regalloc2_fastalloc_proofs.proofs.Safety.StateKept.{adds_temp_slots_of_same_machine, apart_kept, params_known}
 use Rattle.regalloc2_fastalloc_walk.specs.StateView.{tables_of}
 use Rattle.regalloc2_fastalloc_walk.proofs.Steps.{fails_with, step_after}
 use Rattle.regalloc2_fastalloc_walk.proofs.state.State.begin_block.Goals as goal
@@ -50,7 +50,7 @@ store_branch_defs-requires g c =
         defs = c.requires.defs;
         room = subst (DefinesBelow f) (sym (c.reload_at_begin.new.self.same_long ∙ c.in_ok-reload_at_begin.ensures.step.long)) c.requires.room;
         apart = apart_kept 0 (tables_of c.args.self.now) (tables_of c.reload_at_begin.new.self)
-            (same_lends 0 (tables_of c.args.self.now) (tables_of c.reload_at_begin.new.self) c.reload_at_begin.ensures.step.machine) c.requires.apart;
+            (adds_temp_slots_of_same_machine 0 (tables_of c.args.self.now) (tables_of c.reload_at_begin.new.self) c.reload_at_begin.ensures.step.machine) c.requires.apart;
         later = subst (λ (n : ℕ). AllAtOrAfter (before n) c.reload_at_begin.new.self.edits) first c.in_ok-reload_at_begin.ensures.step.later;
       },
     )

@@ -1,10 +1,10 @@
 use Rattle.std.proofs.Common.{List, sym, ap, ◌∙◌}
 use Rattle.regalloc2_fastalloc_state.proofs.ValidateLemmas.OperandReads.{read_operand}
 use Rattle.regalloc2_names.specs.Operand.{OperandValue}
-use Rattle.regalloc2_fastalloc_walk.proofs.RegsReserved.{claim_is, reserves_nothing, reserves_it, same_claim}
+use Rattle.regalloc2_fastalloc_walk.proofs.RegsReserved.{claim_is, reserves_without_claim, reserves_it, same_claim}
 use Rattle.regalloc2_fastalloc_walk.proofs.Steps.{outcome_of}
 use Rattle.regalloc2_fastalloc_walk.specs.StateView.{tables_of}
-use Rattle.regalloc2_fastalloc_walk.proofs.Clashes.{none_is_nothing}
+use Rattle.regalloc2_fastalloc_walk.proofs.Clashes.{none_is_not_some_of}
 use Rattle.regalloc2_fastalloc_walk.proofs.state.State.claim.Goals as goal
 
 pub returns-in-Some-clause-outcome : goal.returns-in-Some-clause-outcome
@@ -20,6 +20,6 @@ pub returns-clause-outcome : goal.returns-clause-outcome
 returns-clause-outcome g c =
     let ops : List OperandValue = c.args.operands.now in
     let o = read_operand ops c.args.k c.index-operands-k.result c.requires c.index-operands-k.is in
-    reserves_nothing ops c.args.k c.args.inst_regs.now c.remove_unclaimed.new.inst_regs c.args.claims.now (tables_of c.args.self.now)
-    (λ r p h. none_is_nothing (sym c.in_default.is ∙ c.reserved_by.ensures.all r p h)) c.remove_unclaimed.ensures.shrinks
+    reserves_without_claim ops c.args.k c.args.inst_regs.now c.remove_unclaimed.new.inst_regs c.args.claims.now (tables_of c.args.self.now)
+    (λ r p h. none_is_not_some_of (sym c.in_default.is ∙ c.reserved_by.ensures.all r p h)) c.remove_unclaimed.ensures.shrinks
     (λ r was now. (c.args.k, c.requires, ap (λ (x : OperandValue). x.constraint) (sym o) ∙ c.remove_unclaimed.ensures.takes r was now))

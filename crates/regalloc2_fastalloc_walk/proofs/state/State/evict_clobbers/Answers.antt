@@ -8,7 +8,7 @@ use Rattle.regalloc2_fastalloc_walk.proofs.FilledClobbers.{AreLeftOut, are_small
 use Rattle.regalloc2_fastalloc_walk.specs.StateView.{tables_of}
 use Rattle.regalloc2_fastalloc_proofs.proofs.Evictions.EvictClobbers.{evicts_each_step, evicts_each_more}
 use Rattle.std.proofs.lemmas.Result.{err_from_is_err_and}
-use Rattle.regalloc2_fastalloc_walk.proofs.Steps.{step_then_fails}
+use Rattle.regalloc2_fastalloc_walk.proofs.Steps.{step_trans_fails}
 use Rattle.regalloc2_fastalloc_walk.proofs.StepsFail.{step_none}
 use Rattle.regalloc2_fastalloc_walk.proofs.Clashes.{not_both}
 use Rattle.regalloc2_fastalloc_walk.proofs.state.State.evict_clobbers.Goals as goal
@@ -88,5 +88,5 @@ returns-in_err-evict_preg-clause-awaited g c = c.evict_preg.ensures.awaited ∙ 
 pub returns-in_err-evict_preg-clause-step : goal.returns-in_err-evict_preg-clause-step
 returns-in_err-evict_preg-clause-step g c =
     let e = err_from_is_err_and c.from_residual.result c.from_residual.ensures.1 in
-    step_then_fails c.from_residual.result c.args.self.now c.loop-preg.self c.evict_preg.new.self e.1 e.2 c.loop-preg.invariant.machine
+    step_trans_fails c.from_residual.result c.args.self.now c.loop-preg.self c.evict_preg.new.self e.1 e.2 c.loop-preg.invariant.machine
     c.in_err-evict_preg.ensures.step

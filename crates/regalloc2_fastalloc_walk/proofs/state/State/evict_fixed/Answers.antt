@@ -3,12 +3,12 @@ use Rattle.regalloc2_names.specs.Register.{VirtualRegister}
 use Rattle.regalloc2_names.specs.Operand.{OperandValue}
 use Rattle.regalloc2_function.specs.FunctionValue.{op_at}
 use Rattle.regalloc2_fastalloc_proofs.specs.InstSteps.{StateValue, EvictsOtherVRegs, EvictsFixed, none_cleared, not_fixed, of_fixed, of_reuse}
-use Rattle.regalloc2_fastalloc_proofs.proofs.Evictions.PushedAndRemoved.{same_then}
+use Rattle.regalloc2_fastalloc_proofs.proofs.Evictions.PushedAndRemoved.{same_machine_trans}
 use Rattle.regalloc2_fastalloc_walk.specs.StateView.{tables_of}
 use Rattle.regalloc2_fastalloc_state.proofs.ValidateLemmas.OperandReads.{read_operand, read_vreg}
 use Rattle.std.proofs.lemmas.Result.{err_from_is_err_and}
 use Rattle.regalloc2_fastalloc_walk.proofs.RegsReserved.{evicts_none}
-use Rattle.regalloc2_fastalloc_walk.proofs.Steps.{stops_others, step_then_fails}
+use Rattle.regalloc2_fastalloc_walk.proofs.Steps.{stops_others, step_trans_fails}
 use Rattle.regalloc2_fastalloc_walk.proofs.StepsFail.{step_none}
 use Rattle.regalloc2_fastalloc_walk.proofs.state.State.evict_fixed.Goals as goal
 use Rattle.regalloc2_fastalloc_walk.proofs.state.State.evict_fixed.Goals.{in-FixedReg+in_ok-evict_other_vregs-in-FixedReg}
@@ -52,7 +52,7 @@ loop-k-preserved g c =
             awaited = w.evict_other_vregs.ensures.awaited ∙ h.awaited;
             later = w.in_ok-evict_other_vregs-in-FixedReg.ensures.step.later;
             long = w.in_ok-evict_other_vregs-in-FixedReg.ensures.step.long ∙ h.long;
-            machine = same_then begin m n h.machine w.in_ok-evict_other_vregs-in-FixedReg.ensures.step.machine;
+            machine = same_machine_trans begin m n h.machine w.in_ok-evict_other_vregs-in-FixedReg.ensures.step.machine;
           })
       | in-Reuse+in-Some+in_ok-evict_preg-in-Reuse w ↦ rw (w.self-is, w.inst_regs-is) (
           let n : StateValue = tables_of w.evict_preg.new.self in
@@ -63,7 +63,7 @@ loop-k-preserved g c =
             awaited = w.evict_preg.ensures.awaited ∙ h.awaited;
             later = w.in_ok-evict_preg-in-Reuse.ensures.step.later;
             long = w.in_ok-evict_preg-in-Reuse.ensures.step.long ∙ h.long;
-            machine = same_then begin m n h.machine w.in_ok-evict_preg-in-Reuse.ensures.step.machine;
+            machine = same_machine_trans begin m n h.machine w.in_ok-evict_preg-in-Reuse.ensures.step.machine;
           })
       | in-Reuse+in_default-reused_register w ↦ rw (w.self-is, w.inst_regs-is) (record {
         cleared = not_fixed k c.loop-k.inst_regs m h.cleared (λ r e. let x = sym (at ∙ w.in-Reuse.is) ∙ e in cc)
@@ -122,5 +122,5 @@ returns-in_err-evict_other_vregs-in-FixedReg-clause-awaited g c = c.evict_other_
 pub returns-in_err-evict_other_vregs-in-FixedReg-clause-step : goal.returns-in_err-evict_other_vregs-in-FixedReg-clause-step
 returns-in_err-evict_other_vregs-in-FixedReg-clause-step g c =
     let e = err_from_is_err_and c.from_residual.result c.from_residual.ensures.1 in
-    step_then_fails c.from_residual.result c.args.self.now c.loop-k.self c.evict_other_vregs.new.self e.1 e.2 c.loop-k.invariant.machine
+    step_trans_fails c.from_residual.result c.args.self.now c.loop-k.self c.evict_other_vregs.new.self e.1 e.2 c.loop-k.invariant.machine
     c.in_err-evict_other_vregs-in-FixedReg.ensures.step

@@ -15,9 +15,9 @@ use Rattle.regalloc2_fastalloc_proofs.specs.BlockSteps.{MayBeAllocated}
 use Rattle.regalloc2_fastalloc_walk.proofs.OwnDefs.{own_by, by_own, gathers_as, fails_as}
 use Rattle.regalloc2_fastalloc_walk.specs.OwnDefs.{IsOwnBy}
 use Rattle.regalloc2_fastalloc_walk.specs.StateView.{tables_of}
-use Rattle.regalloc2_fastalloc_proofs.proofs.Branches.ArgMovesAreParallel.{known_still, gathers_edge_moves_at}
-use Rattle.regalloc2_fastalloc_proofs.proofs.Evictions.PushedAndRemoved.{same_then}
-use Rattle.regalloc2_fastalloc_walk.proofs.Steps.{step_then_fails}
+use Rattle.regalloc2_fastalloc_proofs.proofs.Branches.ArgMovesAreParallel.{vregs_stay_in_tables, gathers_edge_moves_at}
+use Rattle.regalloc2_fastalloc_proofs.proofs.Evictions.PushedAndRemoved.{same_machine_trans}
+use Rattle.regalloc2_fastalloc_walk.proofs.Steps.{step_trans_fails}
 use Rattle.regalloc2_fastalloc_walk.proofs.state.State.gather.Goals as goal
 
 pub loop-k-init : goal.loop-k-init
@@ -54,9 +54,9 @@ gather_edge-requires g c =
         inst = c.requires.inst;
         later = c.loop-k.invariant.later;
         counted = ap (λ (l : List VirtualRegister). length l) xs ∙ c.requires.may_pass.counted k lt ∙ ap (λ (l : List VirtualRegister). length l) (sym ps);
-        parameters = known_still (block_at f (target_at f c.args.block k)).params c.block_params-params.result.now (tables_of c.args.self.now) (tables_of
+        parameters = vregs_stay_in_tables (block_at f (target_at f c.args.block k)).params c.block_params-params.result.now (tables_of c.args.self.now) (tables_of
             c.loop-k.self) ps c.loop-k.invariant.long (c.requires.may_pass.parameters k lt);
-        arguments = known_still (arguments_at f c.args.block k) c.branch_blockparams-arguments.result.now (tables_of c.args.self.now) (tables_of c.loop-k.self) xs
+        arguments = vregs_stay_in_tables (arguments_at f c.args.block k) c.branch_blockparams-arguments.result.now (tables_of c.args.self.now) (tables_of c.loop-k.self) xs
             c.loop-k.invariant.long (c.requires.may_pass.arguments k lt);
       },
     )
@@ -107,7 +107,7 @@ loop-k-preserved g c =
       );
       later = c.in_ok-gather_edge.ensures.step.later;
       long = c.in_ok-gather_edge.ensures.step.long ∙ c.loop-k.invariant.long;
-      machine = same_then (tables_of c.args.self.now) m n c.loop-k.invariant.machine c.gather_edge.ensures.step.machine;
+      machine = same_machine_trans (tables_of c.args.self.now) m n c.loop-k.invariant.machine c.gather_edge.ensures.step.machine;
     }
 
 pub returns-clause-outcome : goal.returns-clause-outcome
@@ -165,5 +165,5 @@ returns-clause-step g c = record {
 pub returns-in_err-gather_edge-clause-step : goal.returns-in_err-gather_edge-clause-step
 returns-in_err-gather_edge-clause-step g c =
     let e = err_from_is_err_and c.from_residual.result c.from_residual.ensures.1 in
-    step_then_fails c.from_residual.result c.args.self.now c.loop-k.self c.gather_edge.new.self e.1 e.2 c.loop-k.invariant.machine
+    step_trans_fails c.from_residual.result c.args.self.now c.loop-k.self c.gather_edge.new.self e.1 e.2 c.loop-k.invariant.machine
     c.in_err-gather_edge.ensures.step

@@ -2,10 +2,10 @@ use Rattle.std.proofs.Common.{◌++◌, ◌∷◌, [], refl, sym, ◌∙◌, sub
 use Rattle.std.proofs.lemmas.Result.{err_from_is_err_and}
 use Rattle.regalloc2_names.specs.declared.RegClass.{RegClass}
 use Rattle.regalloc2_fastalloc_proofs.specs.BranchSteps.{AreOf, ClassMove}
-use Rattle.regalloc2_fastalloc_proofs.proofs.Branches.ArgMovesAreParallel.{settled_slot}
+use Rattle.regalloc2_fastalloc_proofs.proofs.Branches.ArgMovesAreParallel.{spilled_argument_in_slot}
 use Rattle.regalloc2_fastalloc_walk.specs.StateView.{tables_of}
 use Rattle.regalloc2_fastalloc_proofs.specs.InstSteps.{SameMachine}
-use Rattle.regalloc2_fastalloc_proofs.proofs.Evictions.PushedAndRemoved.{same_then}
+use Rattle.regalloc2_fastalloc_proofs.proofs.Evictions.PushedAndRemoved.{same_machine_trans}
 use Rattle.regalloc2_fastalloc_walk.proofs.Steps.{fails_with, outcome_of}
 use Rattle.regalloc2_fastalloc_walk.proofs.StepsFail.{no_lack, fails_only_for_memory}
 use Rattle.regalloc2_fastalloc_walk.proofs.Clashes.{slots_are_no_registers}
@@ -16,7 +16,7 @@ get_spillslot-requires g c = omega (arith, c.requires.param, c.args.self.now.sam
 
 pub add-requires : goal.add-requires
 add-requires g c =
-    let s = settled_slot c.args.point c.args.argument c.in_ok-from.from c.args.inst_regs.now c.spill_argument.new.inst_regs
+    let s = spilled_argument_in_slot c.args.point c.args.argument c.in_ok-from.from c.args.inst_regs.now c.spill_argument.new.inst_regs
     (record (tables_of c.args.self.now) { slots = c.get_spillslot.new.self }) (tables_of c.spill_argument.new.self) c.in_ok-from.ensures.outcome in
     record { from = s.1; to = c.in_ok-to.ensures.ok.there }
 
@@ -101,7 +101,7 @@ returns-in_err-from-clause-step g c =
       num_temp_slots = c.get_spillslot.ensures.num_temp_slots;
     } in
     fails_with c.from_residual-in_err-from.result c.args.self.now c.spill_argument.new.self e.1 e.2
-    (same_then _ _ _ made c.in_err-from.ensures.step.machine) c.in_err-from.ensures.step.err
+    (same_machine_trans _ _ _ made c.in_err-from.ensures.step.machine) c.in_err-from.ensures.step.err
 
 pub returns-clause-step : goal.returns-clause-step
 returns-clause-step g c =
@@ -113,5 +113,5 @@ returns-clause-step g c =
       vregs = c.get_spillslot.ensures.vregs;
       num_temp_slots = c.get_spillslot.ensures.num_temp_slots;
     } in
-    fails_only_for_memory c.add.result c.args.self.now c.spill_argument.new.self (same_then _ _ _ made c.in_ok-from.ensures.step.machine)
+    fails_only_for_memory c.add.result c.args.self.now c.spill_argument.new.self (same_machine_trans _ _ _ made c.in_ok-from.ensures.step.machine)
     c.in_ok-from.ensures.step.long c.in_ok-from.ensures.step.later c.add.ensures.err

@@ -8,7 +8,7 @@ use Rattle.regalloc2_fastalloc_proofs.specs.BranchSteps.{AreOf, ClassMove, Gathe
 use Rattle.regalloc2_fastalloc_proofs.specs.BranchSteps.{GatherEdge, SpillArgument}
 use Rattle.regalloc2_fastalloc_proofs.specs.InstSteps.{StateValue, no_register}
 use Rattle.regalloc2_fastalloc_state.specs.StateParts.{AllAtOrAfter, GetsSpillSlot}
-use Rattle.regalloc2_fastalloc_proofs.proofs.Evictions.PushedAndRemoved.{same_then}
+use Rattle.regalloc2_fastalloc_proofs.proofs.Evictions.PushedAndRemoved.{same_machine_trans}
 use Rattle.regalloc2_fastalloc_walk.specs.OwnDefs.{IsOwnBy}
 use Rattle.regalloc2_fastalloc_walk.specs.StateView.{tables_of}
 use Rattle.regalloc2_fastalloc_walk.proofs.state.State.gather_edge.Goals.{then-not-has+in_ok-gather_argument, else-not-has}
@@ -80,7 +80,7 @@ loop-j-preserved g c =
                 );
             later = w.in_ok-gather_argument.ensures.step.later;
             long = w.in_ok-gather_argument.ensures.step.long ∙ c.loop-j.invariant.long;
-            machine = same_then (tables_of c.args.self.now) m o c.loop-j.invariant.machine w.in_ok-gather_argument.ensures.step.machine;
+            machine = same_machine_trans (tables_of c.args.self.now) m o c.loop-j.invariant.machine w.in_ok-gather_argument.ensures.step.machine;
           })
       | else-not-has w ↦ rw (w.self-is, w.inst_regs-is, w.moves-is) (record {
         done = λ given is.

@@ -2,7 +2,7 @@ use Rattle.std.proofs.Common.{refl, sym, ◌∙◌, arith, rules}
 use Rattle.std.proofs.lemmas.List.{get_or_read}
 use Rattle.std.proofs.lemmas.Result.{err_from_is_err_and}
 use Rattle.regalloc2_names.specs.Place.{NoPlace}
-use Rattle.regalloc2_fastalloc_proofs.proofs.Evictions.PushedAndRemoved.{same_then}
+use Rattle.regalloc2_fastalloc_proofs.proofs.Evictions.PushedAndRemoved.{same_machine_trans}
 use Rattle.regalloc2_fastalloc_walk.specs.StateView.{tables_of}
 use Rattle.regalloc2_fastalloc_walk.proofs.UsesInTurn.{none_moved_yet, use_moved, use_next, use_passed, use_stops, use_within, uses_all}
 use Rattle.regalloc2_fastalloc_walk.proofs.state.State.move_uses.Goals as goal
@@ -40,7 +40,7 @@ loop-k-preserved-in-Continue-1 g c =
           c.in_ok-move_use.ensures.outcome;
       later = c.in_ok-move_use.ensures.step.later;
       long = c.in_ok-move_use.ensures.step.long ∙ c.loop-k.invariant.long;
-      machine = same_then (tables_of c.args.self.now) (tables_of c.loop-k.self) (tables_of c.move_use.new.self) c.loop-k.invariant.machine
+      machine = same_machine_trans (tables_of c.args.self.now) (tables_of c.loop-k.self) (tables_of c.move_use.new.self) c.loop-k.invariant.machine
           c.in_ok-move_use.ensures.step.machine;
     }
 

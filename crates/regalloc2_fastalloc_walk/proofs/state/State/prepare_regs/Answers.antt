@@ -6,9 +6,9 @@ use Rattle.regalloc2_names.specs.Operand.{OperandValue}
 use Rattle.regalloc2_fastalloc_state.specs.StateParts.{AllAtOrAfter}
 use Rattle.regalloc2_fastalloc_proofs.specs.InstSteps.{StateValue, EvictsFixed, EvictsEach, no_register, EvictFixed, EvictEach, in_reserve, in_fixed}
 use Rattle.regalloc2_fastalloc_proofs.specs.InstSteps.{in_clobbers}
-use Rattle.regalloc2_fastalloc_proofs.proofs.Evictions.PushedAndRemoved.{same_then}
+use Rattle.regalloc2_fastalloc_proofs.proofs.Evictions.PushedAndRemoved.{same_machine_trans}
 use Rattle.regalloc2_fastalloc_proofs.proofs.Evictions.FixedUsed.{fails_from, evicts_fixed_from, same_used}
-use Rattle.regalloc2_fastalloc_walk.proofs.Steps.{fails_with, step_then_fails}
+use Rattle.regalloc2_fastalloc_walk.proofs.Steps.{fails_with, step_trans_fails}
 use Rattle.regalloc2_fastalloc_walk.specs.StateView.{tables_of}
 use Rattle.regalloc2_fastalloc_walk.proofs.state.State.prepare_regs.Goals as goal
 
@@ -56,7 +56,7 @@ returns-clause-step g c =
     let same : tables_of c.remove_clobbers_from_available_pregs.new.self ≡ record (tables_of c.args.self.now) { lrus = c.reserve.new.self.registers.lrus } =
     c.remove_clobbers_from_available_pregs.ensures.same ∙ c.reserve.ensures.same in
     record {
-      machine = same_then _ _ _ (same_then _ _ _ (same_used _ _ _ same) c.evict_fixed.ensures.step.machine) c.evict_clobbers.ensures.step.machine;
+      machine = same_machine_trans _ _ _ (same_machine_trans _ _ _ (same_used _ _ _ same) c.evict_fixed.ensures.step.machine) c.evict_clobbers.ensures.step.machine;
       later = subst (λ (p : ℕ). AllAtOrAfter p c.evict_clobbers.new.self.edits) at c.in_ok-evict_clobbers.ensures.step.later;
       long = c.in_ok-evict_clobbers.ensures.step.long ∙ c.in_ok-evict_fixed.ensures.step.long ∙ ap (λ (t : StateValue). length t.places.vreg_allocs) same;
       err = search rules;
@@ -71,14 +71,14 @@ returns-in_err-sorted-clause-step g c =
 pub returns-in_err-evict_fixed-clause-step : goal.returns-in_err-evict_fixed-clause-step
 returns-in_err-evict_fixed-clause-step g c =
     let e = err_from_is_err_and c.from_residual-in_err-evict_fixed.result c.from_residual-in_err-evict_fixed.ensures.1 in
-    step_then_fails c.from_residual-in_err-evict_fixed.result c.args.self.now c.remove_clobbers_from_available_pregs.new.self c.evict_fixed.new.self e.1 e.2
+    step_trans_fails c.from_residual-in_err-evict_fixed.result c.args.self.now c.remove_clobbers_from_available_pregs.new.self c.evict_fixed.new.self e.1 e.2
     (same_used _ _ _ (c.remove_clobbers_from_available_pregs.ensures.same ∙ c.reserve.ensures.same)) c.in_err-evict_fixed.ensures.step
 
 pub returns-in_err-evict_clobbers-clause-step : goal.returns-in_err-evict_clobbers-clause-step
 returns-in_err-evict_clobbers-clause-step g c =
     let e = err_from_is_err_and c.from_residual-in_err-evict_clobbers.result c.from_residual-in_err-evict_clobbers.ensures.1 in
-    step_then_fails c.from_residual-in_err-evict_clobbers.result c.args.self.now c.evict_fixed.new.self c.evict_clobbers.new.self e.1 e.2
-    (same_then _ _ _ (same_used _ _ _ (c.remove_clobbers_from_available_pregs.ensures.same ∙ c.reserve.ensures.same)) c.evict_fixed.ensures.step.machine)
+    step_trans_fails c.from_residual-in_err-evict_clobbers.result c.args.self.now c.evict_fixed.new.self c.evict_clobbers.new.self e.1 e.2
+    (same_machine_trans _ _ _ (same_used _ _ _ (c.remove_clobbers_from_available_pregs.ensures.same ∙ c.reserve.ensures.same)) c.evict_fixed.ensures.step.machine)
     c.in_err-evict_clobbers.ensures.step
 
 -- what is lacking

@@ -10,22 +10,22 @@ use Rattle.regalloc2_fastalloc_state.specs.ScratchPool.{Moves}
 use Rattle.regalloc2_fastalloc_proofs.specs.InstSteps.{StateValue}
 use Rattle.regalloc2_fastalloc_walk.specs.StateView.{tables_of}
 use Rattle.regalloc2_fastalloc_state.specs.StateParts.{AllAtOrAfter}
-use Rattle.regalloc2_fastalloc_proofs.proofs.Branches.ArgMovesAreParallel.{full_before, gathered_below, gathered_sources, lends_none, pushes_at, pushes_long}
-use Rattle.regalloc2_fastalloc_proofs.proofs.Safety.StateKept.{lends_then, none_lends, same_lends, apart_kept}
-use Rattle.regalloc2_fastalloc_state.proofs.SpillSlotUnits.{lacks_then}
-use Rattle.regalloc2_fastalloc_walk.proofs.NothingPassed.{processes_nothing}
+use Rattle.regalloc2_fastalloc_proofs.proofs.Branches.ArgMovesAreParallel.{full_before, gathered_below, gathered_sources, adds_no_temp_slots, pushes_at, pushes_long}
+use Rattle.regalloc2_fastalloc_proofs.proofs.Safety.StateKept.{adds_temp_slots_trans, adds_temp_slots_refl, adds_temp_slots_of_same_machine, apart_kept}
+use Rattle.regalloc2_fastalloc_state.proofs.SpillSlotUnits.{resource_error_weaken}
+use Rattle.regalloc2_fastalloc_walk.proofs.NoMovesPassed.{branch_without_arguments}
 use Rattle.std.specs.Prelude.{OnOk}
 use Rattle.regalloc2_fastalloc_walk.proofs.state.State.process_branch.Goals as goal
 
 -- a branch that passes nothing is done at once
 pub returns-then-passes_nothing-clause-outcome : goal.returns-then-passes_nothing-clause-outcome
 returns-then-passes_nothing-clause-outcome g c =
-    processes_nothing (g.F.Function.function c.args.cx.now.f.now) c.args.block c.args.inst_regs.now (tables_of c.args.self.now)
+    branch_without_arguments (g.F.Function.function c.args.cx.now.f.now) c.args.block c.args.inst_regs.now (tables_of c.args.self.now)
     (c.if-passes_nothing.ensures.0 refl) c.args.inst
 
 pub returns-then-passes_nothing-clause-step : goal.returns-then-passes_nothing-clause-step
 returns-then-passes_nothing-clause-step g c = record {
-  machine = none_lends 6 (tables_of c.args.self.now);
+  machine = adds_temp_slots_refl 6 (tables_of c.args.self.now);
   later = c.requires.gathering.later;
   long = refl;
   err = search rules;
@@ -50,7 +50,7 @@ push_gathered-requires g c =
         ints = each Int c.in_ok-moves.moves.int x.1.int;
         floats = each Float c.in_ok-moves.moves.float x.1.float;
         vectors = each Vector c.in_ok-moves.moves.vector x.1.vector;
-        apart = apart_kept 0 old m (lends_none old m c.gather.ensures.step.machine) c.requires.apart;
+        apart = apart_kept 0 old m (adds_no_temp_slots old m c.gather.ensures.step.machine) c.requires.apart;
         later = subst (λ (p : ℕ). AllAtOrAfter p c.gather.new.self.edits) (sym at) c.in_ok-moves.ensures.step.later;
       },
     )
@@ -89,9 +89,9 @@ returns-clause-step g c =
     let u = c.gather.new.inst_regs in
     let p : ℕ = c.before-point.result in
     let Full : Type 0 = SlotsExhaustedWith old.slots (old.slots.num_temp_slots + 6) in
-    let lends = lends_none old b c.gather.ensures.step.machine in
+    let lends = adds_no_temp_slots old b c.gather.ensures.step.machine in
     record {
-      machine = lends_then 0 6 6 old b (tables_of c.push_gathered.new.self) (omega arith) lends c.push_gathered.ensures.machine;
+      machine = adds_temp_slots_trans 0 6 6 old b (tables_of c.push_gathered.new.self) (omega arith) lends c.push_gathered.ensures.machine;
       later = subst (λ (n : ℕ). OnOk c.push_gathered.result (AllAtOrAfter n c.push_gathered.new.self.edits)) at c.push_gathered.ensures.later;
       long = MatchResult-weaker c.push_gathered.result c.push_gathered.ensures.outcome
           (λ v y. pushes_long p u Vector c.in_ok-moves.moves.vector y.after_floats (tables_of c.push_gathered.new.self) y.vector
@@ -100,7 +100,7 @@ returns-clause-step g c =
           ∙ c.in_ok-moves.ensures.step.long)
           (λ e stops. tt);
       err = IfErr-weaker c.push_gathered.result (IsResourceError (SlotsExhaustedWith b.slots (b.slots.num_temp_slots + 6))) (IsResourceError Full)
-          (lacks_then (SlotsExhaustedWith b.slots (b.slots.num_temp_slots + 6)) Full
+          (resource_error_weaken (SlotsExhaustedWith b.slots (b.slots.num_temp_slots + 6)) Full
           (full_before 0 (b.slots.num_temp_slots + 6) 6 old b lends (omega arith)))
           c.push_gathered.ensures.err;
     }
@@ -113,11 +113,11 @@ returns-in_err-moves-clause-step g c =
     let p = err_from_is_err_and c.from_residual.result c.from_residual.ensures.1 in
     let Full : Type 0 = SlotsExhaustedWith old.slots (old.slots.num_temp_slots + 6) in
     rw p.1 (record {
-      machine = same_lends 6 old b c.gather.ensures.step.machine;
+      machine = adds_temp_slots_of_same_machine 6 old b c.gather.ensures.step.machine;
       later = search rules;
       long = search rules;
       err = subst (IsResourceError Full) (sym p.2)
-          (lacks_then (SlotsExhausted b.slots) Full (full_before 0 b.slots.num_temp_slots 6 old b (lends_none old b c.gather.ensures.step.machine)
+          (resource_error_weaken (SlotsExhausted b.slots) Full (full_before 0 b.slots.num_temp_slots 6 old b (adds_no_temp_slots old b c.gather.ensures.step.machine)
           (omega arith)) _
           c.in_err-moves.ensures.step.err);
     })

@@ -1,8 +1,8 @@
 use Rattle.std.proofs.Common.{refl, sym, ◌∙◌, arith, rules}
 use Rattle.std.proofs.lemmas.Result.{err_from_is_err_and}
-use Rattle.regalloc2_fastalloc_proofs.proofs.Evictions.PushedAndRemoved.{same_then}
+use Rattle.regalloc2_fastalloc_proofs.proofs.Evictions.PushedAndRemoved.{same_machine_trans}
 use Rattle.regalloc2_fastalloc_walk.specs.StateView.{tables_of}
-use Rattle.regalloc2_fastalloc_walk.proofs.InstPlaced.{still_in_tables}
+use Rattle.regalloc2_fastalloc_walk.proofs.InstPlaced.{operands_stay_in_tables}
 use Rattle.regalloc2_fastalloc_walk.proofs.OperandsProcessed.{none_processed, processed_all, processed_more, processed_next, processed_stops}
 use Rattle.regalloc2_fastalloc_walk.proofs.state.State.process_each_at.Goals as goal
 
@@ -25,7 +25,7 @@ process_operand_allocation-requires g c =
           (
             c.loop-k.invariant.later,
             (
-              still_in_tables _ (tables_of c.args.self.now) (tables_of c.loop-k.self) c.loop-k.invariant.long c.requires.in_tables,
+              operands_stay_in_tables _ (tables_of c.args.self.now) (tables_of c.loop-k.self) c.loop-k.invariant.long c.requires.in_tables,
               omega (arith, c.requires.allocs_long, c.loop-k.auto.allocs),
             ),
           ),
@@ -38,7 +38,7 @@ loop-k-preserved g c = record {
   done = processed_more c.loop-k.invariant.done c.in-Some.ensures.steps c.in_ok-process_operand_allocation.ensures.outcome;
   later = c.in_ok-process_operand_allocation.ensures.step.later;
   long = c.in_ok-process_operand_allocation.ensures.step.long ∙ c.loop-k.invariant.long;
-  machine = same_then (tables_of c.args.self.now) (tables_of c.loop-k.self) (tables_of c.process_operand_allocation.new.self) c.loop-k.invariant.machine
+  machine = same_machine_trans (tables_of c.args.self.now) (tables_of c.loop-k.self) (tables_of c.process_operand_allocation.new.self) c.loop-k.invariant.machine
       c.in_ok-process_operand_allocation.ensures.step.machine;
 }
 

@@ -8,9 +8,9 @@ use Rattle.regalloc2_fastalloc_proofs.specs.BranchSteps.{LacksMoveReg}
 use Rattle.regalloc2_fastalloc_state.specs.OutOfResources.{SlotsExhaustedWith, IsResourceError}
 use Rattle.regalloc2_fastalloc_proofs.specs.InstSteps.{StateValue}
 use Rattle.regalloc2_fastalloc_walk.specs.StateView.{tables_of}
-use Rattle.regalloc2_fastalloc_proofs.proofs.Branches.ArgMovesAreParallel.{between_more, full_before, lends_same, lends_then, pushes_grow}
-use Rattle.regalloc2_fastalloc_proofs.proofs.Safety.StateKept.{apart_kept, none_lends, lends_then as lends_in_all}
-use Rattle.regalloc2_fastalloc_state.proofs.SpillSlotUnits.{lacks_then}
+use Rattle.regalloc2_fastalloc_proofs.proofs.Branches.ArgMovesAreParallel.{between_more, full_before, adds_temp_slots_same, adds_temp_slots_add, pushes_grow}
+use Rattle.regalloc2_fastalloc_proofs.proofs.Safety.StateKept.{apart_kept, adds_temp_slots_refl, adds_temp_slots_trans}
+use Rattle.regalloc2_fastalloc_state.proofs.SpillSlotUnits.{resource_error_weaken}
 use Rattle.regalloc2_fastalloc_walk.proofs.state.State.push_gathered.Goals as goal
 
 pub push_moves-requires : goal.push_moves-requires
@@ -33,7 +33,7 @@ push_moves-requires-2 g c =
             one_source = c.requires.floats.one_source;
           };
           apart = apart_kept (0 + 2) old (tables_of c.push_moves.new.self)
-              (lends_then (0) 2 old (tables_of c.args.self.now) (tables_of c.push_moves.new.self) (lends_same 0 old old refl) c.push_moves.ensures.machine)
+              (adds_temp_slots_add (0) 2 old (tables_of c.args.self.now) (tables_of c.push_moves.new.self) (adds_temp_slots_same 0 old old refl) c.push_moves.ensures.machine)
               c.requires.apart;
           later = c.in_ok-push_moves.ensures.later;
         },
@@ -57,8 +57,8 @@ push_moves-requires-3 g c =
             one_source = c.requires.vectors.one_source;
           };
           apart = apart_kept (0 + 2 + 2) old (tables_of c.push_moves-2.new.self)
-              (lends_then (0 + 2) 2 old (tables_of c.push_moves.new.self) (tables_of c.push_moves-2.new.self)
-              (lends_then (0) 2 old (tables_of c.args.self.now) (tables_of c.push_moves.new.self) (lends_same 0 old old refl) c.push_moves.ensures.machine)
+              (adds_temp_slots_add (0 + 2) 2 old (tables_of c.push_moves.new.self) (tables_of c.push_moves-2.new.self)
+              (adds_temp_slots_add (0) 2 old (tables_of c.args.self.now) (tables_of c.push_moves.new.self) (adds_temp_slots_same 0 old old refl) c.push_moves.ensures.machine)
               c.push_moves-2.ensures.machine) c.requires.apart;
           later = c.in_ok-push_moves-2.ensures.later;
         },
@@ -89,8 +89,8 @@ returns-in_err-push_moves-clause-err g c =
     let p = err_from_is_err_and c.from_residual.result c.from_residual.ensures.1 in
     let Full : Type 0 = SlotsExhaustedWith old.slots (old.slots.num_temp_slots + 6) in
     rw p.1 (subst (IsResourceError Full) (sym p.2)
-    (lacks_then (SlotsExhaustedWith b.slots (b.slots.num_temp_slots + 2)) Full
-    (full_before (0) (b.slots.num_temp_slots + 2) 6 old b (lends_same 0 old old refl) (omega arith)) _ c.in_err-push_moves.ensures.err))
+    (resource_error_weaken (SlotsExhaustedWith b.slots (b.slots.num_temp_slots + 2)) Full
+    (full_before (0) (b.slots.num_temp_slots + 2) 6 old b (adds_temp_slots_same 0 old old refl) (omega arith)) _ c.in_err-push_moves.ensures.err))
 
 pub returns-in_err-push_moves-2-clause-err : goal.returns-in_err-push_moves-2-clause-err
 returns-in_err-push_moves-2-clause-err g c =
@@ -99,22 +99,22 @@ returns-in_err-push_moves-2-clause-err g c =
     let p = err_from_is_err_and c.from_residual-in_err-push_moves-2.result c.from_residual-in_err-push_moves-2.ensures.1 in
     let Full : Type 0 = SlotsExhaustedWith old.slots (old.slots.num_temp_slots + 6) in
     rw p.1 (subst (IsResourceError Full) (sym p.2)
-    (lacks_then (SlotsExhaustedWith b.slots (b.slots.num_temp_slots + 2)) Full
-    (full_before (0 + 2) (b.slots.num_temp_slots + 2) 4 old b (lends_then (0) 2 old (tables_of c.args.self.now) (tables_of c.push_moves.new.self)
-    (lends_same 0 old old refl) c.push_moves.ensures.machine) (omega arith)) _ c.in_err-push_moves-2.ensures.err))
+    (resource_error_weaken (SlotsExhaustedWith b.slots (b.slots.num_temp_slots + 2)) Full
+    (full_before (0 + 2) (b.slots.num_temp_slots + 2) 4 old b (adds_temp_slots_add (0) 2 old (tables_of c.args.self.now) (tables_of c.push_moves.new.self)
+    (adds_temp_slots_same 0 old old refl) c.push_moves.ensures.machine) (omega arith)) _ c.in_err-push_moves-2.ensures.err))
 
 -- temporary slots are added at most
 pub returns-clause-machine : goal.returns-clause-machine
-returns-clause-machine g c = lends_in_all 4 2 6 (tables_of c.args.self.now) (tables_of c.push_moves-2.new.self) (tables_of c.push_moves-3.new.self)
-    (omega arith) (lends_in_all 2 2 4 (tables_of c.args.self.now) (tables_of c.push_moves.new.self) (tables_of c.push_moves-2.new.self) (omega arith)
+returns-clause-machine g c = adds_temp_slots_trans 4 2 6 (tables_of c.args.self.now) (tables_of c.push_moves-2.new.self) (tables_of c.push_moves-3.new.self)
+    (omega arith) (adds_temp_slots_trans 2 2 4 (tables_of c.args.self.now) (tables_of c.push_moves.new.self) (tables_of c.push_moves-2.new.self) (omega arith)
     c.push_moves.ensures.machine c.push_moves-2.ensures.machine) c.push_moves-3.ensures.machine
 
 pub returns-in_err-push_moves-clause-machine : goal.returns-in_err-push_moves-clause-machine
-returns-in_err-push_moves-clause-machine g c = lends_in_all 2 0 6 (tables_of c.args.self.now) (tables_of c.push_moves.new.self)
-    (tables_of c.push_moves.new.self) (omega arith) c.push_moves.ensures.machine (none_lends 0 (tables_of c.push_moves.new.self))
+returns-in_err-push_moves-clause-machine g c = adds_temp_slots_trans 2 0 6 (tables_of c.args.self.now) (tables_of c.push_moves.new.self)
+    (tables_of c.push_moves.new.self) (omega arith) c.push_moves.ensures.machine (adds_temp_slots_refl 0 (tables_of c.push_moves.new.self))
 
 pub returns-in_err-push_moves-2-clause-machine : goal.returns-in_err-push_moves-2-clause-machine
-returns-in_err-push_moves-2-clause-machine g c = lends_in_all 2 2 6 (tables_of c.args.self.now) (tables_of c.push_moves.new.self)
+returns-in_err-push_moves-2-clause-machine g c = adds_temp_slots_trans 2 2 6 (tables_of c.args.self.now) (tables_of c.push_moves.new.self)
     (tables_of c.push_moves-2.new.self) (omega arith) c.push_moves.ensures.machine c.push_moves-2.ensures.machine
 
 pub returns-in_err-push_moves-clause-outcome : goal.returns-in_err-push_moves-clause-outcome
@@ -134,9 +134,9 @@ returns-clause-err g c =
     let b : StateValue = tables_of c.push_moves-2.new.self in
     let Full : Type 0 = SlotsExhaustedWith old.slots (old.slots.num_temp_slots + 6) in
     IfErr-weaker c.push_moves-3.result (IsResourceError (SlotsExhaustedWith b.slots (b.slots.num_temp_slots + 2))) (IsResourceError Full)
-    (lacks_then (SlotsExhaustedWith b.slots (b.slots.num_temp_slots + 2)) Full
-    (full_before (0 + 2 + 2) (b.slots.num_temp_slots + 2) 2 old b (lends_then (0 + 2) 2 old (tables_of c.push_moves.new.self)
-    (tables_of c.push_moves-2.new.self) (lends_then (0) 2 old (tables_of c.args.self.now) (tables_of c.push_moves.new.self) (lends_same 0 old old refl)
+    (resource_error_weaken (SlotsExhaustedWith b.slots (b.slots.num_temp_slots + 2)) Full
+    (full_before (0 + 2 + 2) (b.slots.num_temp_slots + 2) 2 old b (adds_temp_slots_add (0 + 2) 2 old (tables_of c.push_moves.new.self)
+    (tables_of c.push_moves-2.new.self) (adds_temp_slots_add (0) 2 old (tables_of c.args.self.now) (tables_of c.push_moves.new.self) (adds_temp_slots_same 0 old old refl)
     c.push_moves.ensures.machine) c.push_moves-2.ensures.machine) (omega arith)))
     c.push_moves-3.ensures.err
 

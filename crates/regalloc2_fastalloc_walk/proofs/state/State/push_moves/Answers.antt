@@ -8,8 +8,8 @@ use Rattle.regalloc2_fastalloc_state.specs.ScratchPool.{Moves}
 use Rattle.regalloc2_fastalloc_proofs.specs.BranchSteps.{MayBeScratch, Pushes, AddsTempSlotsAtMost}
 use Rattle.regalloc2_fastalloc_proofs.specs.InstSteps.{StateValue}
 use Rattle.regalloc2_fastalloc_proofs.proofs.Moves.OneMove.{pushes_one}
-use Rattle.regalloc2_fastalloc_proofs.proofs.Safety.StateKept.{none_lends, same_lends}
-use Rattle.regalloc2_fastalloc_walk.proofs.NothingPassed.{pushes_nothing}
+use Rattle.regalloc2_fastalloc_proofs.proofs.Safety.StateKept.{adds_temp_slots_refl, adds_temp_slots_of_same_machine}
+use Rattle.regalloc2_fastalloc_walk.proofs.NoMovesPassed.{pushes_no_moves}
 use Rattle.regalloc2_fastalloc_walk.specs.StateView.{tables_of}
 use Rattle.std.specs.Prelude.{Result, Ok, Err, OnOk}
 use Rattle.std.proofs.lemmas.Result.{IfErr-weaker}
@@ -24,10 +24,10 @@ returns-then-is_empty-clause-outcome g c =
     let t : StateValue = tables_of c.args.self.now in
     let none : c.args.moves ≡ [] = c.if-is_empty.ensures.0 refl in
     subst (λ (ms : Moves). Pushes c.args.point c.args.inst_regs.now c.args.class ms t t) (sym none)
-    (pushes_nothing c.args.point c.args.inst_regs.now c.args.class t)
+    (pushes_no_moves c.args.point c.args.inst_regs.now c.args.class t)
 
 pub returns-then-is_empty-clause-machine : goal.returns-then-is_empty-clause-machine
-returns-then-is_empty-clause-machine g c = none_lends 2 (tables_of c.args.self.now)
+returns-then-is_empty-clause-machine g c = adds_temp_slots_refl 2 (tables_of c.args.self.now)
 
 -- one move, and a scratch register
 pub returns-in-Some-first_scratch-clause-outcome : goal.returns-in-Some-first_scratch-clause-outcome
@@ -76,7 +76,7 @@ returns-in-Some-first_scratch-clause-later g c = on_ok c.push_one.result c.push_
 pub returns-in-Some-first_scratch-clause-machine : goal.returns-in-Some-first_scratch-clause-machine
 returns-in-Some-first_scratch-clause-machine g c =
     let t : StateValue = tables_of c.args.self.now in
-    subst (AddsTempSlotsAtMost 2 t) (sym c.push_one.ensures.rest) (same_lends 2 t (record t { edits = c.push_one.new.self.edits })
+    subst (AddsTempSlotsAtMost 2 t) (sym c.push_one.ensures.rest) (adds_temp_slots_of_same_machine 2 t (record t { edits = c.push_one.new.self.edits })
     (record { allocatable = refl; fixed_stack = refl; dedicated_scratch = refl; sizes = refl; vregs = refl; num_temp_slots = refl }))
 
 pub returns-in-Some-first_scratch-clause-err : goal.returns-in-Some-first_scratch-clause-err

@@ -8,7 +8,7 @@ use Rattle.regalloc2_fastalloc_walk.proofs.StepsFail.{no_lack}
 use Rattle.regalloc2_names.specs.Place.{Place}
 use Rattle.std.proofs.lemmas.Result.{err_from_is_err_and, IfErr-weaker}
 use Rattle.regalloc2_fastalloc_proofs.specs.BranchSteps.{AddsTempSlotsAtMost}
-use Rattle.regalloc2_fastalloc_proofs.proofs.Safety.StateKept.{none_lends}
+use Rattle.regalloc2_fastalloc_proofs.proofs.Safety.StateKept.{adds_temp_slots_refl}
 use Rattle.regalloc2_fastalloc_state.specs.OutOfResources.{IsResourceError}
 use Rattle.regalloc2_fastalloc_walk.proofs.state.State.push_some.Goals as goal
 
@@ -49,7 +49,7 @@ returns-in_err-made-clause-outcome g c =
 pub returns-in_err-made-clause-machine : goal.returns-in_err-made-clause-machine
 returns-in_err-made-clause-machine g c =
     let t : StateValue = tables_of c.args.self.now in
-    subst (λ (u : StateValue). AddsTempSlotsAtMost 2 t u) (sym c.in_err-made.ensures.unchanged) (none_lends 2 t)
+    subst (λ (u : StateValue). AddsTempSlotsAtMost 2 t u) (sym c.in_err-made.ensures.unchanged) (adds_temp_slots_refl 2 t)
 
 pub returns-in_err-made-clause-err : goal.returns-in_err-made-clause-err
 returns-in_err-made-clause-err g c =

@@ -5,7 +5,7 @@ use Rattle.regalloc2_names.specs.Register.{VirtualRegister, no_vreg}
 use Rattle.regalloc2_fastalloc_proofs.specs.BlockStart.{ReloadsParam, ReloadsParams, none_begun, one_begun}
 use Rattle.regalloc2_fastalloc_proofs.specs.InstSteps.{StateValue}
 use Rattle.regalloc2_fastalloc_walk.specs.StateView.{tables_of}
-use Rattle.regalloc2_fastalloc_proofs.proofs.Evictions.PushedAndRemoved.{same_then}
+use Rattle.regalloc2_fastalloc_proofs.proofs.Evictions.PushedAndRemoved.{same_machine_trans}
 use Rattle.regalloc2_fastalloc_walk.proofs.state.State.reload_params.Goals as goal
 
 pub loop-param-init : goal.loop-param-init
@@ -44,7 +44,7 @@ loop-param-preserved g c =
           c.in_ok-reload_param.ensures.outcome);
       later = c.in_ok-reload_param.ensures.step.later;
       long = c.in_ok-reload_param.ensures.step.long ∙ c.loop-param.invariant.long;
-      machine = same_then (tables_of c.args.self.now) m n c.loop-param.invariant.machine c.in_ok-reload_param.ensures.step.machine;
+      machine = same_machine_trans (tables_of c.args.self.now) m n c.loop-param.invariant.machine c.in_ok-reload_param.ensures.step.machine;
     }
 
 pub returns-clause-outcome : goal.returns-clause-outcome

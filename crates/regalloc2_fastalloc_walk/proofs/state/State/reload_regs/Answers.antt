@@ -4,7 +4,7 @@ use Rattle.regalloc2_fastalloc_proofs.specs.InstSteps.{StateValue}
 use Rattle.regalloc2_fastalloc_walk.specs.StateView.{tables_of}
 use Rattle.regalloc2_fastalloc_state.specs.StateParts.{vreg_of_preg}
 use Rattle.regalloc2_fastalloc_proofs.proofs.Evictions.NewestLeaves.{newest_leaves}
-use Rattle.regalloc2_fastalloc_proofs.proofs.Evictions.PushedAndRemoved.{same_then, no_some}
+use Rattle.regalloc2_fastalloc_proofs.proofs.Evictions.PushedAndRemoved.{same_machine_trans, no_some}
 use Rattle.regalloc2_fastalloc_walk.proofs.state.State.reload_regs.Goals as goal
 
 pub loop-preg-init : goal.loop-preg-init
@@ -25,7 +25,7 @@ loop-preg-preserved g c =
           c.in_ok-evict_preg.ensures.outcome;
       later = c.in_ok-evict_preg.ensures.step.later;
       long = c.in_ok-evict_preg.ensures.step.long ∙ c.loop-preg.invariant.long;
-      machine = same_then (tables_of c.args.self.now) m n c.loop-preg.invariant.machine c.in_ok-evict_preg.ensures.step.machine;
+      machine = same_machine_trans (tables_of c.args.self.now) m n c.loop-preg.invariant.machine c.in_ok-evict_preg.ensures.step.machine;
     }
 
 pub loop-preg-smaller : goal.loop-preg-smaller

@@ -2,7 +2,7 @@ use Rattle.std.proofs.Common.{◌≡◌, length, refl, sym, ◌∙◌, arith}
 use Rattle.std.proofs.lemmas.Result.{err_from_is_err_and}
 use Rattle.regalloc2_fastalloc_walk.specs.StateView.{tables_of}
 use Rattle.regalloc2_fastalloc_walk.proofs.RegsReserved.{reserving_none, reserving_more, reserves_all}
-use Rattle.regalloc2_fastalloc_walk.proofs.RegsReserved.{reserve_fails_used, reserves_used, stops_reserve, used_then}
+use Rattle.regalloc2_fastalloc_walk.proofs.RegsReserved.{reserve_fails_used, reserves_used, stops_reserve, same_but_order_trans}
 use Rattle.regalloc2_fastalloc_walk.proofs.state.State.reserve_each.Goals as goal
 
 pub loop-k-init : goal.loop-k-init
@@ -22,7 +22,7 @@ loop-k-preserved g c = record {
       c.reserve_reg_for_operand.new.claims (tables_of c.args.self.now) (tables_of c.loop-k.self) c.loop-k.invariant.same
       c.in_ok-reserve_reg_for_operand.ensures.outcome);
   awaited = c.reserve_reg_for_operand.ensures.awaited ∙ c.loop-k.invariant.awaited;
-  same = used_then (tables_of c.args.self.now) (tables_of c.loop-k.self) (tables_of c.reserve_reg_for_operand.new.self) c.loop-k.invariant.same
+  same = same_but_order_trans (tables_of c.args.self.now) (tables_of c.loop-k.self) (tables_of c.reserve_reg_for_operand.new.self) c.loop-k.invariant.same
       c.reserve_reg_for_operand.ensures.same;
   unused = λ none. c.in_ok-reserve_reg_for_operand.ensures.unused (λ r e. none c.loop-k.k r (omega arith) e)
       ∙ c.loop-k.invariant.unused (λ k r less e. none k r (omega (arith, less)) e);
@@ -46,7 +46,7 @@ pub returns-in_err-reserve_reg_for_operand-clause-awaited : goal.returns-in_err-
 returns-in_err-reserve_reg_for_operand-clause-awaited g c = c.reserve_reg_for_operand.ensures.awaited ∙ c.loop-k.invariant.awaited
 
 pub returns-in_err-reserve_reg_for_operand-clause-same : goal.returns-in_err-reserve_reg_for_operand-clause-same
-returns-in_err-reserve_reg_for_operand-clause-same g c = used_then (tables_of c.args.self.now) (tables_of c.loop-k.self)
+returns-in_err-reserve_reg_for_operand-clause-same g c = same_but_order_trans (tables_of c.args.self.now) (tables_of c.loop-k.self)
     (tables_of c.reserve_reg_for_operand.new.self) c.loop-k.invariant.same c.reserve_reg_for_operand.ensures.same
 
 pub returns-in_err-reserve_reg_for_operand-clause-outcome : goal.returns-in_err-reserve_reg_for_operand-clause-outcome

@@ -8,20 +8,20 @@ use Rattle.regalloc2_fastalloc_walk.specs.StateView.{tables_of}
 use Rattle.regalloc2_fastalloc_state.specs.declared.positions.Positions.{Positions}
 use Rattle.regalloc2_fastalloc_proofs.proofs.Moves.ParallelMovesOrdered.{spare_of, differ_of}
 use Rattle.regalloc2_fastalloc_walk.proofs.AvailableCount.{only_first}
-use Rattle.regalloc2_fastalloc_walk.proofs.Clashes.{none_is_nothing, not_both}
+use Rattle.regalloc2_fastalloc_walk.proofs.Clashes.{none_is_not_some_of, not_both}
 use Rattle.regalloc2_fastalloc_walk.proofs.state.State.scratch_regs.Goals as goal
 
 -- the second scratch place is the second register's, if there is one
 second_is : (o : Option Register) (s : Option Place) → MatchOption o (s ≡ None) (λ x. IsSomeAnd s (λ p. p ≡ InRegister x)) → (p : Place) → s ≡ Some p →
     (r : Register) × (p ≡ InRegister r) × (o ≡ Some r)
-second_is None s h p e = none_is_nothing (sym h ∙ e)
-second_is (Some x) None h p e = none_is_nothing e
+second_is None s h p e = none_is_not_some_of (sym h ∙ e)
+second_is (Some x) None h p e = none_is_not_some_of e
 second_is (Some x) (Some q) h p e = (x, (let same : q ≡ p = cc in sym same ∙ h), refl)
 
 no_second : (o : Option Register) (s : Option Place) → MatchOption o (s ≡ None) (λ x. IsSomeAnd s (λ p. p ≡ InRegister x)) → s ≡ None → o ≡ None
 no_second None s h e = refl
 no_second (Some x) None h e = absurd h
-no_second (Some x) (Some q) h e = none_is_nothing (sym e)
+no_second (Some x) (Some q) h e = none_is_not_some_of (sym e)
 
 pub returns-clause-scratch_reserve : goal.returns-clause-scratch_reserve
 returns-clause-scratch_reserve g c =
@@ -71,7 +71,7 @@ returns-clause-differ g c =
 
 -- the machine's dedicated scratch register comes first
 pub returns-in_default-clause-own : goal.returns-in_default-clause-own
-returns-in_default-clause-own g c = λ r e. none_is_nothing (c.in_default.ensures.own r e)
+returns-in_default-clause-own g c = λ r e. none_is_not_some_of (c.in_default.ensures.own r e)
 
 pub returns-clause-own : goal.returns-clause-own
 returns-clause-own g c = λ r e.
@@ -86,7 +86,7 @@ returns-in_default-clause-all g c = λ r small of_class held free. not_both
 
 pub returns-clause-all : goal.returns-clause-all
 returns-clause-all g c = λ r small of_class held free. (
-  λ none. none_is_nothing (sym none),
+  λ none. none_is_not_some_of (sym none),
   λ none. let gone = no_second c.choose_register.result c.map.result c.map.ensures.cases none in
       let rest = subst (λ (o : Option Register). IfNone o (NoneIsIn c.args.self.now.registers c.args.class c.remove.new.self)) gone
       c.choose_register.ensures.none in
@@ -97,7 +97,7 @@ returns-clause-all g c = λ r small of_class held free. (
 
 -- where there is no register, there aren't two
 pub returns-in_default-clause-scratch_reserve : goal.returns-in_default-clause-scratch_reserve
-returns-in_default-clause-scratch_reserve g c = λ p h. ⊎_elim (λ (e : None ≡ Some p). none_is_nothing e) (λ (e : None ≡ Some p). none_is_nothing e) h
+returns-in_default-clause-scratch_reserve g c = λ p h. ⊎_elim (λ (e : None ≡ Some p). none_is_not_some_of e) (λ (e : None ≡ Some p). none_is_not_some_of e) h
 
 pub returns-in_default-clause-differ : goal.returns-in_default-clause-differ
-returns-in_default-clause-differ g c = λ p q e f. none_is_nothing e
+returns-in_default-clause-differ g c = λ p q e f. none_is_not_some_of e

@@ -2,13 +2,13 @@ use Rattle.std.proofs.Common.{◌≡◌, refl, sym, ap, ◌∙◌, arith, rules}
 use Rattle.regalloc2_names.specs.Place.{InRegister, register_of_place}
 use Rattle.regalloc2_fastalloc_proofs.specs.BranchSteps.{from_register, in_slot}
 use Rattle.regalloc2_fastalloc_proofs.specs.InstSteps.{StateValue, SameMachine}
-use Rattle.regalloc2_fastalloc_proofs.proofs.Evictions.PushedAndRemoved.{same_then}
+use Rattle.regalloc2_fastalloc_proofs.proofs.Evictions.PushedAndRemoved.{same_machine_trans}
 use Rattle.regalloc2_fastalloc_state.proofs.SlotsAsPlaces.{slot_is_no_register}
 use Rattle.std.proofs.lemmas.Result.{err_from_is_err_and}
 use Rattle.regalloc2_fastalloc_walk.specs.StateView.{tables_of}
 use Rattle.regalloc2_carry.proofs.Forms.{place_of_register}
 use Rattle.regalloc2_fastalloc_walk.proofs.Steps.{fails_with}
-use Rattle.regalloc2_fastalloc_walk.proofs.Clashes.{none_is_nothing, slots_are_no_registers}
+use Rattle.regalloc2_fastalloc_walk.proofs.Clashes.{none_is_not_some_of, slots_are_no_registers}
 use Rattle.regalloc2_fastalloc_walk.proofs.state.State.spill_argument.Goals as goal
 
 pub get_spillslot-requires : goal.get_spillslot-requires
@@ -27,7 +27,7 @@ pub returns-clause-outcome : goal.returns-clause-outcome
 returns-clause-outcome g c = in_slot
     (λ r is. absurd (
     let at : c.current_alloc.result ≡ InRegister r = c.current_alloc.ensures.place ∙ is in
-    none_is_nothing (sym c.in_default.is ∙ c.as_reg.ensures ∙ ap register_of_place at)))
+    none_is_not_some_of (sym c.in_default.is ∙ c.as_reg.ensures ∙ ap register_of_place at)))
     c.in_ok-slot.ensures.ok c.set_alloc.ensures.settled refl
     (record {
       allocatable = refl;
@@ -98,7 +98,7 @@ returns-in-Some-clause-step g c =
       num_temp_slots = c.get_spillslot.ensures.num_temp_slots;
     } in
     record {
-      machine = same_then _ _ _ made c.in_ok-evict_preg.ensures.step.machine;
+      machine = same_machine_trans _ _ _ made c.in_ok-evict_preg.ensures.step.machine;
       later = c.in_ok-evict_preg.ensures.step.later;
       long = c.in_ok-evict_preg.ensures.step.long;
       err = search rules;
@@ -139,4 +139,4 @@ returns-in_err-evict_preg-clause-step g c =
       num_temp_slots = c.get_spillslot.ensures.num_temp_slots;
     } in
     fails_with c.from_residual-in_err-evict_preg.result c.args.self.now c.evict_preg.new.self e.1 e.2
-    (same_then _ _ _ made c.in_err-evict_preg.ensures.step.machine) c.in_err-evict_preg.ensures.step.err
+    (same_machine_trans _ _ _ made c.in_err-evict_preg.ensures.step.machine) c.in_err-evict_preg.ensures.step.err

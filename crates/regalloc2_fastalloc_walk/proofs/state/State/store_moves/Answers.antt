@@ -5,7 +5,7 @@ use Rattle.regalloc2_names.specs.Operand.{OperandValue}
 use Rattle.regalloc2_names.specs.Register.{VirtualRegister}
 use Rattle.regalloc2_function.specs.FunctionValue.{op_at, no_operand}
 use Rattle.regalloc2_fastalloc_proofs.specs.InstSteps.{StateValue}
-use Rattle.regalloc2_fastalloc_proofs.proofs.Evictions.PushedAndRemoved.{same_then}
+use Rattle.regalloc2_fastalloc_proofs.proofs.Evictions.PushedAndRemoved.{same_machine_trans}
 use Rattle.regalloc2_fastalloc_walk.specs.BranchStores.{FindsStore, FindsStores, no_store, none_found, one_found}
 use Rattle.regalloc2_fastalloc_walk.specs.StateView.{tables_of}
 use Rattle.regalloc2_fastalloc_walk.specs.declared.store.StoreMove.{StoreMove}
@@ -67,7 +67,7 @@ loop-store-preserved g c =
           (one_found k c.loop-store.moves.items c.in_ok-m.m c.loop-store.self.slots c.store_move.new.self.slots c.loop-store-test.true
           c.loop-store.invariant.finds (subst (λ (d : StoredDef). F (op_at ops d.index) d.to) item one));
       tables = c.store_move.ensures.step.tables ∙ ap (λ (x : StateValue). record x { slots = c.store_move.new.self.slots }) c.loop-store.invariant.tables;
-      machine = same_then t (tables_of c.loop-store.self) (tables_of c.store_move.new.self) c.loop-store.invariant.machine c.store_move.ensures.step.machine;
+      machine = same_machine_trans t (tables_of c.loop-store.self) (tables_of c.store_move.new.self) c.loop-store.invariant.machine c.store_move.ensures.step.machine;
     }
 
 pub returns-clause-ok : goal.returns-clause-ok
@@ -85,6 +85,6 @@ returns-in_err-m-clause-step g c =
     let t : StateValue = tables_of c.args.self.now in
     rw e.1 (rw e.2 (record {
       tables = c.store_move.ensures.step.tables ∙ ap (λ (x : StateValue). record x { slots = c.store_move.new.self.slots }) c.loop-store.invariant.tables;
-      machine = same_then t (tables_of c.loop-store.self) (tables_of c.store_move.new.self) c.loop-store.invariant.machine c.store_move.ensures.step.machine;
+      machine = same_machine_trans t (tables_of c.loop-store.self) (tables_of c.store_move.new.self) c.loop-store.invariant.machine c.store_move.ensures.step.machine;
       err = c.in_err-m.ensures.step.err;
     }))

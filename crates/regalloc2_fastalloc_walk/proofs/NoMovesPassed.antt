@@ -16,9 +16,9 @@ use Rattle.regalloc2_fastalloc_proofs.specs.BranchSteps.{none_gathered, of_class
 use Rattle.regalloc2_fastalloc_proofs.proofs.Moves.ParallelMovesOrdered.{none_taken}
 
 -- where there are no moves, none are made
-orders_nothing : (inst_regs : InstRegs) (class : RegClass) (t : StateValue) → OrdersMoves inst_regs class [] [] t t
+orders_no_moves : (inst_regs : InstRegs) (class : RegClass) (t : StateValue) → OrdersMoves inst_regs class [] [] t t
 unfolding in_turn
-orders_nothing inst_regs class t = record {
+orders_no_moves inst_regs class t = record {
   places = refl;
   edits = refl;
   allocatable = refl;
@@ -34,36 +34,36 @@ orders_nothing inst_regs class t = record {
 }
 
 -- where there are no moves, none are pushed
-pub pushes_nothing : (point : ℕ) (inst_regs : InstRegs) (class : RegClass) (t : StateValue) → Pushes point inst_regs class [] t t
-pushes_nothing point inst_regs class t = record {
+pub pushes_no_moves : (point : ℕ) (inst_regs : InstRegs) (class : RegClass) (t : StateValue) → Pushes point inst_regs class [] t t
+pushes_no_moves point inst_regs class t = record {
   made = [];
   middle = t;
-  orders = orders_nothing inst_regs class t;
+  orders = orders_no_moves inst_regs class t;
   pushes = ap (λ (es : List (ℕ × MoveValue)). record t { edits = es }) (sym (append-nil t.edits));
 }
 
 module _ (f : FunctionValue) (b : ℕ) (t : InstRegs) (old : StateValue)
     (empty : (k : ℕ) → HasEdge f b k → (block_at f (target_at f b k)).params ≡ []) where
   -- no moves are gathered on the first edges
-  gathers_moves_nothing : (point n : ℕ) → n ≤ length (block_at f b).succs → GathersMoves f b point t old n t old []
-  gathers_moves_nothing point zero le = no_edge
-  gathers_moves_nothing point (suc n) le =
+  gathers_no_moves : (point n : ℕ) → n ≤ length (block_at f b).succs → GathersMoves f b point t old n t old []
+  gathers_no_moves point zero le = no_edge
+  gathers_no_moves point (suc n) le =
       let lt : n < length (block_at f b).succs = omega arith in
       let none : length (block_at f (target_at f b n)).params ≡ 0 = ap length (empty n lt) in
       let Edge : ℕ → Type 0 = λ m. GathersEdgeMoves (IsOwnDef f b) point (block_at f (target_at f b n)).params (arguments_at f b n) t old [] m t old [] in
       subst (λ (m : ℕ). GathersMoves f b point t old m t old []) (add-one n)
-      (one_edge n [] [] t t old old lt (gathers_moves_nothing point n (omega arith)) (subst Edge (sym none) none_gathered))
+      (one_edge n [] [] t t old old lt (gathers_no_moves point n (omega arith)) (subst Edge (sym none) none_gathered))
 
   -- a branch to blocks without parameters does nothing
-  pub processes_nothing : (i : ℕ) → ProcessesBranch f b i t t old old
+  pub branch_without_arguments : (i : ℕ) → ProcessesBranch f b i t t old old
   unfolding of_class
-  processes_nothing i = record {
+  branch_without_arguments i = record {
     given = [];
     gathered = old;
     ints = old;
     floats = old;
-    gathers = gathers_moves_nothing (before i) (length (block_at f b).succs) (omega arith);
-    int = pushes_nothing (before i) t Int old;
-    float = pushes_nothing (before i) t Float old;
-    vector = pushes_nothing (before i) t Vector old;
+    gathers = gathers_no_moves (before i) (length (block_at f b).succs) (omega arith);
+    int = pushes_no_moves (before i) t Int old;
+    float = pushes_no_moves (before i) t Float old;
+    vector = pushes_no_moves (before i) t Vector old;
   }
