@@ -7,8 +7,8 @@ ghost use Rattle.regalloc2_names.specs.declared.RegClass.{RegClass};
 ghost use Rattle.regalloc2_function.specs.FunctionValue.{FunctionValue, block_at, inst_at};
 ghost use Rattle.regalloc2_function.specs.Machine.{is_allocatable, set_of, scratch_of};
 ghost use Rattle.regalloc2_names.specs.Operand.{is_fixed_nonallocatable};
-ghost use Rattle.regalloc2_function.specs.Fitting.{MachineFits, ClassFits, NamesClass, NamesByArgument};
-ghost use Rattle.regalloc2_function.specs.Misfit.{AreSlotsValid, FitsBefore, AreRegistersSound, IsScratchSound, IsSlotApart, PassesRegisters, PassesScratch};
+ghost use Rattle.regalloc2_function.specs.Fitting.{MachineFits, ClassFits, NamesClass, NamesByArgument, IsScratchSound};
+ghost use Rattle.regalloc2_function.specs.Misfit.{AreSlotsValid, FitsBefore, AreRegistersSound, IsSlotApart, PassesRegisters, PassesScratch};
 ghost use Rattle.regalloc2_function.specs.Misfit.{IsMisfit};
 ghost use Rattle.regalloc2_function.specs.Views.{machine_of};
 

@@ -93,4 +93,4 @@ module _ (f : FunctionValue) (env : MachineValue) (Known : VirtualRegister → T
 
 -- on a machine that fits, the registers reserved for moves are of their classes
 pub fits_keeps : (f : FunctionValue) (env : MachineValue) → MachineFits f env → KeepsOfClass env
-fits_keeps f env fits = λ c r own. ((fits c).scratch_apart r own).0
+fits_keeps f env fits = λ c r own. ((fits c).scratch r own).0
