@@ -47,8 +47,8 @@ pub record LiveInSlots (f : FunctionValue) (out : OutputValue) (owner : ℕ → 
 
 -- The slot n of a branch i: it is the branch's first or second one for its class, and only moves name it, each at the
 -- point before the branch.
-pub record ServesBranch (out : OutputValue) (n i time : ℕ) : Type 0 where
-  pub of_two : time < 2
+pub record ServesBranch (out : OutputValue) (n i index : ℕ) : Type 0 where
+  pub of_two : index < 2
   pub moves : All (λ e. (e.1.from ≡ InSlot n) ⊎ (e.1.to ≡ InSlot n) → e.0 ≡ before i) out.edits
   pub no_operand : All (λ p. p ≢ InSlot n) out.allocs
   pub no_location : All (λ d. d.place ≢ InSlot n) out.debug_locations
@@ -102,5 +102,5 @@ pub record IsAllocation (f : FunctionValue) (env : MachineValue) (out : OutputVa
   pub live : IsWrittenFirst f → LiveInSlots f out owners.owner
   pub slots : (out.num_spillslots ≤ 2 ^ 24) × (out.num_spillslots ≤ units_at_most f)
   pub unspilled : HasRegistersForAll f env → (out.edits ≡ []) × (out.num_spillslots ≡ 0)
-  pub branch_slots : (n i : ℕ) (class : RegClass) (time : ℕ) → IsSlotOf out n → owners.owner n ≡ OfBranch i class time → ServesBranch out n i time
+  pub branch_slots : (n i : ℕ) (class : RegClass) (index : ℕ) → IsSlotOf out n → owners.owner n ≡ OfBranch i class index → ServesBranch out n i index
   pub labels : ShowsLabels f env out owners.owner

@@ -70,7 +70,7 @@ IsNameOfSlot made n = (c : OwnedSlot) × Contains made c × (c.name ≡ n)
 -- moves at a point may name the slot of an owner: a branch's slot only serves the moves before that branch
 abbrev pub ServesAt : ℕ → Owner → Type 0
 ServesAt point (OfVReg v) = Unit {0}
-ServesAt point (OfBranch branch class time) = point ≡ before branch
+ServesAt point (OfBranch branch class index) = point ≡ before branch
 
 -- an end of a move of values of a class at a point: a register of the class, or a slot that serves there, whose owner
 -- is of the class

@@ -26,11 +26,11 @@ misfit_fails f env InvalidSlot h fits =
     (All-contains (λ r. (is_allocatable env Int r ≡ false) × (scratch_of env Int ≢ Some r) × (r ≢ invalid_register)) env.fixed_stack_slots invalid_register
     (fits Int).slots_apart h).2 refl
 misfit_fails f env (OtherClass class r) h fits = h.2 ((fits class).of_class r h.1)
-misfit_fails f env (ListedTwice class r) h fits = not_both _ h.3 ((fits class).preferred_apart r h.2)
+misfit_fails f env (ListedTwice class r) h fits = not_both _ h.3 ((fits class).listed_once r h.2)
 misfit_fails f env (InvalidRegister class) h fits = not_both _ h.3 (fits class).valid
-misfit_fails f env (ScratchOfOtherClass class r) h fits = h.2 ((fits class).scratch_apart r h.1).0
-misfit_fails f env (ScratchAllocatable class r) h fits = not_both _ h.3 ((fits class).scratch_apart r h.1).1
-misfit_fails f env (InvalidScratch class) h fits = ((fits class).scratch_apart invalid_register h.1).2 refl
+misfit_fails f env (ScratchOfOtherClass class r) h fits = h.2 ((fits class).scratch r h.1).0
+misfit_fails f env (ScratchAllocatable class r) h fits = not_both _ h.3 ((fits class).scratch r h.1).1
+misfit_fails f env (InvalidScratch class) h fits = ((fits class).scratch invalid_register h.1).2 refl
 misfit_fails f env (SlotAllocatable class r) h fits = not_both _ h.2
     (taken env class r (λ s. (is_allocatable env class s ≡ false) × (scratch_of env class ≢ Some s) × (s ≢ invalid_register)) (fits class).slots_apart h.1).0
 misfit_fails f env (SlotIsScratch class r) h fits =

@@ -16,13 +16,24 @@ NamesClass f class =
     ⊎ ((k : ℕ) × ((block_at f b).range.first < (block_at f b).range.end) × ((block_at f b).range.end ≤ length f.insts)
     × (k < length (block_at f b).succs) × SomeIn (λ v. v.class ≡ class) (slice_index_or (block_at f b).arguments k []))))
 
--- For a class: its registers, preferred, non-preferred and scratch, are valid, of that class and apart; no fixed stack slot is one of them
+-- the registers that are listed for a class are of that class, and none is both preferred and non-preferred
+abbrev pub AreOfClass : MachineValue → RegClass → Type 0
+AreOfClass env class = (r : Register) → is_allocatable env class r ≡ true → r.class ≡ class
+
+abbrev pub AreListedOnce : MachineValue → RegClass → Type 0
+AreListedOnce env class = (r : Register) → has_register (set_of env.preferred class) r ≡ true → has_register (set_of env.non_preferred class) r ≡ false
+
+-- the scratch register of a class, if there is one, is of that class, not allocatable, and valid
+abbrev pub IsScratchSound : MachineValue → RegClass → Type 0
+IsScratchSound env class = (r : Register) → scratch_of env class ≡ Some r → (r.class ≡ class) × (is_allocatable env class r ≡ false) × (r ≢ invalid_register)
+
+-- For a class: its registers, preferred, non-preferred and scratch, are of that class, apart and valid; no fixed stack slot is one of them
 -- or invalid; and there is a register to allocate if the function names a vreg of the class.
 pub record ClassFits (f : FunctionValue) (env : MachineValue) (class : RegClass) : Type 0 where
-  pub of_class : (r : Register) → is_allocatable env class r ≡ true → r.class ≡ class
-  pub preferred_apart : (r : Register) → has_register (set_of env.preferred class) r ≡ true → has_register (set_of env.non_preferred class) r ≡ false
+  pub of_class : AreOfClass env class
+  pub listed_once : AreListedOnce env class
   pub valid : is_allocatable env class invalid_register ≡ false
-  pub scratch_apart : (r : Register) → scratch_of env class ≡ Some r → (r.class ≡ class) × (is_allocatable env class r ≡ false) × (r ≢ invalid_register)
+  pub scratch : IsScratchSound env class
   pub slots_apart : All (λ r. (is_allocatable env class r ≡ false) × (scratch_of env class ≢ Some r) × (r ≢ invalid_register)) env.fixed_stack_slots
   pub has_a_register : NamesClass f class → (r : Register) × (is_allocatable env class r ≡ true)
 

@@ -7,7 +7,7 @@ use Rattle.regalloc2_names.specs.declared.RegClass.{RegClass}
 use Rattle.regalloc2_names.specs.declared.RegClass.TheVariants.{Int, Float, Vector}
 use Rattle.regalloc2_function.specs.FunctionValue.{FunctionValue}
 use Rattle.regalloc2_function.specs.Machine.{MachineValue, is_allocatable, set_of, scratch_of}
-use Rattle.regalloc2_function.specs.Fitting.{ClassFits, NamesClass}
+use Rattle.regalloc2_function.specs.Fitting.{ClassFits, NamesClass, AreOfClass, AreListedOnce, IsScratchSound}
 use Rattle.regalloc2_function.specs.declared.misfit.MachineMisfit.{MachineMisfit}
 use Rattle.regalloc2_function.specs.declared.misfit.MachineMisfit.TheVariants.{InvalidSlot, OtherClass, ListedTwice, InvalidRegister}
 use Rattle.regalloc2_function.specs.declared.misfit.MachineMisfit.TheVariants.{ScratchOfOtherClass, ScratchAllocatable, InvalidScratch}
@@ -23,22 +23,11 @@ FitsBefore f env Int = AreSlotsValid env
 FitsBefore f env Float = ClassFits f env Int
 FitsBefore f env Vector = ClassFits f env Int × ClassFits f env Float
 
--- the registers that are listed for a class are of that class, and none is both preferred and non-preferred
-abbrev pub AreOfClass : MachineValue → RegClass → Type 0
-AreOfClass env class = (r : Register) → is_allocatable env class r ≡ true → r.class ≡ class
-
-abbrev pub AreListedOnce : MachineValue → RegClass → Type 0
-AreListedOnce env class = (r : Register) → has_register (set_of env.preferred class) r ≡ true → has_register (set_of env.non_preferred class) r ≡ false
-
 -- all conditions on the registers that are listed for a class
 pub record AreRegistersSound (env : MachineValue) (class : RegClass) : Type 0 where
   pub of_class : AreOfClass env class
   pub listed_once : AreListedOnce env class
   pub valid : is_allocatable env class invalid_register ≡ false
-
--- the scratch register of a class, if there is one, is of that class, not allocatable, and valid
-abbrev pub IsScratchSound : MachineValue → RegClass → Type 0
-IsScratchSound env class = (r : Register) → scratch_of env class ≡ Some r → (r.class ≡ class) × (is_allocatable env class r ≡ false) × (r ≢ invalid_register)
 
 -- a fixed stack slot is no register that serves a class
 abbrev pub IsSlotApart : MachineValue → RegClass → Register → Type 0

@@ -27,14 +27,14 @@ pub record PlacesAreProper (f : FunctionValue) (env : MachineValue) (out : Outpu
       is_fixed_nonallocatable o ≡ false → IsProperPlace env out o.vreg.class (place_at (allocs_of out i) k))
   pub moves : All (λ e. IsMoveEnd env out e.1.from × IsMoveEnd env out e.1.to) out.edits
 
--- whose values a slot holds: a vreg's, or the values that a branch's moves of arguments save, the first or a later time for a class
+-- whose values a slot holds: a vreg's, or the values that a branch's moves of arguments save in its slot of an index for a class
 pub data Owner : Type 0 where
   OfVReg : VirtualRegister → Owner
-  OfBranch : (branch : ℕ) (class : RegClass) (time : ℕ) → Owner
+  OfBranch : (branch : ℕ) (class : RegClass) (index : ℕ) → Owner
 
 abbrev pub class_of_owner : Owner → RegClass
 class_of_owner (OfVReg v) = v.class
-class_of_owner (OfBranch branch class time) = class
+class_of_owner (OfBranch branch class index) = class
 
 -- the output names the slot: as an operand's place, in a move or in a debug location
 abbrev pub IsSlotOf : OutputValue → ℕ → Type 0
@@ -59,7 +59,7 @@ IsOfClass owner (InSlot n) class = class_of_owner (owner n) ≡ class
 pub record AreSlotsOwned (f : FunctionValue) (out : OutputValue) : Type 0 where
   pub owner : ℕ → Owner
   pub own : (m n : ℕ) → IsSlotOf out m → IsSlotOf out n → owner m ≡ owner n → m ≡ n
-  pub branches : (n i : ℕ) (class : RegClass) (time : ℕ) → IsSlotOf out n → owner n ≡ OfBranch i class time → (i < length f.insts)
+  pub branches : (n i : ℕ) (class : RegClass) (index : ℕ) → IsSlotOf out n → owner n ≡ OfBranch i class index → (i < length f.insts)
       × ((inst_at f i).is_branch ≡ true)
   pub operands : (i : ℕ) → i < length f.insts → EachOperand (inst_at f i) (λ k o. (n : ℕ) → place_at (allocs_of out i) k ≡ InSlot n → owner n ≡ OfVReg o.vreg)
   pub named : (n : ℕ) → IsSlotOf out n → f.named_by_last_slot ≡ true → units_of_owner f (owner n) ≤ n + 1

@@ -24,7 +24,7 @@ machine_fit f env t fits small allocatable fixed dedicated_scratch = record {
       let yes : is_allocatable env r.class r ≡ true = allocatable r (small r (inl h)) h in
       let no = slot_apart r.class r (fixed r e) in let x : is_allocatable env r.class r ≡ false = no.0 in cc);
   own_apart = λ c b h.
-      let s = (fits c).scratch_apart b (dedicated_scratch c b h) in (
+      let s = (fits c).scratch b (dedicated_scratch c b h) in (
         false_from_ne_true (has_register t.allocatable b) (λ e.
             let yes : is_allocatable env c b ≡ true = subst (λ x. is_allocatable env x b ≡ true) s.0 (allocatable b (small b (inl e)) e) in
             let no : is_allocatable env c b ≡ false = s.1 in cc),

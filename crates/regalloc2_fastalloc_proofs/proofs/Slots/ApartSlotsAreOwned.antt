@@ -25,7 +25,7 @@ IsNoBranchSlot owner p = (n : ℕ) → p ≡ InSlot n → (v : VirtualRegister) 
 
 -- a move that names a branch's slot is at the point before that branch
 abbrev pub IsBeforeBranch : (ℕ → Owner) → ℕ × MoveValue → Type 0
-IsBeforeBranch owner e = (n i : ℕ) (class : RegClass) (time : ℕ) → owner n ≡ OfBranch i class time → (e.1.from ≡ InSlot n) ⊎ (e.1.to ≡ InSlot n) →
+IsBeforeBranch owner e = (n i : ℕ) (class : RegClass) (index : ℕ) → owner n ≡ OfBranch i class index → (e.1.from ≡ InSlot n) ⊎ (e.1.to ≡ InSlot n) →
     e.0 ≡ before i
 
 -- Slots are owned: that of a known vreg by that vreg. A branch has at most two for a class, which aren't the place of
@@ -33,7 +33,7 @@ IsBeforeBranch owner e = (n i : ℕ) (class : RegClass) (time : ℕ) → owner n
 pub record OwnsSlots (Known : VirtualRegister → Type 0) (f : FunctionValue) (s : SpillSlotsValue) (out : OutputValue) : Type 0 where
   pub owned : AreSlotsOwned f out
   pub vregs : (v : VirtualRegister) (n : ℕ) → Known v → slot_name s v.number ≡ InSlot n → owned.owner n ≡ OfVReg v
-  pub two : (n i : ℕ) (class : RegClass) (time : ℕ) → IsSlotOf out n → owned.owner n ≡ OfBranch i class time → time < 2
+  pub two : (n i : ℕ) (class : RegClass) (index : ℕ) → IsSlotOf out n → owned.owner n ≡ OfBranch i class index → index < 2
   pub moves : All (IsBeforeBranch owned.owner) out.edits
   pub allocs : All (IsNoBranchSlot owned.owner) out.allocs
   pub shown : All (λ d. IsNoBranchSlot owned.owner d.place) out.debug_locations
@@ -128,8 +128,8 @@ module _ (Known : VirtualRegister → Type 0) (f : FunctionValue) (s : SpillSlot
       (λ k o. (n : ℕ) → place_at (allocs_of out i) k ≡ InSlot n → Known o.vreg × (slot_name s o.vreg.number ≡ InSlot n)))
       (allocs : All (λ p. (n : ℕ) → p ≡ InSlot n → IsSlotOfKnown Known s n) out.allocs) (moves : All (IsOfOneClass made) out.edits)
       (shown : All (λ d. (n : ℕ) → d.place ≡ InSlot n → IsSlotOfKnown Known s n) out.debug_locations)
-      (met : (c : OwnedSlot) → Contains made c → (i : ℕ) (class : RegClass) (time : ℕ) → c.owner ≡ OfBranch i class time → ((i < length f.insts)
-      × ((inst_at f i).is_branch ≡ true)) × (time < 2)) where
+      (met : (c : OwnedSlot) → Contains made c → (i : ℕ) (class : RegClass) (index : ℕ) → c.owner ≡ OfBranch i class index → ((i < length f.insts)
+      × ((inst_at f i).is_branch ≡ true)) × (index < 2)) where
     -- the slot of a known vreg was made
     known_named : (n : ℕ) → IsSlotOfKnown Known s n → IsNameOfSlot made n
     known_named n (v, known, is) = (record { owner = OfVReg v; name = n }, h.known v known n is, refl)
@@ -147,7 +147,7 @@ module _ (Known : VirtualRegister → Type 0) (f : FunctionValue) (s : SpillSlot
         ((x.0, x.1, x.2), subst (ServesAt point) mine x.4)
 
     before_branch : All (IsBeforeBranch (owner_in made)) out.edits
-    before_branch k d lt n i class time of names =
+    before_branch k d lt n i class index of names =
         let m = moves k d lt in
         let point : ℕ = (slice_index_or out.edits k d).0 in
         subst (ServesAt point) of (⊎_elim (λ from. (end_named point m.0 _ n m.1 from).1) (λ to. (end_named point m.0 _ n m.2 to).1) names)
@@ -192,9 +192,9 @@ module _ (Known : VirtualRegister → Type 0) (f : FunctionValue) (s : SpillSlot
             let y = owner_is n (named n b) in
             ⊎_elim (λ (one : x.0 ≡ y.0). sym x.2 ∙ ap (λ (c : OwnedSlot). c.name) one ∙ y.2) (λ (two : AreTwo x.0 y.0). absurd (two.0 (sym x.3 ∙ e ∙ y.3)))
             (one_or_two x.0 y.0 x.1 y.1);
-        branches = λ n i class time a e.
+        branches = λ n i class index a e.
             let x = owner_is n (named n a) in
-            (met x.0 x.1 i class time (sym x.3 ∙ e)).0;
+            (met x.0 x.1 i class index (sym x.3 ∙ e)).0;
         operands = λ i lt k d less n at.
             let o = operands i lt k d less n at in
             owner_found _ (h.known _ o.0 n o.1);
@@ -229,9 +229,9 @@ module _ (Known : VirtualRegister → Type 0) (f : FunctionValue) (s : SpillSlot
             (m.0, end_of_class point m.0 _ m.1, end_of_class point m.0 _ m.2);
       };
       vregs = own_slot;
-      two = λ n i class time a e.
+      two = λ n i class index a e.
           let x = owner_is n (named n a) in
-          (met x.0 x.1 i class time (sym x.3 ∙ e)).1;
+          (met x.0 x.1 i class index (sym x.3 ∙ e)).1;
       moves = before_branch;
       allocs = λ k d lt n at.
           let x = allocs k d lt n at in

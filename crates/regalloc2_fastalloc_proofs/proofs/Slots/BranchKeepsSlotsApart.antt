@@ -84,7 +84,7 @@ met_more Known named Met More t more h = record {
   by_last = h.by_last;
   made = h.made;
   laid = h.laid;
-  met = λ k d lt branch class time e. (let m = h.met k d lt branch class time e in (more branch class m.0, m.1));
+  met = λ k d lt branch class index e. (let m = h.met k d lt branch class index e in (more branch class m.0, m.1));
   edits = h.edits;
 }
 
@@ -218,10 +218,10 @@ module _ (Known : VirtualRegister → Type 0) (same : (v w : VirtualRegister) �
     names_stay n k is = same_names n ∙ is
 
     temp : LaysOutTempSlots Known (IsOfMet Now) branch class orders.lends.0 old.slots middle.slots h.made
-    temp = lends_laid Known (IsOfMet Now) branch class old.slots h.made (h.units class) (λ k d lt time e. first_time (h.met k d lt branch class time (sym e)).0)
-        h.laid (λ time name few b c j e. (let x = branch_of branch b class c time j e in let same = x.2 in
+    temp = lends_laid Known (IsOfMet Now) branch class old.slots h.made (h.units class) (λ k d lt index e. first_time (h.met k d lt branch class index (sym e)).0)
+        h.laid (λ index name few b c j e. (let x = branch_of branch b class c index j e in let same = x.2 in
         (inr (x.0, x.1), omega (arith, few, same))))
-        (λ k d lt b c time e. (let m = h.met k d lt b c time e in (inl m.0, m.1))) middle.slots orders.lends.0 orders.lends.1 orders.lends.2
+        (λ k d lt b c index e. (let m = h.met k d lt b c index e in (inl m.0, m.1))) middle.slots orders.lends.0 orders.lends.1 orders.lends.2
 
     abbrev IsEndHere : Place → Type 0
     IsEndHere = IsEndOrNone temp.lays.made (before branch) class

@@ -82,8 +82,8 @@ module _ (f : FunctionValue) (env : MachineValue) (Known : VirtualRegister → T
       slots_owned Known f t.slots h.made h.laid o m.count sizes (by_last ∙ sym h.by_last)
       (λ i lt k d less n at. owner_known f env Known May t o m owned sound_ops _ n i k
       (lt, less, ap (λ x. x.vreg) (get_or_default (inst_at f i).operands k no_operand d less)) at) places_own moves_keep
-      locations_own (λ c there i class time e. let met = All-contains (IsOfMet Met) h.made c h.met there i class time e in (branches i class met.0, met.1))
+      locations_own (λ c there i class index e. let met = All-contains (IsOfMet Met) h.made c h.met there i class index e in (branches i class met.0, met.1))
 
 -- on a machine that fits, the registers reserved for moves are of their classes
 pub fits_keeps : (f : FunctionValue) (env : MachineValue) → MachineFits f env → KeepsOfClass env
-fits_keeps f env fits = λ c r own. ((fits c).scratch_apart r own).0
+fits_keeps f env fits = λ c r own. ((fits c).scratch r own).0

@@ -55,9 +55,9 @@ returns-then-names_class-clause-misfit g c =
 pub returns-clause-ok : goal.returns-clause-ok
 returns-clause-ok g c = record {
   of_class = c.in_ok-test_registers.ensures.ok.of_class;
-  preferred_apart = c.in_ok-test_registers.ensures.ok.listed_once;
+  listed_once = c.in_ok-test_registers.ensures.ok.listed_once;
   valid = c.in_ok-test_registers.ensures.ok.valid;
-  scratch_apart = c.in_ok-test_scratch.ensures.ok;
+  scratch = c.in_ok-test_scratch.ensures.ok;
   slots_apart = λ k d less. let apart = c.in_ok-test_slots.ensures.ok k d less in (apart.0, apart.1, c.requires.valid k d less);
   has_a_register = λ names. elim c.else-is_none.branch [
     | else-is_none-via-then-is_none+else-names_class w ↦ absurd (false≢true (sym w.if-names_class.false ∙ w.names_class.ensures.1 names))
