@@ -12,22 +12,15 @@ use Rattle.regalloc2_function.specs.Machine.{MachineValue, is_allocatable, scrat
 use Rattle.regalloc2_function.specs.WellFormed.{IsReused}
 use Rattle.regalloc2_function.specs.Fitting.{NamesClass}
 
-abbrev pub is_reuse : OperandConstraint → Bool
-is_reuse Any = false
-is_reuse Reg = false
-is_reuse Stack = false
-is_reuse (FixedReg r) = false
-is_reuse (Reuse n) = true
-is_reuse (Limit n) = false
+-- an operand takes the early position of its instruction; a late definition does so only if it is a reuse
+abbrev pub TakesEarly : OperandValue → Type 0
+TakesEarly o = (is_def o.kind && is_late o.position) ≡ true → (n : ℕ) × (o.constraint ≡ Reuse n)
 
--- an operand takes the early position of its instruction: each but a late definition that is no reuse
-abbrev pub HoldsEarly : OperandValue → Type 0
-HoldsEarly o = (is_def o.kind && is_late o.position && not (is_reuse o.constraint)) ≡ false
+-- operand `k` takes the late position of its instruction; an early use does so only if it is reused
+abbrev pub TakesLate : InstValue → ℕ → OperandValue → Type 0
+TakesLate i k o = (not (is_def o.kind) && not (is_late o.position)) ≡ true → IsReused i k
 
--- operand `k` takes the late position of its instruction: each but an early use that isn't reused
-abbrev pub HoldsLate : InstValue → ℕ → OperandValue → Type 0
-HoldsLate i k o = (not (is_def o.kind) && not (is_late o.position)) ≡ true → IsReused i k
-
+-- the constraint `Reg`: any register
 abbrev pub is_under_reg : OperandConstraint → Bool
 is_under_reg Any = false
 is_under_reg Reg = true
@@ -36,6 +29,7 @@ is_under_reg (FixedReg r) = false
 is_under_reg (Reuse n) = false
 is_under_reg (Limit n) = false
 
+-- the constraint that names the register
 abbrev pub is_fixed_to : Register → OperandConstraint → Bool
 is_fixed_to q Any = false
 is_fixed_to q Reg = false
@@ -64,5 +58,5 @@ pub record Fits (f : FunctionValue) (env : MachineValue) (i : InstValue) : Type 
       let a : OperandValue = slice_index_or i.operands j d in
       let b : OperandValue = slice_index_or i.operands k e in
       is_fixed_nonallocatable a ≡ false → is_fixed_nonallocatable b ≡ false → a.constraint ≡ FixedReg r → b.constraint ≡ FixedReg r →
-      (HoldsEarly a × HoldsEarly b → ⊥) × (HoldsLate i j a × HoldsLate i k b → ⊥)
+      (TakesEarly a × TakesEarly b → ⊥) × (TakesLate i j a × TakesLate i k b → ⊥)
   pub enough : (c : RegClass) → NamesClass f c → need_of env c i + spare_of env c ≤ allocatable_count env c

@@ -16,7 +16,7 @@ use Rattle.regalloc2_function.specs.Machine.{MachineValue, empty_set, is_allocat
 use Rattle.regalloc2_semantics.specs.Debug.{ReadsAt, PassesAt, UsesAt, IsLastUse, IsLastPoint, IsKept}
 use Rattle.regalloc2_semantics.specs.Debug.IsFirstPoint.{of_definition as first_of_definition}
 use Rattle.regalloc2_semantics.specs.Debug.IsLastPoint.{of_late_use, of_early_use, of_argument, of_definition}
-use Rattle.regalloc2_semantics.specs.Fits.{Fits, HoldsEarly, HoldsLate, need_of, spare_of}
+use Rattle.regalloc2_semantics.specs.Fits.{Fits, TakesEarly, TakesLate, need_of, spare_of}
 use Rattle.regalloc2_function.specs.Fitting.{NamesClass}
 use Rattle.regalloc2_function.specs.WellFormed.{IsReused}
 use Rattle.regalloc2_tests.proofs.WorkedPaths.{v, op, block, with_blocks, def_reg, use_reg}
@@ -82,7 +82,10 @@ fixed_to_p0i n k q = record { vreg = v n; constraint = FixedReg p0i; kind = k; p
 
 -- two early uses that are fixed to one register don't fit
 two_uses_fixed : Fits read_once two_registers (op (fixed_to_p0i 0 Use Early ∷ fixed_to_p0i 1 Use Early ∷ [])) → ⊥
-two_uses_fixed fits = (fits.apart 0 1 (use_reg 0) (use_reg 0) p0i (omega arith) (omega arith) refl refl refl refl).0 (refl, refl)
+two_uses_fixed fits = (fits.apart 0 1 (use_reg 0) (use_reg 0) p0i (omega arith) (omega arith) refl refl refl refl).0 (early, early)
+  where
+    early : {n : ℕ} → TakesEarly (fixed_to_p0i n Use Early)
+    early e = absurd (let no : false ≡ true = e in cc)
 
 -- three uses in registers don't fit where there are two
 three_uses : Fits read_once two_registers (op (use_reg 0 ∷ use_reg 1 ∷ use_reg 2 ∷ [])) → ⊥
@@ -122,9 +125,9 @@ fixed_in_turn = record { fixed = fixed; apart = apart; enough = enough }
         let a : OperandValue = slice_index_or both_fixed.operands j d in
         let b : OperandValue = slice_index_or both_fixed.operands k e in
         is_fixed_nonallocatable a ≡ false → is_fixed_nonallocatable b ≡ false → a.constraint ≡ FixedReg r → b.constraint ≡ FixedReg r →
-        (HoldsEarly a × HoldsEarly b → ⊥) × (HoldsLate both_fixed j a × HoldsLate both_fixed k b → ⊥)
+        (TakesEarly a × TakesEarly b → ⊥) × (TakesLate both_fixed j a × TakesLate both_fixed k b → ⊥)
     apart zero zero d e r less within a b one two = absurd (omega (arith, less))
-    apart zero (suc zero) d e r less within a b one two = ((λ h. let no : true ≡ false = h.0 in cc), (λ h. unreused 1 (h.1 refl)))
+    apart zero (suc zero) d e r less within a b one two = ((λ h. let reuse = h.0 refl in let no : FixedReg p0i ≡ Reuse reuse.0 = reuse.1 in cc), (λ h. unreused 1 (h.1 refl)))
     apart zero (suc (suc k)) d e r less within a b one two = absurd (omega (arith, within))
     apart (suc j) k d e r less within a b one two = absurd (omega (arith, less, within))
 

@@ -7,7 +7,7 @@ use Rattle.regalloc2_names.specs.Register.{Register, VirtualRegister, has_regist
 use Rattle.regalloc2_names.specs.Operand.{OperandValue, is_def, is_late, is_fixed_nonallocatable}
 use Rattle.regalloc2_function.specs.FunctionValue.{FunctionValue, InstValue, no_operand, op_at}
 use Rattle.regalloc2_function.specs.Machine.{MachineValue, is_allocatable, IsFixedStackSlot}
-use Rattle.regalloc2_semantics.specs.Fits.{Fits, HoldsEarly, HoldsLate, is_reuse}
+use Rattle.regalloc2_semantics.specs.Fits.{Fits, TakesEarly, TakesLate}
 use Rattle.regalloc2_carry.proofs.Operands.{reads_use}
 use Rattle.regalloc2_fastalloc_state.specs.declared.positions.Positions.{Positions}
 use Rattle.regalloc2_fastalloc_state.specs.Positions.{positions_of}
@@ -16,17 +16,17 @@ use Rattle.regalloc2_fastalloc_proofs.proofs.Operands.AllocsSoFar.{AreSoundOpera
 use Rattle.regalloc2_fastalloc_proofs.proofs.BlockEnd.NoMoveInPasses.{overlap_cases}
 use Rattle.regalloc2_fastalloc_proofs.proofs.Pressure.TablesHaveAllRegs.{HasAll}
 
--- an operand that claims its register early holds the early position, and one that claims it late the late position
-holds_early : (o : OperandValue) → (positions_of o).early ≡ true → HoldsEarly o
-holds_early o h = by_test (is_def o.kind) (is_late o.position) (not (is_reuse o.constraint)) h
+-- an operand that claims its register early takes the early position, and one that claims it late the late position
+takes_early : (o : OperandValue) → (positions_of o).early ≡ true → TakesEarly o
+takes_early o h e = absurd (by_test (is_def o.kind) (is_late o.position) h e)
   where
-    by_test : (a b c : Bool) → (not a || not b) ≡ true → (a && b && c) ≡ false
-    by_test true true c h = absurd cc
-    by_test true false c h = refl
-    by_test false b c h = refl
+    by_test : (a b : Bool) → (not a || not b) ≡ true → (a && b) ≡ true → ⊥
+    by_test true true h e = cc
+    by_test true false h e = cc
+    by_test false b h e = cc
 
-holds_late : (i : InstValue) (k : ℕ) (o : OperandValue) → (positions_of o).late ≡ true → HoldsLate i k o
-holds_late i k o h e = absurd (by_test (is_def o.kind) (is_late o.position) h e)
+takes_late : (i : InstValue) (k : ℕ) (o : OperandValue) → (positions_of o).late ≡ true → TakesLate i k o
+takes_late i k o h e = absurd (by_test (is_def o.kind) (is_late o.position) h e)
   where
     by_test : (a b : Bool) → (a || b) ≡ true → (not a && not b) ≡ true → ⊥
     by_test true b h e = cc
@@ -47,8 +47,8 @@ module _ (f : FunctionValue) (env : MachineValue) (inst : InstValue) (fits : Fit
     within : m < length ops
     allocated : is_fixed_nonallocatable (op_at ops m) ≡ false
     is_fixed : (op_at ops m).constraint ≡ FixedReg r
-    early : p.early ≡ true → HoldsEarly (op_at ops m)
-    late : p.late ≡ true → HoldsLate inst m (op_at ops m)
+    early : p.early ≡ true → TakesEarly (op_at ops m)
+    late : p.late ≡ true → TakesLate inst m (op_at ops m)
 
   own_at : (k : ℕ) (r : Register) (p : Positions) → k < length ops → is_fixed_nonallocatable (op_at ops k) ≡ false → (op_at ops k).constraint ≡ FixedReg r →
       p ≡ positions_of (op_at ops k) → ClaimAt k r p
@@ -56,8 +56,8 @@ module _ (f : FunctionValue) (env : MachineValue) (inst : InstValue) (fits : Fit
     within = lt;
     allocated = allocated;
     is_fixed = is;
-    early = λ e. holds_early (op_at ops k) (ap (λ (q : Positions). q.early) (sym at) ∙ e);
-    late = λ e. holds_late inst k (op_at ops k) (ap (λ (q : Positions). q.late) (sym at) ∙ e);
+    early = λ e. takes_early (op_at ops k) (ap (λ (q : Positions). q.early) (sym at) ∙ e);
+    late = λ e. takes_late inst k (op_at ops k) (ap (λ (q : Positions). q.late) (sym at) ∙ e);
   }
 
   -- a reuse claims the register of the use that it names at the late position
