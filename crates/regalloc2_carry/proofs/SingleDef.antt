@@ -9,10 +9,11 @@ use Rattle.regalloc2_names.specs.Register.{VirtualRegister, no_vreg}
 use Rattle.regalloc2_names.specs.Operand.{OperandValue, is_def, is_reading}
 use Rattle.regalloc2_names.specs.Place.{before, after}
 use Rattle.regalloc2_function.specs.FunctionValue.{FunctionValue, BlockValue, InstValue, block_at, inst_at, no_block, no_inst, no_operand, op_at}
-use Rattle.regalloc2_function.specs.WellFormed.{defines_number, BlocksFollow, DefinedOnce, IsDefinedBy, UsesAreDefined}
+use Rattle.regalloc2_function.specs.WellFormed.{BlocksFollow, DefinedOnce, IsDefinedBy, UsesAreDefined}
 use Rattle.regalloc2_carry.specs.Instruction.{Knows}
 use Rattle.regalloc2_carry.specs.OperandsPlaced.{Once, Counts, what_of}
 use Rattle.regalloc2_semantics.proofs.Soundness.{total, total-two, count_at, in_blocks, in_insts, at_most_one}
+use Rattle.regalloc2_function.proofs.DefsCounted.{defines_number}
 
 -- one item of a sum
 total-one : {X : Type 0} (g : X → ℕ) (xs : List X) (k : ℕ) (d : X) → k < length xs → g (slice_index_or xs k d) ≤ total (map g xs)

@@ -1,7 +1,7 @@
 -- How often a number is defined, by the listing and by the function's sums.
 use Rattle.std.proofs.Common.{ℕ, zero, suc, ◌≡◌, ◌+◌, ◌-◌, ◌<◌, ◌≤◌, Some, None, List, [], ◌∷◌, ◌++◌, length, take, refl, sym, ap, ◌∙◌, zero-add, inl, inr}
 use Rattle.std.proofs.Common.{arith}
-use Rattle.std.specs.Prelude.{count_by, filter_map, flat_map, map, nat_eq, sum_by, cond, ◌&&◌}
+use Rattle.std.specs.Prelude.{Bool, count_by, filter_map, flat_map, map, nat_eq, sum_by, cond, ◌&&◌}
 use Rattle.std.specs.List.{cons_option}
 use Rattle.std.proofs.lemmas.Bool.{cases_Bool}
 use Rattle.std.proofs.lemmas.List.Sums.{sum_by-append, sum_by-cons, sum_by_more}
@@ -10,12 +10,16 @@ use Rattle.regalloc2_names.specs.Register.{VirtualRegister}
 use Rattle.regalloc2_names.specs.Operand.{OperandValue, is_def}
 use Rattle.regalloc2_names.specs.Place.{after}
 use Rattle.regalloc2_function.specs.FunctionValue.{FunctionValue, BlockValue, InstValue, block_at, inst_at, no_block, no_inst}
-use Rattle.regalloc2_function.specs.WellFormed.{BlocksFollow, defines_number}
+use Rattle.regalloc2_function.specs.WellFormed.{BlocksFollow}
 use Rattle.regalloc2_function.specs.Reasons.{Site}
 use Rattle.regalloc2_function.proofs.ListsInParts.{numbers_more, flat_more}
 use Rattle.regalloc2_function.proofs.Following.{end_within}
 use Rattle.regalloc2_function.proofs.BlockRanges.{first_after, block_is}
 use Rattle.regalloc2_function.specs.Inside.Definitions.{param_definition, operand_definition, inst_definitions, block_definitions, definitions_among}
+
+-- an operand that defines a number
+abbrev pub defines_number : ℕ → OperandValue → Bool
+defines_number n o = is_def o.kind && nat_eq o.vreg.number n
 
 -- among two lists of definitions
 pub among_append : (n : ℕ) (xs ys : List Site) → definitions_among (xs ++ ys) n ≡ definitions_among xs n + definitions_among ys n

@@ -11,11 +11,11 @@ use Rattle.regalloc2_names.specs.Register.{VirtualRegister}
 use Rattle.regalloc2_names.specs.Operand.{OperandValue, is_def, is_reading}
 use Rattle.regalloc2_names.specs.Place.{before, after}
 use Rattle.regalloc2_function.specs.FunctionValue.{FunctionValue, BlockValue, InstValue, block_at, inst_at, no_block, no_inst, last_of}
-use Rattle.regalloc2_function.specs.WellFormed.{BlocksFollow, DefinedOnce, IsDefinedBy, UsesAreDefined, defines_number, definitions_of}
+use Rattle.regalloc2_function.specs.WellFormed.{BlocksFollow, DefinedOnce, IsDefinedBy, UsesAreDefined, definitions_of}
 use Rattle.regalloc2_function.specs.Reasons.{AreSingle, Site}
 use Rattle.regalloc2_function.specs.Reasons.{definitions_in}
 use Rattle.regalloc2_function.specs.Reasons.{uses_in}
-use Rattle.regalloc2_function.proofs.DefsCounted.{among_blocks, first_is_start, insts_to, start_of}
+use Rattle.regalloc2_function.proofs.DefsCounted.{among_blocks, first_is_start, insts_to, start_of, defines_number}
 use Rattle.regalloc2_function.proofs.ListMembers.{all_members, from_filter, from_flat, from_map, from_numbers, in_filter, in_flat, in_map, in_numbers}
 use Rattle.regalloc2_function.proofs.BlockRanges.{block_is}
 use Rattle.regalloc2_function.specs.Inside.Definitions.{param_definition, operand_definition, inst_definitions, block_definitions, definitions_among, operand_read, inst_reads, argument_use, passed_at, block_uses}

@@ -68,14 +68,10 @@ abbrev pub ArgumentsFitAt : FunctionValue → ℕ → BlockValue → Type 0
 ArgumentsFitAt f n b = (k : ℕ) → k < length b.succs → map (λ v. v.class) (slice_index_or b.arguments k []) ≡ map (λ v. v.class)
     (block_at f (slice_index b.succs k)).params
 
--- an operand that defines
-abbrev pub defines_number : ℕ → OperandValue → Bool
-defines_number n o = is_def o.kind && nat_eq o.vreg.number n
-
 -- how often a vreg's number is defined: as a parameter and by instructions
 abbrev pub definitions_of : FunctionValue → ℕ → ℕ
 definitions_of f n = sum_of (map (λ b. count_by (λ v. nat_eq v.number n) b.params) f.blocks) + sum_of
-    (map (λ i. count_by (defines_number n) i.operands) f.insts)
+    (map (λ i. count_by (λ o. is_def o.kind && nat_eq o.vreg.number n) i.operands) f.insts)
   where
     sum_of : List ℕ → ℕ
     sum_of [] = 0

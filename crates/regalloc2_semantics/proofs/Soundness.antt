@@ -8,10 +8,11 @@ use Rattle.std.proofs.lemmas.List.Sums.{get_or-le-sum_by, sum_by-cons, count_by-
 use Rattle.regalloc2_names.specs.Register.{VirtualRegister, is_vreg}
 use Rattle.regalloc2_names.specs.Operand.{OperandValue, is_def}
 use Rattle.regalloc2_function.specs.FunctionValue.{FunctionValue, BlockValue, InstValue, block_at, inst_at, no_block, no_inst, no_operand, op_at, EachBlock}
-use Rattle.regalloc2_function.specs.WellFormed.{defines_number, times_in, ways_into, DefinedOnce, NotCriticalAt, PredecessorsAt}
+use Rattle.regalloc2_function.specs.WellFormed.{times_in, ways_into, DefinedOnce, NotCriticalAt, PredecessorsAt}
 use Rattle.regalloc2_semantics.specs.Live.{Undefined, names, HasEdge, target_at}
 use Rattle.regalloc2_semantics.specs.Sound.{IsParameter, IsEnteredOnce, WellFormedAreSound}
 use Rattle.regalloc2_semantics.proofs.Cells.{is_vreg-true}
+use Rattle.regalloc2_function.proofs.DefsCounted.{defines_number}
 
 -- sums by recursion
 abbrev pub total : List ℕ → ℕ

@@ -45,12 +45,7 @@ need_of env class i =
     + count_below (λ n. is_allocatable env class (register_number class n)
     && (has_register i.clobbers (register_number class n) || nat_lt 0 (count_by (λ o. is_fixed_to (register_number class n) o.constraint) i.operands))) 64
 
--- one more where the class has fixed stack slots and no dedicated scratch register
-abbrev pub spare_of : MachineValue → RegClass → ℕ
-spare_of env class = if nat_lt 0 (count_by (λ r. nat_eq (class_code r.class) (class_code class)) env.fixed_stack_slots)
-    && is_none (scratch_of env class) then 1 else 0
-
--- an instruction that has registers enough
+-- An instruction that has registers enough: besides those that it needs, one more where the class has fixed stack slots and no dedicated scratch register.
 pub record Fits (f : FunctionValue) (env : MachineValue) (i : InstValue) : Type 0 where
   pub fixed : EachOperand i (λ k o. is_fixed_nonallocatable o ≡ false → (r : Register) → o.constraint ≡ FixedReg r → (is_allocatable env r.class r ≡ true)
       ⊎ IsFixedStackSlot env r)
@@ -59,4 +54,6 @@ pub record Fits (f : FunctionValue) (env : MachineValue) (i : InstValue) : Type 
       let b : OperandValue = slice_index_or i.operands k e in
       is_fixed_nonallocatable a ≡ false → is_fixed_nonallocatable b ≡ false → a.constraint ≡ FixedReg r → b.constraint ≡ FixedReg r →
       (TakesEarly a × TakesEarly b → ⊥) × (TakesLate i j a × TakesLate i k b → ⊥)
-  pub enough : (c : RegClass) → NamesClass f c → need_of env c i + spare_of env c ≤ allocatable_count env c
+  pub enough : (c : RegClass) → NamesClass f c → need_of env c i
+      + (if nat_lt 0 (count_by (λ r. nat_eq (class_code r.class) (class_code c)) env.fixed_stack_slots) && is_none (scratch_of env c) then 1 else 0)
+      ≤ allocatable_count env c

@@ -1,6 +1,6 @@
 -- Tests of the definitions of kept labels and of instructions that fit: one that is and one that isn't.
 use Rattle.std.proofs.Common.{ℕ, zero, suc, ◌≡◌, ◌+◌, ◌/◌, ◌<◌, ◌≤◌, false, true, [], ◌∷◌, refl, arith, inl, inr, subst}
-use Rattle.std.specs.Prelude.{◌⊎◌, slice_index_or, None}
+use Rattle.std.specs.Prelude.{◌⊎◌, slice_index_or, None, ◌&&◌, count_by, if◌then◌else◌, is_none, nat_eq, nat_lt}
 use Rattle.regalloc2_names.specs.declared.OperandConstraint.TheVariants.{FixedReg, Reuse}
 use Rattle.regalloc2_names.specs.declared.OperandKind.{OperandKind}
 use Rattle.regalloc2_names.specs.declared.OperandKind.TheVariants.{Def, Use}
@@ -9,14 +9,14 @@ use Rattle.regalloc2_names.specs.declared.OperandPos.TheVariants.{Early, Late}
 use Rattle.regalloc2_names.specs.declared.RegClass.{RegClass}
 use Rattle.regalloc2_names.specs.declared.RegClass.TheVariants.{Int, Float, Vector}
 use Rattle.regalloc2_names.specs.Operand.{OperandValue, is_fixed_nonallocatable}
-use Rattle.regalloc2_names.specs.Register.{Register, has_register}
+use Rattle.regalloc2_names.specs.Register.{Register, has_register, class_code}
 use Rattle.regalloc2_names.specs.Place.{after}
 use Rattle.regalloc2_function.specs.FunctionValue.{FunctionValue, InstValue, Label, EachOperand}
-use Rattle.regalloc2_function.specs.Machine.{MachineValue, empty_set, is_allocatable, IsFixedStackSlot, allocatable_count, count_below}
+use Rattle.regalloc2_function.specs.Machine.{MachineValue, empty_set, is_allocatable, IsFixedStackSlot, allocatable_count, count_below, scratch_of}
 use Rattle.regalloc2_semantics.specs.Debug.{ReadsAt, PassesAt, UsesAt, IsLastUse, IsLastPoint, IsKept}
 use Rattle.regalloc2_semantics.specs.Debug.IsFirstPoint.{of_definition as first_of_definition}
 use Rattle.regalloc2_semantics.specs.Debug.IsLastPoint.{of_late_use, of_early_use, of_argument, of_definition}
-use Rattle.regalloc2_semantics.specs.Fits.{Fits, TakesEarly, TakesLate, need_of, spare_of}
+use Rattle.regalloc2_semantics.specs.Fits.{Fits, TakesEarly, TakesLate, need_of}
 use Rattle.regalloc2_function.specs.Fitting.{NamesClass}
 use Rattle.regalloc2_function.specs.WellFormed.{IsReused}
 use Rattle.regalloc2_tests.proofs.WorkedPaths.{v, op, block, with_blocks, def_reg, use_reg}
@@ -86,6 +86,11 @@ two_uses_fixed fits = (fits.apart 0 1 (use_reg 0) (use_reg 0) p0i (omega arith) 
   where
     early : {n : ℕ} → TakesEarly (fixed_to_p0i n Use Early)
     early e = absurd (let no : false ≡ true = e in cc)
+
+-- one more register where the class has fixed stack slots and no dedicated scratch register
+abbrev spare_of : MachineValue → RegClass → ℕ
+spare_of env class = if nat_lt 0 (count_by (λ r. nat_eq (class_code r.class) (class_code class)) env.fixed_stack_slots)
+    && is_none (scratch_of env class) then 1 else 0
 
 -- three uses in registers don't fit where there are two
 three_uses : Fits read_once two_registers (op (use_reg 0 ∷ use_reg 1 ∷ use_reg 2 ∷ [])) → ⊥

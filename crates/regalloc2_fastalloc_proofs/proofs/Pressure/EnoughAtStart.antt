@@ -11,7 +11,7 @@ use Rattle.regalloc2_names.specs.Operand.{OperandValue}
 use Rattle.regalloc2_names.specs.Place.{Place, NoPlace}
 use Rattle.regalloc2_function.specs.FunctionValue.{FunctionValue, InstValue, no_operand, op_at}
 use Rattle.regalloc2_function.specs.Machine.{MachineValue, is_allocatable, scratch_of, IsFixedStackSlot, count_below, register_number}
-use Rattle.regalloc2_semantics.specs.Fits.{Fits, is_fixed_to, spare_of}
+use Rattle.regalloc2_semantics.specs.Fits.{Fits, is_fixed_to}
 use Rattle.regalloc2_function.specs.Fitting.{MachineFits, NamesClass}
 use Rattle.regalloc2_semantics.proofs.Soundness.{count_at}
 use Rattle.regalloc2_fastalloc_state.specs.declared.inst_regs.InstRegs.{InstRegs}
@@ -60,6 +60,11 @@ fresh_ample f env fits inst_regs t all s c named =
     let here : 0 < free_count t.allocatable inst_regs c = subst (λ (k : RegClass). 0 < free_count t.allocatable inst_regs k) same some in
     let one = spare_small t inst_regs c in
     omega (arith, here, one)
+
+-- one more register where the class has fixed stack slots and no dedicated scratch register
+abbrev spare_of : MachineValue → RegClass → ℕ
+spare_of env class = if nat_lt 0 (count_by (λ r. nat_eq (class_code r.class) (class_code class)) env.fixed_stack_slots)
+    && is_none (scratch_of env class) then 1 else 0
 
 -- the registers reserved for moves are no more than the instruction must leave for them
 spare_below : (env : MachineValue) (inst_regs : InstRegs) (t : StateValue) (c : RegClass) → HasAll env t
