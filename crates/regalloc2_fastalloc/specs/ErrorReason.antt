@@ -32,7 +32,8 @@ IsReason f env validate_ssa (BB b) = FailsValidation f env validate_ssa (BB b)
 IsReason f env validate_ssa (Branch i) = FailsValidation f env validate_ssa (Branch i)
 IsReason f env validate_ssa EntryLivein = FailsValidation f env validate_ssa EntryLivein
 IsReason f env validate_ssa (DisallowedBranchArg i) = FailsValidation f env validate_ssa (DisallowedBranchArg i)
-IsReason f env validate_ssa TooManyLiveRegs = PassesAllChecks f env validate_ssa × ((i : ℕ) × (i < length f.insts) × (Fits f env (inst_at f i) → ⊥))
+IsReason f env validate_ssa TooManyLiveRegs =
+    PassesAllChecks f env validate_ssa × ((i : ℕ) × (i < length f.insts) × (Fits f env (inst_at f i) → ⊥))
 IsReason f env validate_ssa TooManyOperands = 2 ^ 32 ≤ operand_count f
 IsReason f env validate_ssa (Unsupported i) =
     FailsValidation f env validate_ssa (Unsupported i)

@@ -35,7 +35,8 @@ shape_refused f shape (critical b p blocks follow agree h fork) = h.1 (shape.no_
 shape_refused f shape (operands b blocks follow agree edges h) = h.1 (shape.no_operands_into_joins b h.0)
 
 -- an error of definitions is one of soundness, if the tests before pass
-pub definition_fault : (f : FunctionValue) → EntryIsFirst f → EachBlock f (EndsAt f) → EachBlock f (ArgumentsFitAt f) → (e : RegAllocError) → IsDefinitionFault f e → (e ≡ Memory)
+pub definition_fault : (f : FunctionValue) → EntryIsFirst f → EachBlock f (EndsAt f) → EachBlock f (ArgumentsFitAt f) → (e : RegAllocError) →
+    IsDefinitionFault f e → (e ≡ Memory)
     ⊎ IsSoundnessFault f e
 definition_fault f entry end fit Memory h = inl refl
 definition_fault f entry end fit (SSA v i) (inl repeat) = inr (repeated v i entry end fit repeat)

@@ -18,7 +18,8 @@ use Rattle.regalloc2_function.specs.Reasons.{uses_in}
 use Rattle.regalloc2_function.proofs.DefsCounted.{among_blocks, first_is_start, insts_to, start_of, defines_number}
 use Rattle.regalloc2_function.proofs.ListMembers.{all_members, from_filter, from_flat, from_map, from_numbers, in_filter, in_flat, in_map, in_numbers}
 use Rattle.regalloc2_function.proofs.BlockRanges.{block_is}
-use Rattle.regalloc2_function.specs.Inside.Definitions.{param_definition, operand_definition, inst_definitions, block_definitions, definitions_among, operand_read, inst_reads, argument_use, passed_at, block_uses}
+use Rattle.regalloc2_function.specs.Inside.Definitions.{argument_use, block_definitions, block_uses, definitions_among, inst_definitions}
+use Rattle.regalloc2_function.specs.Inside.Definitions.{inst_reads, operand_definition, operand_read, param_definition, passed_at}
 
 abbrev param_count : ℕ → BlockValue → ℕ
 param_count n b = count_by (λ v. nat_eq v.number n) b.params

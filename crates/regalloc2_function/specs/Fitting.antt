@@ -7,13 +7,14 @@ use Rattle.regalloc2_names.specs.Operand.{is_fixed_nonallocatable}
 use Rattle.regalloc2_function.specs.FunctionValue.{FunctionValue, block_at, inst_at}
 use Rattle.regalloc2_function.specs.Machine.{MachineValue, is_allocatable, is_preferred, is_non_preferred, scratch_of}
 
--- an operand names a vreg of the class, or a parameter does, or an argument of a block that is nonempty and within the instructions
+-- an operand names a vreg of the class, or a parameter does, or an argument of a block that is nonempty and within the
+-- instructions
 abbrev pub NamesClass : FunctionValue → RegClass → Type 0
 NamesClass f class =
     ((i : ℕ) × (i < length f.insts) × SomeIn (λ o. (is_fixed_nonallocatable o ≡ false) × (o.vreg.class ≡ class)) (inst_at f i).operands)
     ⊎ ((b : ℕ) × (b < length f.blocks) × (SomeIn (λ v. v.class ≡ class) (block_at f b).params
-    ⊎ ((k : ℕ) × ((block_at f b).range.first < (block_at f b).range.end) × ((block_at f b).range.end ≤ length f.insts) × (k < length (block_at f b).succs)
-    × SomeIn (λ v. v.class ≡ class) (slice_index_or (block_at f b).arguments k []))))
+    ⊎ ((k : ℕ) × ((block_at f b).range.first < (block_at f b).range.end) × ((block_at f b).range.end ≤ length f.insts)
+    × (k < length (block_at f b).succs) × SomeIn (λ v. v.class ≡ class) (slice_index_or (block_at f b).arguments k []))))
 
 -- For a class: its registers, preferred, non-preferred and scratch, are valid, of that class and apart; no fixed stack slot is one of them
 -- or invalid; and there is a register to allocate if the function names a vreg of the class.

@@ -1,6 +1,6 @@
 -- Where the tests of a function fail first, as their errors report.
-use Rattle.std.specs.Prelude.{ℕ, ◌≡◌, ◌≢◌, ◌<◌, ◌≤◌, ◌⊎◌, Bool, List, [], ◌∷◌, ◌++◌, All, count_by, filter_map, flat_map, length, map, nat_eq, slice_index_or}
-use Rattle.std.specs.Prelude.{None, Some, if◌then◌else◌}
+use Rattle.std.specs.Prelude.{ℕ, ◌≡◌, ◌≢◌, ◌<◌, ◌≤◌, ◌⊎◌, Bool, List, [], ◌∷◌, ◌++◌, All, count_by, length, nat_eq}
+use Rattle.std.specs.Prelude.{None, Some, filter_map, flat_map, if◌then◌else◌, map, slice_index_or}
 use Rattle.regalloc2_index.specs.Range.{invalid_number, numbers_from, numbers_of}
 use Rattle.regalloc2_names.specs.declared.RegAllocError.{RegAllocError}
 use Rattle.regalloc2_names.specs.declared.RegAllocError.TheVariants.{BB, Branch, CritEdge, DisallowedBranchArg, EntryLivein, Memory, SSA, Unsupported}
@@ -36,13 +36,15 @@ pub record Site : Type 0 where
 abbrev pub sites_of : (OperandValue → Bool) → FunctionValue → ℕ → ℕ → List Site
 sites_of test f i point = filter_map (λ o. if test o then Some (record { vreg = o.vreg; inst = i; point = point }) else None) (inst_at f i).operands
 
--- all definitions, block by block: the block's parameters, before its first instruction, then what each instruction defines, after it
+-- all definitions, block by block: its parameters, before its first instruction, then what each instruction defines,
+-- after it
 abbrev pub definitions_in : FunctionValue → List Site
 definitions_in f = flat_map (λ b.
     map (λ v. record { vreg = v; inst = invalid_number; point = before b.range.first }) b.params
     ++ flat_map (λ i. sites_of (λ o. is_def o.kind) f i (after i)) (numbers_of b.range)) f.blocks
 
--- all uses, block by block: what each instruction reads, before it, then what the last one passes to each successor in turn, after it
+-- all uses, block by block: what each instruction reads, before it, then what the last one passes to each successor in
+-- turn, after it
 abbrev pub uses_in : FunctionValue → List Site
 uses_in f = flat_map (λ b.
     flat_map (λ i. sites_of is_reading f i (before i)) (numbers_of b.range)
@@ -64,11 +66,13 @@ pub record IsFirstRepeat (f : FunctionValue) (v : VirtualRegister) (i : ℕ) : T
   pub single : AreSingle f.num_vregs earlier
   pub fails : AreSingle f.num_vregs (earlier ++ site ∷ []) → ⊥
 
--- why the definitions of a function are rejected: out of memory, or else the first repeat, or if there is none the first use of what is not defined by then
+-- why the definitions of a function are rejected: out of memory, or else the first repeat, or if there is none the first
+-- use of what is not defined by then
 abbrev pub IsDefinitionFault : FunctionValue → RegAllocError → Type 0
 IsDefinitionFault f Memory = Unit {0}
 IsDefinitionFault f (SSA v i) = IsFirstRepeat f v i
-    ⊎ (DefinedOnce f × ((point : ℕ) × IsFirstIn (λ u. IsDefinedBy f u.vreg u.point) (uses_in f) (record { vreg = v; inst = i; point = point })))
+    ⊎ (DefinedOnce f × ((point : ℕ)
+    × IsFirstIn (λ u. IsDefinedBy f u.vreg u.point) (uses_in f) (record { vreg = v; inst = i; point = point })))
 IsDefinitionFault f _ = ⊥
 
 -- what the tests of blocks and edges test
@@ -79,13 +83,16 @@ pub record HasShape (f : FunctionValue) : Type 0 where
   pub no_critical_edge : EachBlock f (NotCriticalAt f)
   pub no_operands_into_joins : EachBlock f (NoOperandsAt f)
 
--- Why the blocks and edges of a function are rejected: the first of these tests that fails, and where it fails first. The entry and then all successors,
--- as listed, are tested to be blocks. A critical edge comes from the first predecessor that has several successors.
+-- Why the blocks and edges of a function are rejected: the first of these tests that fails, and where it fails first.
+-- The entry and then all successors, as listed, are tested to be blocks. A critical edge comes from the first
+-- predecessor that has several successors.
 pub data IsShapeFault (f : FunctionValue) : RegAllocError → Type 0 where
   outside : (s : ℕ) → IsFirstIn (λ s. s < length f.blocks) (f.entry ∷ flat_map (λ b. b.succs) f.blocks) s → IsShapeFault f (BB s)
   apart : (b : ℕ) → SuccessorsAreBlocks f → IsFirst (length f.blocks) (λ n. FollowsAt f n (block_at f n)) b → IsShapeFault f (BB b)
-  unlisted : (b : ℕ) → SuccessorsAreBlocks f → BlocksFollow f → IsFirst (length f.blocks) (λ n. PredecessorsAt f n (block_at f n)) b → IsShapeFault f (BB b)
-  critical : (b p : ℕ) → SuccessorsAreBlocks f → BlocksFollow f → EachBlock f (PredecessorsAt f) → IsFirst (length f.blocks) (λ n. NotCriticalAt f n (block_at f n)) b →
+  unlisted : (b : ℕ) → SuccessorsAreBlocks f → BlocksFollow f → IsFirst (length f.blocks) (λ n. PredecessorsAt f n (block_at f n)) b →
+      IsShapeFault f (BB b)
+  critical : (b p : ℕ) → SuccessorsAreBlocks f → BlocksFollow f → EachBlock f (PredecessorsAt f) →
+      IsFirst (length f.blocks) (λ n. NotCriticalAt f n (block_at f n)) b →
       IsFirstIn (λ p. length (block_at f p).succs ≤ 1) (block_at f b).preds p → IsShapeFault f (CritEdge p b)
   operands : (b : ℕ) → SuccessorsAreBlocks f → BlocksFollow f → EachBlock f (PredecessorsAt f) → EachBlock f (NotCriticalAt f) →
       IsFirst (length f.blocks) (λ n. NoOperandsAt f n (block_at f n)) b → IsShapeFault f (DisallowedBranchArg (last_of (block_at f b)))
@@ -106,12 +113,13 @@ pub data IsSoundnessFault (f : FunctionValue) : RegAllocError → Type 0 where
   open_end : (b : ℕ) → EntryIsFirst f → IsFirst (length f.blocks) (λ n. EndsAt f n (block_at f n)) b → IsSoundnessFault f (BB b)
   arguments : (b : ℕ) → EntryIsFirst f → EachBlock f (EndsAt f) → IsFirst (length f.blocks) (λ n. ArgumentsFitAt f n (block_at f n)) b →
       IsSoundnessFault f (Branch (last_of (block_at f b)))
-  repeated : (v : VirtualRegister) (i : ℕ) → EntryIsFirst f → EachBlock f (EndsAt f) → EachBlock f (ArgumentsFitAt f) → IsFirstRepeat f v i → IsSoundnessFault f (SSA v i)
+  repeated : (v : VirtualRegister) (i : ℕ) → EntryIsFirst f → EachBlock f (EndsAt f) → EachBlock f (ArgumentsFitAt f) → IsFirstRepeat f v i →
+      IsSoundnessFault f (SSA v i)
   undefined : (u : Site) → EntryIsFirst f → EachBlock f (EndsAt f) → EachBlock f (ArgumentsFitAt f) → DefinedOnce f →
       IsFirstIn (λ u. IsDefinedBy f u.vreg u.point) (uses_in f) u → IsSoundnessFault f (SSA u.vreg u.inst)
 
--- an instruction that the allocator rejects: the first that has a `Limit`, or if none has one, the first branch that defines in any register or by a
--- reuse
+-- an instruction that the allocator rejects: the first that has a `Limit`, or if none has one, the first branch that
+-- defines in any register or by a reuse
 abbrev pub IsUnsupported : FunctionValue → ℕ → Type 0
 IsUnsupported f i =
     IsFirst (length f.insts) (λ j. AreUnlimited (inst_at f j)) i

@@ -114,8 +114,8 @@ pub record ReusesAreSound (env : MachineValue) (i : InstValue) : Type 0 where
   pub targets : EachOperand i (λ k o. (n : ℕ) (d : OperandValue) → o.constraint ≡ Reuse n → (n < length i.operands)
       × (let u : OperandValue = slice_index_or i.operands n d in (u.kind ≡ Use) × (u.position ≡ Early) × (is_reading u ≡ true) × (u.vreg.class ≡ o.vreg.class)
       × MayBeReused env u.vreg.class u.constraint))
-  pub apart : (j k n : ℕ) (d e : OperandValue) → j < length i.operands → k < length i.operands → (slice_index_or i.operands j d).constraint ≡ Reuse n →
-      (slice_index_or i.operands k e).constraint ≡ Reuse n → j ≡ k
+  pub apart : (j k n : ℕ) (d e : OperandValue) → j < length i.operands → k < length i.operands →
+      (slice_index_or i.operands j d).constraint ≡ Reuse n → (slice_index_or i.operands k e).constraint ≡ Reuse n → j ≡ k
 
 -- no definition, late use or reused early use is fixed to a clobber
 abbrev pub FixedAvoidClobbers : InstValue → Type 0
@@ -160,4 +160,5 @@ IsInPlace (Limit n) = Unit {0}
 
 -- each definition of a branch is under a constraint whose place is known before registers are chosen
 abbrev pub BranchDefinesInPlace : InstValue → Type 0
-BranchDefinesInPlace i = i.is_branch ≡ true → (k : ℕ) → k < length i.operands → is_def (op_at i.operands k).kind ≡ true → IsInPlace (op_at i.operands k).constraint
+BranchDefinesInPlace i = i.is_branch ≡ true → (k : ℕ) → k < length i.operands → is_def (op_at i.operands k).kind ≡ true →
+    IsInPlace (op_at i.operands k).constraint

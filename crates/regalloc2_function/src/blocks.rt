@@ -1,7 +1,7 @@
 //! The tests of a function's blocks and edges.
 
-ghost use Rattle.std.specs.Prelude.{◌≡◌, ◌+◌, ◌<◌, ◌≤◌, ◌^◌, ◌↔◌, ◌⊎◌, ℕ, [], ◌∷◌, All, flat_map, length, replicate, slice_index, IfErr, IfNone, IfOk, IfSome, IsTrue, OnOk};
-ghost use Rattle.std.specs.Prelude.{if◌then◌else◌, nat_eq};
+ghost use Rattle.std.specs.Prelude.{◌≡◌, ◌+◌, ◌<◌, ◌≤◌, ◌^◌, ◌↔◌, ◌⊎◌, ℕ, [], All, length, replicate, slice_index, IfErr, IfNone, IfOk, IfSome, IsTrue, OnOk};
+ghost use Rattle.std.specs.Prelude.{◌∷◌, flat_map, if◌then◌else◌, nat_eq};
 ghost use Rattle.std.specs.Bool.{OnTrue};
 ghost use Rattle.regalloc2_function.specs.FunctionValue.{block_at, EachBlock, last_of};
 ghost use Rattle.regalloc2_function.specs.Reasons.{HasShape, IsFirst, IsFirstIn, IsShapeFault};

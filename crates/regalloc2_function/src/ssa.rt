@@ -6,13 +6,12 @@ ghost use Rattle.std.specs.Bool.{OnFalse, OnTrue};
 ghost use Rattle.regalloc2_index.specs.Range.{numbers_from, numbers_of};
 ghost use Rattle.regalloc2_names.specs.Place.{inst_limit};
 ghost use Rattle.regalloc2_function.specs.FunctionValue.{block_at, last_of, EachBlock};
-ghost use Rattle.regalloc2_function.specs.Reasons.{definitions_in};
-ghost use Rattle.regalloc2_function.specs.Reasons.{uses_in, IsDefinitionFault, HasShape, HasSoundness};
-ghost use Rattle.regalloc2_function.specs.Reasons.{IsFirst, IsSoundnessFault};
+ghost use Rattle.regalloc2_function.specs.Reasons.{definitions_in, uses_in, HasShape, HasSoundness, IsDefinitionFault, IsFirst, IsSoundnessFault};
 ghost use Rattle.regalloc2_function.specs.WellFormed.{ArgumentsFitAt, BlocksFollow, DefinedOnce, EntryIsFirst, SuccessorsAreBlocks};
 ghost use Rattle.regalloc2_function.specs.WellFormed.{UsesAreDefined};
 ghost use Rattle.regalloc2_function.specs.Inside.Definitions.{entry_of, IsDefinedInTable, IsNumberTaken, IsUsable, NamesTaken, NamesUnusable};
-ghost use Rattle.regalloc2_function.specs.Inside.Definitions.{NotesDefinitions, param_definition, operand_definition, inst_definitions, block_definitions, operand_read, inst_reads, argument_use, passed_at, block_uses};
+ghost use Rattle.regalloc2_function.specs.Inside.Definitions.{NotesDefinitions, block_definitions, inst_definitions, operand_definition, param_definition};
+ghost use Rattle.regalloc2_function.specs.Inside.Definitions.{argument_use, block_uses, inst_reads, operand_read, passed_at};
 ghost use Rattle.regalloc2_function.specs.Inside.TableLength.{CoversDefinitions};
 ghost use Rattle.regalloc2_function.specs.Tables.{IsInfoOf};
 

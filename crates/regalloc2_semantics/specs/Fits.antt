@@ -45,7 +45,8 @@ need_of env class i =
     + count_below (λ n. is_allocatable env class (register_number class n)
     && (has_register i.clobbers (register_number class n) || nat_lt 0 (count_by (λ o. is_fixed_to (register_number class n) o.constraint) i.operands))) 64
 
--- An instruction that has registers enough: besides those that it needs, one more where the class has fixed stack slots and no dedicated scratch register.
+-- An instruction that has registers enough: besides the registers that it needs, one more where the class has fixed stack
+-- slots and no dedicated scratch register.
 pub record Fits (f : FunctionValue) (env : MachineValue) (i : InstValue) : Type 0 where
   pub fixed : EachOperand i (λ k o. is_fixed_nonallocatable o ≡ false → (r : Register) → o.constraint ≡ FixedReg r → (is_allocatable env r.class r ≡ true)
       ⊎ IsFixedStackSlot env r)

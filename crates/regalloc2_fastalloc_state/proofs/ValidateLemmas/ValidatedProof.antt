@@ -47,8 +47,9 @@ pub soundness_fault : (f : FunctionValue) (env : MachineValue) (e : RegAllocErro
 soundness_fault f env e shape (inl m) = rw m memory
 soundness_fault f env e shape (inr h) = unsound shape h
 
--- where blocks, edges and soundness are right, an error of reuses or fixed registers is an error of the whole validation
-pub fixed_fault : (f : FunctionValue) (env : MachineValue) → HasShape f → HasSoundness f → (e : RegAllocError) → IsFixedFault f env e → IsFunctionFault f env e
+-- where all else is right, an error of reuses or fixed registers is an error of the whole validation
+pub fixed_fault : (f : FunctionValue) (env : MachineValue) → HasShape f → HasSoundness f → (e : RegAllocError) → IsFixedFault f env e →
+    IsFunctionFault f env e
 fixed_fault f env shape sound e (i, is, inl first) = rw is (unsound_reuse i shape sound first)
 fixed_fault f env shape sound e (i, is, inr (reuses, first)) = rw is (clashing i shape sound reuses first)
 

@@ -60,4 +60,5 @@ OperandAvoidsClobbers clobbers operands k = (r : Register) → (op_at operands k
 -- where the tests of reuses, and then of fixed registers, fail first
 abbrev pub IsFixedFault : FunctionValue → MachineValue → RegAllocError → Type 0
 IsFixedFault f env e = (i : ℕ) × (e ≡ Unsupported i) × (IsFirst (length f.insts) (λ j. ReusesAreSound env (inst_at f j)) i
-    ⊎ (((j : ℕ) → j < length f.insts → ReusesAreSound env (inst_at f j)) × IsFirst (length f.insts) (λ j. FixedAvoidClobbers (inst_at f j)) i))
+    ⊎ (((j : ℕ) → j < length f.insts → ReusesAreSound env (inst_at f j))
+    × IsFirst (length f.insts) (λ j. FixedAvoidClobbers (inst_at f j)) i))

@@ -7,8 +7,8 @@ ghost use Rattle.regalloc2_function.specs.WellFormed.{MayBeReused, ReusesAreSoun
 ghost use Rattle.regalloc2_names.specs.Packing.{IsConstraintOf};
 ghost use Rattle.regalloc2_names.specs.Register.{Register, has_register};
 ghost use Rattle.regalloc2_fastalloc_state.specs.Validate.NoLimits.{IsTakenOperand, AreTaken};
-ghost use Rattle.regalloc2_fastalloc_state.specs.Validate.Constraints.{IsFixedFault, IsNoReuse, IsReusedOperand, IsReuseTarget, IsSoundReuse, AreReusesApart};
-ghost use Rattle.regalloc2_fastalloc_state.specs.Validate.Constraints.{AvoidsClobbers, DefinesInPlace, IsUnlimited, OperandAvoidsClobbers};
+ghost use Rattle.regalloc2_fastalloc_state.specs.Validate.Constraints.{IsNoReuse, IsReusedOperand, IsReuseTarget, IsSoundReuse, AreReusesApart};
+ghost use Rattle.regalloc2_fastalloc_state.specs.Validate.Constraints.{AvoidsClobbers, DefinesInPlace, IsFixedFault, IsUnlimited, OperandAvoidsClobbers};
 ghost use Rattle.regalloc2_function.specs.Reasons.{IsFirst, IsUnsupported};
 
 use regalloc2_function::{Function, MachineEnv};

@@ -1,4 +1,5 @@
--- The parts of the lists of definitions and uses, the table of definitions by number, and what the parts of the two tests on definitions say.
+-- The parts of the lists of definitions and uses, the table of definitions by number, and what the parts of the two tests
+-- on definitions say.
 use Rattle.std.specs.Prelude.{ℕ, ◌≡◌, ◌≢◌, ◌<◌, ◌≤◌, ◌⊎◌, List, [], ◌∷◌, ◌++◌, length, slice_index_or, slice_set, Option, None, Some}
 use Rattle.std.specs.Prelude.{count_by, filter_map, flat_map, if◌then◌else◌, map, nat_eq}
 use Rattle.regalloc2_index.specs.Range.{invalid_number, numbers_from, numbers_of}
