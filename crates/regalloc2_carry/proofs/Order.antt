@@ -6,7 +6,7 @@ use Rattle.regalloc2_names.specs.Register.{VirtualRegister}
 use Rattle.regalloc2_names.specs.Operand.{is_reading}
 use Rattle.regalloc2_names.specs.Place.{after}
 use Rattle.regalloc2_function.specs.FunctionValue.{FunctionValue, block_at, inst_at, last_of, op_at}
-use Rattle.regalloc2_function.specs.WellFormed.{BlocksFollow, DefinedOnce, IsDefinedBy, UsesAreDefined}
+use Rattle.regalloc2_function.specs.WellFormed.{BlocksFollow, DefinedOnce, IsDefinedUpTo, UsesAreDefined}
 use Rattle.regalloc2_semantics.specs.Live.{Undefined}
 use Rattle.regalloc2_carry.proofs.SingleDef.{IsDefOperand, Made, MadeBefore, by_earlier, is_made, made_before, made_behind, one_made, one_operand, not_both}
 use Rattle.regalloc2_carry.proofs.SingleDef.{ReadsDefined}
@@ -72,7 +72,7 @@ module _ (f : FunctionValue) (once : DefinedOnce f) where
       let within = ends_within f follow b lt in
       let some : (block_at f b).range.first < (block_at f b).range.end = (follow b lt).0 in
       let last : ℕ = last_of (block_at f b) in
-      let by : IsDefinedBy f v (after last) = subst (λ w. IsDefinedBy f w (after last)) has.2 ((uses b lt).1 e edge has.0 v has.1) in
+      let by : IsDefinedUpTo f v (after last) = subst (λ w. IsDefinedUpTo f w (after last)) has.2 ((uses b lt).1 e edge has.0 v has.1) in
       let sooner = earlier_made f once n i k (last + 1) d v same (made_behind f v last (omega (arith, within, some)) by) in
       omega (arith, sooner)
 
@@ -83,7 +83,7 @@ module _ (f : FunctionValue) (once : DefinedOnce f) where
       let within = ends_within f follow b lt in
       let some : (block_at f b).range.first < (block_at f b).range.end = (follow b lt).0 in
       let last : ℕ = last_of (block_at f b) in
-      let by : IsDefinedBy f v (after last) = subst (λ w. IsDefinedBy f w (after last)) has.2 ((uses b lt).1 e edge has.0 v has.1) in
+      let by : IsDefinedUpTo f v (after last) = subst (λ w. IsDefinedUpTo f w (after last)) has.2 ((uses b lt).1 e edge has.0 v has.1) in
       is_made f v (last + 1) (made_behind f v last (omega (arith, within, some)) by)
 
   -- what is passed, and not defined by the branch that passes it, is defined earlier

@@ -9,7 +9,7 @@ use Rattle.regalloc2_names.specs.Register.{VirtualRegister, no_vreg}
 use Rattle.regalloc2_names.specs.Operand.{OperandValue, is_def, is_reading}
 use Rattle.regalloc2_names.specs.Place.{before, after}
 use Rattle.regalloc2_function.specs.FunctionValue.{FunctionValue, BlockValue, InstValue, block_at, inst_at, no_block, no_inst, no_operand, op_at}
-use Rattle.regalloc2_function.specs.WellFormed.{BlocksFollow, DefinedOnce, IsDefinedBy, UsesAreDefined}
+use Rattle.regalloc2_function.specs.WellFormed.{BlocksFollow, DefinedOnce, IsDefinedUpTo, UsesAreDefined}
 use Rattle.regalloc2_carry.specs.Instruction.{Knows}
 use Rattle.regalloc2_carry.specs.OperandsPlaced.{Once, Counts, what_of}
 use Rattle.regalloc2_semantics.proofs.Soundness.{total, total-two, count_at, in_blocks, in_insts, at_most_one}
@@ -131,7 +131,7 @@ pub data MadeBefore (f : FunctionValue) (v : VirtualRegister) (i : ℕ) : Type 0
   by_param : (b k : ℕ) → TakesAt f v.number b k → slice_index_or (block_at f b).params k no_vreg ≡ v → MadeBefore f v i
 
 -- a vreg defined by a point has a block parameter or an operand of an earlier instruction that defines it
-made_by : (f : FunctionValue) (v : VirtualRegister) (i point : ℕ) → i ≤ length f.insts → point ≤ before i → IsDefinedBy f v point → MadeBefore f v i
+made_by : (f : FunctionValue) (v : VirtualRegister) (i point : ℕ) → i ≤ length f.insts → point ≤ before i → IsDefinedUpTo f v point → MadeBefore f v i
 made_by f v i point lt le (inl p) =
     let same : slice_index_or (block_at f p.0).params p.3.0 no_vreg ≡ v = get_or_default (block_at f p.0).params p.3.0 no_vreg v p.3.1 ∙ p.3.2 in
     MadeBefore.by_param p.0 p.3.0 (record { block = p.1; param = p.3.1; number = ap (λ (w : VirtualRegister). w.number) same }) same
@@ -148,11 +148,11 @@ made_by f v i point lt le (inr o) =
     }) is
 
 -- a vreg that is defined before an instruction of the function is made before it
-pub made_before : (f : FunctionValue) (v : VirtualRegister) (i : ℕ) → i < length f.insts → IsDefinedBy f v (before i) → MadeBefore f v i
+pub made_before : (f : FunctionValue) (v : VirtualRegister) (i : ℕ) → i < length f.insts → IsDefinedUpTo f v (before i) → MadeBefore f v i
 made_before f v i lt h = made_by f v i (before i) (omega (arith, lt)) (omega arith) h
 
 -- a vreg that is defined by the point after an instruction is made before the next
-pub made_behind : (f : FunctionValue) (v : VirtualRegister) (i : ℕ) → i < length f.insts → IsDefinedBy f v (after i) → MadeBefore f v (i + 1)
+pub made_behind : (f : FunctionValue) (v : VirtualRegister) (i : ℕ) → i < length f.insts → IsDefinedUpTo f v (after i) → MadeBefore f v (i + 1)
 made_behind f v i lt h = made_by f v (i + 1) (after i) (omega (arith, lt)) (omega arith) h
 
 -- a number has one vreg that is made
@@ -179,7 +179,7 @@ made_small f once v (Made.by_param b k x e) = taken_small f once v.number b k x
 -- what is read at an instruction is defined before it
 abbrev pub ReadsDefined : FunctionValue → ℕ → Type 0
 ReadsDefined f i = (k : ℕ) → k < length (inst_at f i).operands → is_reading (op_at (inst_at f i).operands k) ≡ true →
-    IsDefinedBy f (op_at (inst_at f i).operands k).vreg (before i)
+    IsDefinedUpTo f (op_at (inst_at f i).operands k).vreg (before i)
 
 -- an instruction's operands: a number is defined by one of them, and isn't read where it is defined
 pub once_at : (f : FunctionValue) → DefinedOnce f → (i : ℕ) → i < length f.insts → ReadsDefined f i →

@@ -6,7 +6,7 @@ use Rattle.std.proofs.lemmas.Bool.{cases_lt}
 use Rattle.regalloc2_names.specs.Register.{VirtualRegister, no_vreg}
 use Rattle.regalloc2_names.specs.Operand.{OperandValue, is_def}
 use Rattle.regalloc2_function.specs.FunctionValue.{FunctionValue, InstValue, block_at, inst_at, no_inst, no_operand, op_at}
-use Rattle.regalloc2_function.specs.WellFormed.{DefinedOnce, IsDefinedBy}
+use Rattle.regalloc2_function.specs.WellFormed.{DefinedOnce, IsDefinedUpTo}
 use Rattle.regalloc2_function.specs.Inside.TableLength.{CoversDefinitions}
 use Rattle.regalloc2_carry.proofs.SingleDef.{defined_small, taken_small}
 use Rattle.regalloc2_fastalloc_proofs.specs.BlockSteps.{DefinesBelow}
@@ -19,7 +19,7 @@ within f i k less = elim (cases_lt i (length f.insts)) [
 ]
 
 -- where each number is defined once, what is defined has a number below the function's count
-defined_small_by : (f : FunctionValue) → DefinedOnce f → (v : VirtualRegister) (point : ℕ) → IsDefinedBy f v point → v.number < f.num_vregs
+defined_small_by : (f : FunctionValue) → DefinedOnce f → (v : VirtualRegister) (point : ℕ) → IsDefinedUpTo f v point → v.number < f.num_vregs
 defined_small_by f once v point (inl p) =
     let same : slice_index_or (block_at f p.0).params p.3.0 no_vreg ≡ v = get_or_default (block_at f p.0).params p.3.0 no_vreg v p.3.1 ∙ p.3.2 in
     taken_small f once v.number p.0 p.3.0 (record { block = p.1; param = p.3.1; number = ap (λ (w : VirtualRegister). w.number) same })

@@ -6,7 +6,7 @@ use Rattle.regalloc2_names.specs.Operand.{OperandValue}
 use Rattle.regalloc2_names.specs.Place.{Place, NoPlace, before}
 use Rattle.regalloc2_function.specs.FunctionValue.{FunctionValue, InstValue, block_at, inst_at}
 use Rattle.regalloc2_function.specs.Machine.{MachineValue}
-use Rattle.regalloc2_function.specs.WellFormed.{IsDefinedBy, IsWellFormed}
+use Rattle.regalloc2_function.specs.WellFormed.{IsDefinedUpTo, IsWellFormed}
 use Rattle.regalloc2_fastalloc_state.specs.declared.inst_regs.InstRegs.{InstRegs}
 use Rattle.regalloc2_fastalloc_proofs.specs.InstSteps.{StateValue, Outcome, next, no_register, IsFresh, AllocsInstOf, AllocInst, ends_block}
 use Rattle.regalloc2_fastalloc_proofs.specs.BlockStart.{ReloadsAtBegin, ReloadAtBegin}
@@ -53,7 +53,7 @@ MayBeAllocated f = (env : MachineValue) × IsWellFormed env f
 
 -- each vreg that the function defines has a number below n
 abbrev pub DefinesBelow : FunctionValue → ℕ → Type 0
-DefinesBelow f n = (v : VirtualRegister) (point : ℕ) → IsDefinedBy f v point → v.number < n
+DefinesBelow f n = (v : VirtualRegister) (point : ℕ) → IsDefinedUpTo f v point → v.number < n
 
 -- An instruction of the block b is allocated; if it is a branch, its arguments are passed.
 pub record AllocsInstInBlock (f : FunctionValue) (b i : ℕ) (before_it places : List Place) (old new : StateValue) : Type 0 where

@@ -36,8 +36,7 @@ shape_refused f shape (operands b blocks follow agree edges h) = h.1 (shape.no_o
 
 -- an error of definitions is one of soundness, if the tests before pass
 pub definition_fault : (f : FunctionValue) → EntryIsFirst f → EachBlock f (EndsAt f) → EachBlock f (ArgumentsFitAt f) → (e : RegAllocError) →
-    IsDefinitionFault f e → (e ≡ Memory)
-    ⊎ IsSoundnessFault f e
+    IsDefinitionFault f e → (e ≡ Memory) ⊎ IsSoundnessFault f e
 definition_fault f entry end fit Memory h = inl refl
 definition_fault f entry end fit (SSA v i) (inl repeat) = inr (repeated v i entry end fit repeat)
 definition_fault f entry end fit (SSA v i) (inr (once, (point, use'))) =

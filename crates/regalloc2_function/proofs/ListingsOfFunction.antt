@@ -11,7 +11,7 @@ use Rattle.regalloc2_names.specs.Register.{VirtualRegister}
 use Rattle.regalloc2_names.specs.Operand.{OperandValue, is_def, is_reading}
 use Rattle.regalloc2_names.specs.Place.{before, after}
 use Rattle.regalloc2_function.specs.FunctionValue.{FunctionValue, BlockValue, InstValue, block_at, inst_at, no_block, no_inst, last_of}
-use Rattle.regalloc2_function.specs.WellFormed.{BlocksFollow, DefinedOnce, IsDefinedBy, UsesAreDefined, definitions_of}
+use Rattle.regalloc2_function.specs.WellFormed.{BlocksFollow, DefinedOnce, IsDefinedUpTo, UsesAreDefined, definitions_of}
 use Rattle.regalloc2_function.specs.Reasons.{AreSingle, Site}
 use Rattle.regalloc2_function.specs.Reasons.{definitions_in}
 use Rattle.regalloc2_function.specs.Reasons.{uses_in}
@@ -98,7 +98,7 @@ definition_of j o = record { vreg = o.vreg; inst = j; point = after j }
 
 -- what a listed definition says
 pub listed_defines : (f : FunctionValue) (d : Site) (v : VirtualRegister) (i : ℕ) → Contains (definitions_in f) d → d.vreg ≡ v → d.point ≤ i →
-    IsDefinedBy f v i
+    IsDefinedUpTo f v i
 listed_defines f d v i m is usable =
     let in_block = from_flat (block_definitions f) f.blocks d m in
     let at = numbered f in_block.0 in_block.1 in
@@ -137,7 +137,7 @@ listed_defines f d v i m is usable =
     ]
 
 -- each definition that the function has is listed
-pub defined_listed : (f : FunctionValue) → BlocksFollow f → 0 < length f.blocks → (v : VirtualRegister) (i : ℕ) → IsDefinedBy f v i → (d : Site)
+pub defined_listed : (f : FunctionValue) → BlocksFollow f → 0 < length f.blocks → (v : VirtualRegister) (i : ℕ) → IsDefinedUpTo f v i → (d : Site)
     × Contains (definitions_in f) d × (d.vreg ≡ v) × (d.point ≤ i)
 defined_listed f follow some v i before =
     elim before [
@@ -171,10 +171,10 @@ abbrev read_use : ℕ → VirtualRegister → Site
 read_use i v = record { vreg = v; inst = i; point = before i }
 
 -- a fact of each listed use is one of each that the function makes
-pub listed_uses : (f : FunctionValue) → All (λ u. IsDefinedBy f u.vreg u.point) (uses_in f) → UsesAreDefined f
+pub listed_uses : (f : FunctionValue) → All (λ u. IsDefinedUpTo f u.vreg u.point) (uses_in f) → UsesAreDefined f
 listed_uses f all n less =
     let b : BlockValue = block_at f n in
-    let in_block : (u : Site) → Contains (block_uses f b) u → IsDefinedBy f u.vreg u.point = λ u m. All-contains (λ u. IsDefinedBy f u.vreg u.point)
+    let in_block : (u : Site) → Contains (block_uses f b) u → IsDefinedUpTo f u.vreg u.point = λ u m. All-contains (λ u. IsDefinedUpTo f u.vreg u.point)
     (uses_in f) u all (in_flat (block_uses f) f.blocks n b u less (block_is f n less) m) in (
       λ i low high k d short reading.
           (let o : OperandValue = get_or (inst_at f i).operands k d in
@@ -192,8 +192,8 @@ listed_uses f all n less =
     )
 
 -- where uses are defined, each use of the list of all uses is
-pub uses_listed : (f : FunctionValue) → UsesAreDefined f → All (λ u. IsDefinedBy f u.vreg u.point) (uses_in f)
-uses_listed f uses = all_members (λ u. IsDefinedBy f u.vreg u.point) (uses_in f) (λ u m.
+pub uses_listed : (f : FunctionValue) → UsesAreDefined f → All (λ u. IsDefinedUpTo f u.vreg u.point) (uses_in f)
+uses_listed f uses = all_members (λ u. IsDefinedUpTo f u.vreg u.point) (uses_in f) (λ u m.
     let in_block = from_flat (block_uses f) f.blocks u m in
     let at = numbered f in_block.0 in_block.1 in
     let b : BlockValue = block_at f at.0 in
@@ -206,14 +206,14 @@ uses_listed f uses = all_members (λ u. IsDefinedBy f u.vreg u.point) (uses_in f
                 ∙ o.2 in
                 let same : read_use i.0 o.0.vreg ≡ u = cc in
                 let h : is_reading (get_or (inst_at f i.0).operands o.1.0 o.0) ≡ true →
-                IsDefinedBy f (get_or (inst_at f i.0).operands o.1.0 o.0).vreg (before i.0) =
+                IsDefinedUpTo f (get_or (inst_at f i.0).operands o.1.0 o.0).vreg (before i.0) =
                 (uses at.0 at.1).0 i.0 i.1 (omega (arith, i.1, i.2)) o.1.0 o.0 o.1.1 in
-                subst (λ (u : Site). IsDefinedBy f u.vreg u.point) same
-                (subst (λ (o : OperandValue). IsDefinedBy f o.vreg (before i.0)) o.1.2 (h (ap is_reading o.1.2 ∙ reading))))
+                subst (λ (u : Site). IsDefinedUpTo f u.vreg u.point) same
+                (subst (λ (o : OperandValue). IsDefinedUpTo f o.vreg (before i.0)) o.1.2 (h (ap is_reading o.1.2 ∙ reading))))
             | inr other ↦ absurd (let made : None ≡ Some u = sym (ap (λ t. cond t (Some (read_use i.0 o.0.vreg)) None) other) ∙ o.2 in cc)
           ])
       | inr passed ↦ (let k = from_numbers (passed_at b) 0 (length b.succs) u passed in
           let v = from_map (argument_use (last_of b)) (get_or b.arguments k.0 []) u k.3 in
-          subst (λ (u : Site). IsDefinedBy f u.vreg u.point) v.2 (All-contains (λ v. IsDefinedBy f v (after (last_of b))) (get_or b.arguments k.0 []) v.0
+          subst (λ (u : Site). IsDefinedUpTo f u.vreg u.point) v.2 (All-contains (λ v. IsDefinedUpTo f v (after (last_of b))) (get_or b.arguments k.0 []) v.0
           ((uses at.0 at.1).1 k.0 (omega (arith, k.2))) v.1))
     ])

@@ -11,7 +11,7 @@ use Rattle.regalloc2_names.specs.declared.RegClass.{RegClass}
 use Rattle.regalloc2_names.specs.declared.RegAllocError.{RegAllocError}
 use Rattle.regalloc2_names.specs.declared.RegAllocError.TheVariants.{Memory, SSA}
 use Rattle.regalloc2_function.specs.FunctionValue.{FunctionValue}
-use Rattle.regalloc2_function.specs.WellFormed.{BlocksFollow, DefinedOnce, IsDefinedBy, UsesAreDefined}
+use Rattle.regalloc2_function.specs.WellFormed.{BlocksFollow, DefinedOnce, IsDefinedUpTo, UsesAreDefined}
 use Rattle.regalloc2_function.specs.Reasons.{AreSingle, Site, IsDefinitionFault, IsFirstIn, IsFirstRepeat}
 use Rattle.regalloc2_function.specs.Reasons.{definitions_in, uses_in}
 use Rattle.regalloc2_function.specs.Inside.Definitions.{IsUsable, NamesTaken, NamesUnusable, NotesDefinitions, Table, entry_of, definitions_among}
@@ -46,21 +46,21 @@ narrower f n xs ys room is h m = (
   λ some.
       let d = among_some xs m some in
       let listed : Contains (definitions_in f) d.0 = subst (λ (l : List Site). Contains l d.0) (sym is) (Contains-append_left xs ys d.0 d.1) in
-      let defined : IsDefinedBy f d.0.vreg d.0.point = listed_defines f d.0 d.0.vreg d.0.point listed refl (omega arith) in
+      let defined : IsDefinedUpTo f d.0.vreg d.0.point = listed_defines f d.0 d.0.vreg d.0.point listed refl (omega arith) in
       let low = (h m).1 some in
       let small = room d.0.vreg d.0.point defined (omega (arith, low, d.2)) in
       omega (arith, small, d.2),
 )
 
 module _ (f : FunctionValue) (follow : BlocksFollow f) (some : 0 < length f.blocks) (t : Table) (n : ℕ) where
-  usable_defined : Keeps n (definitions_in f) t → (u : Site) → IsUsable t u → IsDefinedBy f u.vreg u.point
+  usable_defined : Keeps n (definitions_in f) t → (u : Site) → IsUsable t u → IsDefinedUpTo f u.vreg u.point
   usable_defined k u h =
       let d = k.found u.vreg.number h.0 h.1 in
       let class : d.0.vreg.class ≡ u.vreg.class = ap (λ e. e.class) d.3 ∙ h.2 in
       let usable : d.0.point ≡ h.0.usable = ap (λ e. e.usable) d.3 in
       listed_defines f d.0 u.vreg u.point d.1 (same_vreg d.0.vreg u.vreg d.2 class) (omega (arith, h.3, usable))
 
-  defined_usable : Keeps n (definitions_in f) t → (u : Site) → IsDefinedBy f u.vreg u.point → IsUsable t u
+  defined_usable : Keeps n (definitions_in f) t → (u : Site) → IsDefinedUpTo f u.vreg u.point → IsUsable t u
   defined_usable k u h =
       let d = defined_listed f follow some u.vreg u.point h in
       (record { class = d.0.vreg.class; usable = d.0.point }, ap (λ v. entry_of t v.number) (sym d.2) ∙ k.kept d.0 d.1, ap (λ v. v.class) d.2, d.3)
@@ -71,21 +71,21 @@ module _ (f : FunctionValue) (follow : BlocksFollow f) (some : 0 < length f.bloc
 
   -- where the table has taken in all definitions and allows each listed use, each use is of a vreg that is defined before it
   pub usable_uses : NotesDefinitions (replicate n None) (definitions_in f) t → All (IsUsable t) (uses_in f) → UsesAreDefined f
-  usable_uses noted all = listed_uses f (All-weaker (IsUsable t) (λ u. IsDefinedBy f u.vreg u.point) (usable_defined (notes_keep n noted)) (uses_in f) all)
+  usable_uses noted all = listed_uses f (All-weaker (IsUsable t) (λ u. IsDefinedUpTo f u.vreg u.point) (usable_defined (notes_keep n noted)) (uses_in f) all)
 
   -- an error that names the first use that the table doesn't allow is right: the use is the first not defined before
   pub unusable_fault : n ≤ f.num_vregs → NotesDefinitions (replicate n None) (definitions_in f) t → (e : RegAllocError) → NamesUnusable t (uses_in f) e →
       IsDefinitionFault f e
   unusable_fault few noted e h =
       let k = notes_keep n noted in
-      let first : (point : ℕ) × IsFirstIn (λ u. IsDefinedBy f u.vreg u.point) (uses_in f)
+      let first : (point : ℕ) × IsFirstIn (λ u. IsDefinedUpTo f u.vreg u.point) (uses_in f)
       (record { vreg = h.0.vreg; inst = h.0.inst; point = point }) = (
         h.0.point,
         record {
           earlier = h.2.earlier;
           later = h.2.later;
           is = h.2.is;
-          passed = All-weaker (IsUsable t) (λ u. IsDefinedBy f u.vreg u.point) (usable_defined k) h.2.earlier h.2.passed;
+          passed = All-weaker (IsUsable t) (λ u. IsDefinedUpTo f u.vreg u.point) (usable_defined k) h.2.earlier h.2.passed;
           fails = λ defined. h.2.fails (defined_usable k h.0 defined);
         },
       ) in
@@ -127,6 +127,6 @@ only_memory f follow some once uses (SSA v i) h =
           let at : Site = record { vreg = v; inst = i; point = use'.1.0 } in
           let there : Contains (uses_in f) at = subst (λ (l : List Site). Contains l at) (sym use'.1.1.is)
           (Contains-append_right use'.1.1.earlier (at ∷ use'.1.1.later) at (0, omega arith, refl)) in
-          absurd (use'.1.1.fails (All-contains (λ u. IsDefinedBy f u.vreg u.point) (uses_in f) at all there)))
+          absurd (use'.1.1.fails (All-contains (λ u. IsDefinedUpTo f u.vreg u.point) (uses_in f) at all there)))
     ]
 only_memory f follow some once uses _ h = absurd h

@@ -9,7 +9,7 @@ use Rattle.regalloc2_names.specs.Operand.{OperandValue, is_def, is_reading}
 use Rattle.regalloc2_names.specs.Place.{before, after}
 use Rattle.regalloc2_function.specs.FunctionValue.{FunctionValue, block_at, inst_at, last_of, EachBlock}
 use Rattle.regalloc2_function.specs.WellFormed.{BlocksFollow, DefinedOnce, EndsAt, EntryIsFirst, FollowsAt}
-use Rattle.regalloc2_function.specs.WellFormed.{IsDefinedBy, SuccessorsAreBlocks, UsesAreDefined}
+use Rattle.regalloc2_function.specs.WellFormed.{IsDefinedUpTo, SuccessorsAreBlocks, UsesAreDefined}
 use Rattle.regalloc2_function.specs.WellFormed.{ArgumentsFitAt, NoOperandsAt, NotCriticalAt, PredecessorsAt, ReusesAreSound, FixedAvoidClobbers, AreUnlimited}
 use Rattle.regalloc2_function.specs.WellFormed.{BranchDefinesInPlace, CountedAt}
 use Rattle.regalloc2_function.specs.Machine.{MachineValue}
@@ -72,7 +72,7 @@ abbrev pub IsDefinitionFault : FunctionValue → RegAllocError → Type 0
 IsDefinitionFault f Memory = Unit {0}
 IsDefinitionFault f (SSA v i) = IsFirstRepeat f v i
     ⊎ (DefinedOnce f × ((point : ℕ)
-    × IsFirstIn (λ u. IsDefinedBy f u.vreg u.point) (uses_in f) (record { vreg = v; inst = i; point = point })))
+    × IsFirstIn (λ u. IsDefinedUpTo f u.vreg u.point) (uses_in f) (record { vreg = v; inst = i; point = point })))
 IsDefinitionFault f _ = ⊥
 
 -- what the tests of blocks and edges test
@@ -116,7 +116,7 @@ pub data IsSoundnessFault (f : FunctionValue) : RegAllocError → Type 0 where
   repeated : (v : VirtualRegister) (i : ℕ) → EntryIsFirst f → EachBlock f (EndsAt f) → EachBlock f (ArgumentsFitAt f) → IsFirstRepeat f v i →
       IsSoundnessFault f (SSA v i)
   undefined : (u : Site) → EntryIsFirst f → EachBlock f (EndsAt f) → EachBlock f (ArgumentsFitAt f) → DefinedOnce f →
-      IsFirstIn (λ u. IsDefinedBy f u.vreg u.point) (uses_in f) u → IsSoundnessFault f (SSA u.vreg u.inst)
+      IsFirstIn (λ u. IsDefinedUpTo f u.vreg u.point) (uses_in f) u → IsSoundnessFault f (SSA u.vreg u.inst)
 
 -- an instruction that the allocator rejects: the first that has a `Limit`, or if none has one, the first branch that
 -- defines in any register or by a reuse

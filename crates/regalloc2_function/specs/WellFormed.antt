@@ -81,10 +81,10 @@ definitions_of f n = sum_of (map (λ b. count_by (λ v. nat_eq v.number n) b.par
 abbrev pub DefinedOnce : FunctionValue → Type 0
 DefinedOnce f = (n : ℕ) → (definitions_of f n ≤ 1) × (0 < definitions_of f n → n < f.num_vregs)
 
--- A vreg is defined by a point: as a parameter, just before its block's first instruction, or by an operand, after its instruction.
--- Points are in the order of instruction numbers.
-abbrev pub IsDefinedBy : FunctionValue → VirtualRegister → ℕ → Type 0
-IsDefinedBy f v point =
+-- a vreg is defined up to a point, in the order of instruction numbers: as a parameter, just before its block's first
+-- instruction, or by an operand, after its instruction
+abbrev pub IsDefinedUpTo : FunctionValue → VirtualRegister → ℕ → Type 0
+IsDefinedUpTo f v point =
     ((b : ℕ) × (b < length f.blocks) × (before (block_at f b).range.first ≤ point) × Contains (block_at f b).params v)
     ⊎ ((j k : ℕ) × (d : OperandValue) × (after j ≤ point) × (k < length (inst_at f j).operands)
     × (is_def (slice_index_or (inst_at f j).operands k d).kind ≡ true) × ((slice_index_or (inst_at f j).operands k d).vreg ≡ v))
@@ -92,8 +92,8 @@ IsDefinedBy f v point =
 -- each vreg that is read is defined before its instruction, and each that is passed is defined before the branch, or by the branch itself
 abbrev pub UsesAreDefined : FunctionValue → Type 0
 UsesAreDefined f = EachBlock f (λ n b.
-    EachInst f b (λ i inst. EachOperand inst (λ k o. is_reading o ≡ true → IsDefinedBy f o.vreg (before i)))
-    × ((k : ℕ) → k < length b.succs → All (λ v. IsDefinedBy f v (after (last_of b))) (slice_index_or b.arguments k [])))
+    EachInst f b (λ i inst. EachOperand inst (λ k o. is_reading o ≡ true → IsDefinedUpTo f o.vreg (before i)))
+    × ((k : ℕ) → k < length b.succs → All (λ v. IsDefinedUpTo f v (after (last_of b))) (slice_index_or b.arguments k [])))
 
 -- operand `k` is reused: an operand of the instruction has the constraint to reuse it
 abbrev pub IsReused : InstValue → ℕ → Type 0

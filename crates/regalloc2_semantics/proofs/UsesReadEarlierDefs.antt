@@ -11,7 +11,7 @@ use Rattle.regalloc2_names.specs.Register.{VirtualRegister, is_vreg}
 use Rattle.regalloc2_function.specs.FunctionValue.{FunctionValue, InstValue, block_at, inst_at, no_inst}
 use Rattle.regalloc2_semantics.specs.Runs.{Way, Onward, ToSuccessor, Location, end_of, last_inst, IsPath, Stamp, read_of, source_before, source_after}
 use Rattle.regalloc2_semantics.specs.Runs.{source_read}
-use Rattle.regalloc2_function.specs.WellFormed.{DefinedOnce, IsDefinedBy}
+use Rattle.regalloc2_function.specs.WellFormed.{DefinedOnce, IsDefinedUpTo}
 use Rattle.regalloc2_semantics.specs.Laws.{SourceIsEarlier, NumbersGiveReads, AgreeingReadsFindEarlier, ReadsAgreeWhereNumbersDo, WellFormedReadEarlier}
 use Rattle.regalloc2_semantics.specs.Live.{Undefined, names}
 use Rattle.regalloc2_semantics.specs.Sound.{HasSoundBlocks}
@@ -45,7 +45,7 @@ has_operands f i k lt = elim (cases_lt i (length f.insts)) [
 ]
 
 -- what is defined before an instruction is not defined by it
-not_here : (f : FunctionValue) → DefinedOnce f → (i : ℕ) (v : VirtualRegister) → i < length f.insts → IsDefinedBy f v (before i) →
+not_here : (f : FunctionValue) → DefinedOnce f → (i : ℕ) (v : VirtualRegister) → i < length f.insts → IsDefinedUpTo f v (before i) →
     Undefined (inst_at f i).operands v
 not_here f once i v within (inl h) = no_definition f once h.0 i v (names_element v (block_at f h.0).params h.3.0 h.3.1 h.3.2)
 not_here f once i v within (inr h) = no_second f once i h.0 v (λ e. absurd (let less = h.3 in omega (arith, less, e))) within
@@ -66,7 +66,7 @@ well_formed_read_earlier earlier env f ok ws p written k d lt reads =
     let o : OperandValue = slice_index_or (last_inst f ws).operands k d in
     let i : ℕ = (end_of f ws).inst in
     let at = inside f (well_formed_are_sound env f ok) ws p in
-    let by : IsDefinedBy f o.vreg (before i) = (ok.uses_defined (end_of f ws).block at.block).0 i at.first at.end k d lt reads in
+    let by : IsDefinedUpTo f o.vreg (before i) = (ok.uses_defined (end_of f ws).block at.block).0 i at.first at.end k d lt reads in
     let gone : Undefined (inst_at f i).operands o.vreg = not_here f ok.defined_once i o.vreg (has_operands f i k lt) by in
     let same : source_after f ws o.vreg ≡ source_before f ws o.vreg = after_defs-other (last_inst f ws).operands (length ws) 0 (source_before f ws) o.vreg
     gone in

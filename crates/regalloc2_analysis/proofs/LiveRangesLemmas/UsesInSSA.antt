@@ -9,7 +9,7 @@ use Rattle.regalloc2_names.specs.Operand.{OperandValue, is_def, is_reading}
 use Rattle.regalloc2_names.specs.Place.{before, after}
 use Rattle.regalloc2_function.specs.FunctionValue.{FunctionValue, block_at, inst_at, no_operand, last_of, op_at}
 use Rattle.regalloc2_function.specs.Machine.{MachineValue}
-use Rattle.regalloc2_function.specs.WellFormed.{IsDefinedBy, IsWellFormed}
+use Rattle.regalloc2_function.specs.WellFormed.{IsDefinedUpTo, IsWellFormed}
 use Rattle.regalloc2_semantics.specs.Debug.{DefinesAt, PassesAt, ReadsAt, UsesAt}
 use Rattle.regalloc2_function.specs.Inside.TableLength.{CoversDefinitions}
 use Rattle.regalloc2_carry.proofs.SingleDef.{IsDefOperand, Made, TakesAt, is_made, made_before, made_behind, made_small, not_both, one_made, one_param}
@@ -152,7 +152,7 @@ module _ (f : FunctionValue) (ssa : IsSSA f) where
 
   -- what is used is defined before
   argument_defined : (b s k : ℕ) → b < length f.blocks → s < length (block_at f b).succs → k < length (slice_index_or (block_at f b).arguments s []) →
-      IsDefinedBy f (slice_index_or (slice_index_or (block_at f b).arguments s []) k no_vreg) (after (last_of (block_at f b)))
+      IsDefinedUpTo f (slice_index_or (slice_index_or (block_at f b).arguments s []) k no_vreg) (after (last_of (block_at f b)))
   argument_defined b s k lt edge less = (ssa.uses b lt).1 s edge k no_vreg less
 
   -- an instruction that passes the number passes the vreg, unless it defines the vreg
@@ -181,35 +181,35 @@ module _ (f : FunctionValue) (ssa : IsSSA f) where
       elim (cases_lt i j) [ inl less ↦ less | inr late ↦ absurd (p.6 (subst (DefinesAt f v) (omega (arith, h, late, p.3)) d)) ]
 
   -- what is defined by a point is so by a later one
-  later_point : (v : VirtualRegister) (p q : ℕ) → p ≤ q → IsDefinedBy f v p → IsDefinedBy f v q
+  later_point : (v : VirtualRegister) (p q : ℕ) → p ≤ q → IsDefinedUpTo f v p → IsDefinedUpTo f v q
   later_point v p q le (inl h) = inl (h.0, h.1, omega (arith, le, h.2), h.3)
   later_point v p q le (inr h) = inr (h.0, h.1, h.2, omega (arith, le, h.3), h.4, h.5, h.6)
 
   -- a vreg that is used is defined by the point after the use
-  used_defined : (v : VirtualRegister) (j : ℕ) → UsesAt f v j → IsDefinedBy f v (after j)
+  used_defined : (v : VirtualRegister) (j : ℕ) → UsesAt f v j → IsDefinedUpTo f v (after j)
   used_defined v j (inl r) = read_defined OperandPos.Early r
     where
-      read_defined : (at : OperandPos) (r : ReadsAt f v at j) → IsDefinedBy f v (after j)
-      read_defined at r = let n = read_number f v at j r in later_point v (before j) (after j) (omega arith) (subst (λ (w : VirtualRegister). IsDefinedBy f w
+      read_defined : (at : OperandPos) (r : ReadsAt f v at j) → IsDefinedUpTo f v (after j)
+      read_defined at r = let n = read_number f v at j r in later_point v (before j) (after j) (omega arith) (subst (λ (w : VirtualRegister). IsDefinedUpTo f w
           (before j)) (ap (λ (o : OperandValue). o.vreg) (op_is (inst_at f j).operands r.1.0 r.1.1 r.1.2 r.1.3) ∙ r.1.6)
           (reads_defined f ssa.some ssa.follow ssa.uses j r.0 r.1.0 n.within n.reading))
   used_defined v j (inr (inl r)) = read_defined OperandPos.Late r
     where
-      read_defined : (at : OperandPos) (r : ReadsAt f v at j) → IsDefinedBy f v (after j)
-      read_defined at r = let n = read_number f v at j r in later_point v (before j) (after j) (omega arith) (subst (λ (w : VirtualRegister). IsDefinedBy f w
+      read_defined : (at : OperandPos) (r : ReadsAt f v at j) → IsDefinedUpTo f v (after j)
+      read_defined at r = let n = read_number f v at j r in later_point v (before j) (after j) (omega arith) (subst (λ (w : VirtualRegister). IsDefinedUpTo f w
           (before j)) (ap (λ (o : OperandValue). o.vreg) (op_is (inst_at f j).operands r.1.0 r.1.1 r.1.2 r.1.3) ∙ r.1.6)
           (reads_defined f ssa.some ssa.follow ssa.uses j r.0 r.1.0 n.within n.reading))
   used_defined v j (inr (inr p)) =
       let vs : List VirtualRegister = slice_index_or (block_at f p.0).arguments p.1 [] in
       let at : slice_index_or vs p.5.0 no_vreg ≡ v = get_or_default vs p.5.0 no_vreg v p.5.1 ∙ p.5.2 in
-      subst (λ (w : VirtualRegister). IsDefinedBy f w (after j)) at (subst (λ (n : ℕ). IsDefinedBy f (slice_index_or vs p.5.0 no_vreg) (after n)) (sym p.3)
+      subst (λ (w : VirtualRegister). IsDefinedUpTo f w (after j)) at (subst (λ (n : ℕ). IsDefinedUpTo f (slice_index_or vs p.5.0 no_vreg) (after n)) (sym p.3)
       (argument_defined p.0 p.1 p.5.0 p.2 p.4 p.5.1))
 
   -- a block's parameter is used in that block or behind it
   pub use_within : (v : VirtualRegister) (b j : ℕ) → b < length f.blocks → Contains (block_at f b).params v → UsesAt f v j → (block_at f b).range.first ≤ j
   use_within v b j lt h u = by_case (used_defined v j u)
     where
-      by_case : IsDefinedBy f v (after j) → (block_at f b).range.first ≤ j
+      by_case : IsDefinedUpTo f v (after j) → (block_at f b).range.first ≤ j
       by_case (inl p) =
           let same = one_param f ssa.once v.number b p.0 h.0 p.3.0 (takes_number f v b lt h) (takes_number f v p.0 p.1 p.3) in
           subst (λ (c : ℕ). (block_at f c).range.first ≤ j) (sym same.0) (let first = p.2 in omega (arith, first))

@@ -7,7 +7,7 @@ use Rattle.regalloc2_names.specs.Place.{Place, NoPlace, before, after}
 use Rattle.std.proofs.lemmas.List.{get_or_default, get_or_past}
 use Rattle.regalloc2_function.specs.FunctionValue.{FunctionValue, BlockValue, InstValue, block_at, no_block, inst_at, no_inst, no_operand, op_at, last_of, EachBlock}
 use Rattle.regalloc2_names.specs.Operand.{OperandValue, is_def}
-use Rattle.regalloc2_function.specs.WellFormed.{BlocksFollow, DefinedOnce, IsDefinedBy, UsesAreDefined, EndsAt}
+use Rattle.regalloc2_function.specs.WellFormed.{BlocksFollow, DefinedOnce, IsDefinedUpTo, UsesAreDefined, EndsAt}
 use Rattle.regalloc2_carry.specs.Blocks.{IsUsedIn, IsUnwritten, IsUsed}
 use Rattle.regalloc2_carry.proofs.SingleDef.{Made, IsDefOperand, TakesAt, one_made, one_operand, one_param, not_both, reads_defined, made_before, is_made}
 use Rattle.regalloc2_carry.proofs.Order.{ends_before, ends_within, stands_later, reads_later, passes_later, passed_made}
@@ -118,7 +118,7 @@ used_somewhere f v (inr p) = elim (cases_lt p.0 (length f.blocks)) [
 module _ (f : FunctionValue) (once : DefinedOnce f) (follow : BlocksFollow f) (uses : UsesAreDefined f) (b m : ℕ) (v : VirtualRegister)
     (takes : TakesAt f v.number b m) where
   -- a parameter's definition is at its block's start
-  defined_behind : (point : ℕ) → IsDefinedBy f v point → before (block_at f b).range.first ≤ point
+  defined_behind : (point : ℕ) → IsDefinedUpTo f v point → before (block_at f b).range.first ≤ point
   defined_behind point (inl p) =
       let is : slice_index_or (block_at f p.0).params p.3.0 no_vreg ≡ v = get_or_default (block_at f p.0).params p.3.0 no_vreg v p.3.1 ∙ p.3.2 in
       let same : p.0 ≡ b = (one_param f once v.number p.0 b p.3.0 m
@@ -142,13 +142,13 @@ module _ (f : FunctionValue) (once : DefinedOnce f) (follow : BlocksFollow f) (u
   -- a parameter is used in its block or in a later one
   pub param_before : b < length f.blocks → (c : ℕ) → c < length f.blocks → IsUsedIn f c v → b ≤ c
   param_before lb c lc (inl r) =
-      let by : IsDefinedBy f v (before r.0) = subst (λ w. IsDefinedBy f w (before r.0)) r.6 ((uses c lc).0 r.0 r.2 r.3 r.1 no_operand r.4 r.5) in
+      let by : IsDefinedUpTo f v (before r.0) = subst (λ w. IsDefinedUpTo f w (before r.0)) r.6 ((uses c lc).0 r.0 r.2 r.3 r.1 no_operand r.4 r.5) in
       let h = defined_behind (before r.0) by in
       let some = (follow b lb).0 in
       stands_later f follow b c (block_at f b).range.first r.0 lb lc (omega arith) some r.2 r.3 (omega (arith, h))
   param_before lb c lc (inr p) =
       let last : ℕ = last_of (block_at f c) in
-      let by : IsDefinedBy f v (after last) = subst (λ w. IsDefinedBy f w (after last)) p.2.2 ((uses c lc).1 p.0 p.1 p.2.0 v p.2.1) in
+      let by : IsDefinedUpTo f v (after last) = subst (λ w. IsDefinedUpTo f w (after last)) p.2.2 ((uses c lc).1 p.0 p.1 p.2.0 v p.2.1) in
       let h = defined_behind (after last) by in
       let some = (follow b lb).0 in
       let more = (follow c lc).0 in

@@ -3,15 +3,15 @@ use Rattle.std.specs.Prelude.{ℕ, ◌≡◌, ◌+◌, ◌*◌, ◌<◌, ◌≤�
 use Rattle.regalloc2_names.specs.Register.{VirtualRegister}
 use Rattle.regalloc2_names.specs.Operand.{OperandValue, is_def}
 use Rattle.regalloc2_function.specs.FunctionValue.{FunctionValue}
-use Rattle.regalloc2_function.specs.WellFormed.{IsDefinedBy}
+use Rattle.regalloc2_function.specs.WellFormed.{IsDefinedUpTo}
 
 -- a table of `n` entries has one for each number that the function defines below its count
 abbrev pub CoversDefinitions : FunctionValue → ℕ → Type 0
-CoversDefinitions f n = (v : VirtualRegister) (point : ℕ) → IsDefinedBy f v point → v.number < f.num_vregs → v.number < n
+CoversDefinitions f n = (v : VirtualRegister) (point : ℕ) → IsDefinedUpTo f v point → v.number < f.num_vregs → v.number < n
 
 -- a table of `n` entries has at most some four for each instruction, or at most as many as some defined number needs
 abbrev pub IsShort : FunctionValue → ℕ → Type 0
-IsShort f n = (n ≤ 4 * length f.insts + 3) ⊎ ((v : VirtualRegister) × (point : ℕ) × IsDefinedBy f v point × (n ≤ v.number + 1))
+IsShort f n = (n ≤ 4 * length f.insts + 3) ⊎ ((v : VirtualRegister) × (point : ℕ) × IsDefinedUpTo f v point × (n ≤ v.number + 1))
 
 -- a number that the operand may define is below a bound
 abbrev pub IsBelow : ℕ → OperandValue → Type 0
