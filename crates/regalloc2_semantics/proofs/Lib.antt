@@ -6,7 +6,6 @@
 pub mod Cells
 pub mod AfterWrites
 pub mod Given
-pub mod OldForms
 pub mod RunLaws
 pub mod ValueLaws
 pub mod Converse
