@@ -325,7 +325,7 @@ module _ (f : FunctionValue) (b i : ℕ) (before_it places : List Place) (old ne
   unchanged_adds_no_range limited env ok inside used same few = record {
     defines = λ v asked d.
         let n = IsDefOperand-from_DefinesAt f v i d in
-        not_up (inst_def d.1.0 n.operand n.definition ((orderly env f limited ok i inside).allocated d.1.0 n.operand n.definition)
+        not_up (inst_def d.0 n.operand n.definition ((orderly env f limited ok i inside).allocated d.0 n.operand n.definition)
         (ap (λ (x : ℕ). slice_index_or old.places.watched x false) n.number ∙ asked));
     reads = λ n at k asked r unused.
         let watches : Watches old (op_at ops k).vreg.number = ap (λ (x : ℕ). slice_index_or old.places.watched x false) r.number ∙ asked in

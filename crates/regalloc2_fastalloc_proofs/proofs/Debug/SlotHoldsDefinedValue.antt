@@ -9,7 +9,7 @@ use Rattle.regalloc2_function.specs.FunctionValue.{FunctionValue, IsLimited, blo
 use Rattle.regalloc2_function.specs.Machine.{MachineValue}
 use Rattle.regalloc2_function.specs.OutputValue.{MoveValue, allocs_of}
 use Rattle.regalloc2_semantics.specs.Runs.{Way, Onward, ToSuccessor, end_of, IsPath, IsWrittenFirst, arguments_at, source_before, Cells, cells_before}
-use Rattle.regalloc2_semantics.specs.Debug.{DefinesAt}
+use Rattle.regalloc2_semantics.specs.Live.{DefinesAt}
 use Rattle.regalloc2_function.specs.WellFormed.{IsWellFormed}
 use Rattle.regalloc2_carry.specs.Listing.{Item, exec_item}
 use Rattle.regalloc2_carry.specs.Listing.Item.{Move}

@@ -11,7 +11,7 @@ use Rattle.regalloc2_function.specs.Machine.{MachineValue}
 use Rattle.regalloc2_function.specs.OutputValue.{OutputValue}
 use Rattle.regalloc2_semantics.specs.Runs.{Location, IsWrittenFirst}
 use Rattle.regalloc2_semantics.specs.Faithful.{IsFaithful}
-use Rattle.regalloc2_semantics.specs.Debug.{PassesAt}
+use Rattle.regalloc2_semantics.specs.Live.{PassesAt}
 use Rattle.regalloc2_function.specs.Stored.{location_of}
 use Rattle.regalloc2_function.specs.Views.{edit_of, machine_of}
 use Rattle.regalloc2_carry.proofs.SingleDef.{Made}
