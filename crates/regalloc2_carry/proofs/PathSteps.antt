@@ -9,8 +9,8 @@ use Rattle.regalloc2_names.specs.Place.{Place}
 use Rattle.regalloc2_function.specs.FunctionValue.{FunctionValue, block_at, inst_at, op_at}
 use Rattle.regalloc2_function.specs.OutputValue.{OutputValue, allocs_of}
 use Rattle.regalloc2_semantics.specs.Runs.{Way, Location, end_of, last_inst, Stamp, Source, after_defs, read_of, source_before, source_after}
-use Rattle.regalloc2_semantics.specs.Runs.{UsesWritten, Cells, cells_early, cells_late, cells_before, moves_at}
-use Rattle.regalloc2_semantics.specs.Faithful.{ReadsAgree}
+use Rattle.regalloc2_semantics.specs.Runs.{Cells, cells_early, cells_late, cells_before, moves_at}
+use Rattle.regalloc2_semantics.specs.Laws.{UsesWritten, ReadsAgree}
 use Rattle.regalloc2_carry.specs.Listing.{Item, items_by, items_from}
 use Rattle.regalloc2_carry.specs.Carry.{CarriesFrom, Finds}
 use Rattle.regalloc2_carry.proofs.CarryRules.{after_their_moves}

@@ -12,11 +12,11 @@ use Rattle.regalloc2_function.specs.FunctionValue.{FunctionValue, block_at, inst
 use Rattle.regalloc2_function.specs.OutputValue.{OutputValue}
 use Rattle.regalloc2_semantics.specs.Runs.{Way, Onward, ToSuccessor, Location, first_of, end_of, last_inst, IsPath, HasWay, Stamp, read_of, over_edge}
 use Rattle.regalloc2_semantics.specs.Runs.{arguments_at, source_before, source_after, source_read, IsWrittenFirst, cells_before, IsReached}
-use Rattle.regalloc2_semantics.specs.Faithful.{ReadsAgree}
+use Rattle.regalloc2_semantics.specs.Laws.{ReadsAgree}
 use Rattle.regalloc2_carry.specs.Listing.{items_by, items_from, block_items, IsReadIn}
 use Rattle.regalloc2_carry.specs.Carry.{CarriesFrom, Carries}
 use Rattle.regalloc2_carry.specs.Live.{HasEntered}
-use Rattle.regalloc2_semantics.specs.Live.{HoldsValueAt}
+use Rattle.regalloc2_carry.specs.Live.{HoldsValueAt}
 use Rattle.regalloc2_semantics.specs.Sound.{Undefined, names, HasEdge, target_at, HasSoundBlocks}
 use Rattle.regalloc2_carry.specs.BlockByPoints.{block_walked, Rising, EndsQuiet}
 use Rattle.regalloc2_carry.specs.Blocks.{IsUnwritten, IsUsed, IsUsedIn, IsWantedBehind, IsExcused, ExcusedAreSilent, ComesIn, GoesOut, BlockCarriesOn}

@@ -11,7 +11,8 @@ use Rattle.regalloc2_function.specs.FunctionValue.{FunctionValue, block_at, inst
 use Rattle.regalloc2_function.specs.Machine.{MachineValue}
 use Rattle.regalloc2_function.specs.OutputValue.{OutputValue, allocs_of, place_at}
 use Rattle.regalloc2_semantics.specs.Runs.{Way, Onward, ToSuccessor, Location, end_of, IsPath, last_inst, source_before, source_after, read_of, moves_at}
-use Rattle.regalloc2_semantics.specs.Faithful.{ReadsAgree, ConstraintsMet, IsStackToStack, IsFaithful, cell_at}
+use Rattle.regalloc2_semantics.specs.Faithful.{ConstraintsMet, IsStackToStack, IsFaithful, cell_at}
+use Rattle.regalloc2_semantics.specs.Laws.{ReadsAgree}
 use Rattle.regalloc2_function.specs.WellFormed.{IsFramed}
 use Rattle.regalloc2_checker.specs.Facts.{Facts, facts_for, true_facts, same_write}
 use Rattle.regalloc2_checker.specs.Fixpoint.{nth_of, IsReachedBlock, facts_within, IsFixpoint, IsRefutedElsewhere, IsAcceptedInst, AllAccepted, FactsAreHeld}

@@ -16,7 +16,8 @@ use Rattle.regalloc2_function.specs.FunctionValue.{FunctionValue, block_at, inst
 use Rattle.regalloc2_function.specs.Machine.{MachineValue}
 use Rattle.regalloc2_function.specs.OutputValue.{OutputValue, MoveValue, allocs_of, place_at}
 use Rattle.regalloc2_semantics.specs.Runs.{Way, Location, end_of, IsPath, source_read, moves_at, allocated_read, IsReached}
-use Rattle.regalloc2_semantics.specs.Faithful.{ReadsAgree, Meets, ConstraintsMet, IsStackToStack, IsFaithful, HoldsOnPaths, cell_at}
+use Rattle.regalloc2_semantics.specs.Laws.{ReadsAgree}
+use Rattle.regalloc2_semantics.specs.Faithful.{Meets, ConstraintsMet, IsStackToStack, IsFaithful, HoldsOnPaths, cell_at}
 use Rattle.regalloc2_function.specs.WellFormed.{IsFramed}
 use Rattle.regalloc2_checker.specs.declared.errors.CheckerError.{CheckerError}
 use Rattle.regalloc2_checker.specs.Fixpoint.{IsReachedBlock, nth_of}

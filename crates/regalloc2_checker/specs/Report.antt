@@ -13,12 +13,12 @@ use Rattle.regalloc2_names.specs.declared.OperandPos.TheVariants.{Early, Late}
 use Rattle.regalloc2_names.specs.Register.{Register, VirtualRegister, invalid_vreg}
 use Rattle.regalloc2_names.specs.RegisterBits.{bits_of_vreg}
 use Rattle.regalloc2_names.specs.Operand.{OperandValue, is_reading}
-use Rattle.regalloc2_names.specs.Place.{Place, NoPlace, InRegister, is_in_register}
+use Rattle.regalloc2_names.specs.Place.{Place, NoPlace, InRegister, InSlot, is_in_register}
 use Rattle.regalloc2_function.specs.FunctionValue.{FunctionValue, block_at, inst_at}
 use Rattle.regalloc2_function.specs.Machine.{MachineValue, IsStackPlace, IsPlainRegister}
 use Rattle.regalloc2_function.specs.OutputValue.{OutputValue, MoveValue, allocs_of, place_at}
 use Rattle.regalloc2_semantics.specs.Runs.{Location, moves_at}
-use Rattle.regalloc2_semantics.specs.Faithful.{Meets, IsNumberedBelow, IsStackToStack, IsFaithful, HoldsOnPaths}
+use Rattle.regalloc2_semantics.specs.Faithful.{Meets, IsStackToStack, IsFaithful, HoldsOnPaths}
 use Rattle.regalloc2_function.specs.WellFormed.{IsFramed}
 use Rattle.regalloc2_checker.specs.Fixpoint.{IsReachedBlock, nth_of}
 use Rattle.regalloc2_checker.specs.declared.errors.CheckerError.{CheckerError}
@@ -26,6 +26,12 @@ use Rattle.regalloc2_checker.specs.declared.errors.CheckerError.TheVariants.{Mis
 use Rattle.regalloc2_checker.specs.declared.errors.CheckerError.TheVariants.{ConstraintViolated, AllocationIsNotReg, AllocationIsNotFixedReg}
 use Rattle.regalloc2_checker.specs.declared.errors.CheckerError.TheVariants.{AllocationIsNotReuse, AllocationIsNotStack, StackToStackMove}
 use Rattle.regalloc2_checker.specs.declared.errors.CheckerError.TheVariants.{AllocationOutsideLimit}
+
+-- a register below a bound
+abbrev pub IsNumberedBelow : Place → ℕ → Type 0
+IsNumberedBelow NoPlace n = ⊥
+IsNumberedBelow (InRegister r) n = r.number < n
+IsNumberedBelow (InSlot m) n = ⊥
 
 -- an operand that no instruction has
 abbrev pub invalid_operand : OperandValue

@@ -3,10 +3,10 @@
 ghost use Rattle.std.specs.Prelude.{◌≢◌, ◌↔◌, ℕ, List, IsTrue, MatchOption};
 ghost use Rattle.regalloc2_names.specs.Place.{Place, NoPlace};
 ghost use Rattle.regalloc2_function.specs.Machine.{MachineValue, IsStackPlace, IsPlainRegister};
-ghost use Rattle.regalloc2_semantics.specs.Faithful.{Meets, IsNumberedBelow};
+ghost use Rattle.regalloc2_semantics.specs.Faithful.{Meets};
 ghost use Rattle.regalloc2_function.specs.Views.{machine_of};
 ghost use Rattle.regalloc2_checker.specs.CheckInputs.{AreStackSlots};
-ghost use Rattle.regalloc2_checker.specs.Report.{IsConstraintFault};
+ghost use Rattle.regalloc2_checker.specs.Report.{IsConstraintFault, IsNumberedBelow};
 
 use crate::errors::CheckerError;
 use crate::lookup::place_at;

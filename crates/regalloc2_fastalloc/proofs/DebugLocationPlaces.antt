@@ -11,11 +11,11 @@ use Rattle.regalloc2_names.specs.Place.{Place, NoPlace, InRegister, InSlot, is_n
 use Rattle.regalloc2_names.specs.Register.{VirtualRegister}
 use Rattle.regalloc2_function.specs.FunctionValue.{FunctionValue, IsLimited, Label, inst_at, op_at, op_at as operand_at}
 use Rattle.regalloc2_function.specs.Machine.{MachineValue}
-use Rattle.regalloc2_function.specs.OutputValue.{DebugLocation, OutputValue}
+use Rattle.regalloc2_function.specs.OutputValue.{DebugLocation, OutputValue, allocs_of, place_at}
 use Rattle.regalloc2_semantics.specs.Runs.{IsWrittenFirst, Location}
 use Rattle.regalloc2_semantics.specs.Debug.{ShowsValue}
-use Rattle.regalloc2_semantics.specs.Live.{PassesAt}
-use Rattle.regalloc2_semantics.specs.Places.{IsProperPlace}
+use Rattle.regalloc2_semantics.specs.Live.{NamesAt, PassesAt}
+use Rattle.regalloc2_semantics.specs.Places.{IsProperPlace, Owner, OfVReg}
 use Rattle.regalloc2_function.specs.WellFormed.{IsWellFormed}
 use Rattle.regalloc2_carry.proofs.SingleDef.{Made, made_small}
 use Rattle.regalloc2_fastalloc_state.specs.StateParts.{IsSlotOrNone, slot_name}
@@ -33,7 +33,7 @@ use Rattle.regalloc2_fastalloc_proofs.proofs.Safety.OutputOfWalk.{IsOutputOfWalk
 use Rattle.regalloc2_fastalloc_proofs.proofs.Slots.ApartSlotsAreOwned.{OwnsSlots}
 use Rattle.regalloc2_fastalloc_proofs.proofs.Safety.InstsKeepSafe.{WalkKept, place_of}
 use Rattle.regalloc2_fastalloc.specs.DebugLocations.{AreLocated, location_shown, operand_place, place_by, place_shown}
-use Rattle.regalloc2_fastalloc.specs.Promise.{IsPlaceOf, ShowsLabels}
+use Rattle.regalloc2_fastalloc.specs.Promise.{ShowsLabels}
 use Rattle.regalloc2_fastalloc.proofs.DebugLocationsFound.{pointed_made}
 
 -- a vreg that shows the value of v, is an operand of it; an argument alone is in a slot
@@ -81,6 +81,10 @@ module _ (env : MachineValue) (f : FunctionValue) (limited : IsLimited f) (ok : 
     where
       each : (k : KeptLabel) → IsKeptLabelOf f f.labels k → IsOfLabel f env (Made f) t.slots (location_shown t.slots offsets allocs k)
       each k (j, l, lt, there, (is, range)) = (j, l, lt, there, (sym is, range.kept, pointed_made f l.vreg range.kept.0, range_stands l k range))
+
+-- a place of a vreg: an operand that names it is there, or it is the slot that it owns
+abbrev IsPlaceOf : FunctionValue → OutputValue → (ℕ → Owner) → VirtualRegister → Place → Type 0
+IsPlaceOf f out owner v p = ((i k : ℕ) × NamesAt f v i k × (place_at (allocs_of out i) k ≡ p)) ⊎ ((n : ℕ) × (p ≡ InSlot n) × (owner n ≡ OfVReg v))
 
 module _ (env : MachineValue) (f : FunctionValue) (limited : IsLimited f) (ok : IsWellFormed env f) (May : ℕ → Type 0) (t : StateValue) (out : OutputValue)
     (m : IsOutputOfWalk f env (Made f) May t out)

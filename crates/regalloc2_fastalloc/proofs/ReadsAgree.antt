@@ -18,7 +18,8 @@ use Rattle.regalloc2_semantics.specs.Runs.{Way, Location, end_of, IsPath, IsWrit
 use Rattle.regalloc2_semantics.specs.Places.{OfVReg}
 use Rattle.regalloc2_carry.specs.BlockByPoints.{block_walked, Rising, EndsQuiet}
 use Rattle.regalloc2_carry.specs.Blocks.{BlockCarriesOn}
-use Rattle.regalloc2_semantics.specs.Live.{IsLive, HoldsValueAt, DefinesAt}
+use Rattle.regalloc2_semantics.specs.Live.{IsLive, DefinesAt}
+use Rattle.regalloc2_carry.specs.Live.{HoldsValueAt}
 use Rattle.regalloc2_carry.specs.Live.{LiveStandInPlaces, HasEntered}
 use Rattle.regalloc2_semantics.specs.Sound.{target_at}
 use Rattle.regalloc2_analysis.specs.BranchDefs.BranchDefs.{DefinesNumber, IsEdgeInto}

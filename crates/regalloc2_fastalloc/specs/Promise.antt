@@ -9,12 +9,12 @@ use Rattle.regalloc2_names.specs.declared.RegClass.{RegClass}
 use Rattle.regalloc2_function.specs.FunctionValue.{FunctionValue, block_at, inst_at, op_at}
 use Rattle.regalloc2_function.specs.Machine.{MachineValue, allocatable_count}
 use Rattle.regalloc2_function.specs.OutputValue.{OutputValue, IsInOrder, allocs_of, place_at}
-use Rattle.regalloc2_semantics.specs.Runs.{Way, first_of, end_of, IsPath, IsWrittenFirst, arguments_at, ToSuccessor, Location}
+use Rattle.regalloc2_semantics.specs.Runs.{Way, first_of, end_of, IsPath, IsWrittenFirst, arguments_at, ToSuccessor, Location, source_before, cells_before}
 use Rattle.regalloc2_semantics.specs.Faithful.{ConstraintsMet, EditsAreListed, IsStackToStack, IsFaithful}
 use Rattle.regalloc2_semantics.specs.Debug.{ShowsValue, AreDebugLocations}
 use Rattle.regalloc2_semantics.specs.Places.{IsProperPlace, PlacesAreProper, Owner, OfVReg, OfBranch, IsSlotOf, AreSlotsOwned, units_at_most}
 use Rattle.regalloc2_semantics.specs.Values.{Meaning, SameNumbers, numbers, source_reads}
-use Rattle.regalloc2_semantics.specs.Live.{NamesAt, DefinesAt, IsLive, HoldsValueAt}
+use Rattle.regalloc2_semantics.specs.Live.{NamesAt, DefinesAt, IsLive}
 
 -- The allocated program runs as the function does, along every path from the entry: at each step each use finds in its place the function's own
 -- write, each place meets its constraint, and no move is stack-to-stack; and so each use reads the function's own number, whatever the instructions
@@ -43,7 +43,8 @@ pub record LiveInSlots (f : FunctionValue) (out : OutputValue) (owner : ℕ → 
   pub slot : VirtualRegister → ℕ
   pub operands : (v : VirtualRegister) (i k n : ℕ) → NamesAt f v i k → place_at (allocs_of out i) k ≡ InSlot n → slot v ≡ n
   pub live : (ws : List Way) (k : ℕ) → IsPath f (ToSuccessor k ∷ ws) → (v : VirtualRegister) → IsLive f v (end_of f (ToSuccessor k ∷ ws)) →
-      (owner (slot v) ≡ OfVReg v) × ((p : Place) → ArrivesAt f out slot (end_of f ws) k v p → HoldsValueAt f out (ToSuccessor k ∷ ws) p v)
+      (owner (slot v) ≡ OfVReg v) × ((p : Place) → ArrivesAt f out slot (end_of f ws) k v p →
+      IsSome (source_before f (ToSuccessor k ∷ ws) v) × (cells_before f out (ToSuccessor k ∷ ws) p ≡ source_before f (ToSuccessor k ∷ ws) v))
 
 -- The slot n of a branch i: it is the branch's first or second one for its class, and only moves name it, each at the
 -- point before the branch.
@@ -53,15 +54,12 @@ pub record ServesBranch (out : OutputValue) (n i index : ℕ) : Type 0 where
   pub no_operand : All (λ p. p ≢ InSlot n) out.allocs
   pub no_location : All (λ d. d.place ≢ InSlot n) out.debug_locations
 
--- A place of a vreg: an operand that names it is there, or it is the slot that it owns.
-abbrev pub IsPlaceOf : FunctionValue → OutputValue → (ℕ → Owner) → VirtualRegister → Place → Type 0
-IsPlaceOf f out owner v p = ((i k : ℕ) × NamesAt f v i k × (place_at (allocs_of out i) k ≡ p)) ⊎ ((n : ℕ) × (p ≡ InSlot n) × (owner n ≡ OfVReg v))
-
 -- There is a debug location for each label that is kept, each from its vreg's first point to its last one, by rising
--- label, and as listed where labels are equal. Each place is valid, and one of that vreg; and if no path from the entry
+-- label, and as listed where labels are equal. Each place is valid, and that of an operand that names the vreg, or the slot that the vreg owns; and if no path from the entry
 -- reads or passes a vreg before writing it, it holds that vreg's value.
 abbrev pub ShowsLabels : FunctionValue → MachineValue → OutputValue → (ℕ → Owner) → Type 0
-ShowsLabels f env out owner = AreDebugLocations f (λ l d. IsProperPlace env out l.vreg.class d.place × IsPlaceOf f out owner l.vreg d.place
+ShowsLabels f env out owner = AreDebugLocations f (λ l d. IsProperPlace env out l.vreg.class d.place
+    × (((i k : ℕ) × NamesAt f l.vreg i k × (place_at (allocs_of out i) k ≡ d.place)) ⊎ ((n : ℕ) × (d.place ≡ InSlot n) × (owner n ≡ OfVReg l.vreg)))
     × (IsWrittenFirst f → ShowsValue f out l.vreg d.place)) out
 
 -- A function of one block, all of whose operands are under `Reg`, without clobbers, which names no more vregs of a class than

@@ -6,7 +6,7 @@ use Rattle.std.proofs.lemmas.Bool.{cases_lt, or_left, or_right}
 use Rattle.regalloc2_names.specs.Register.{VirtualRegister, is_vreg}
 use Rattle.regalloc2_function.specs.FunctionValue.{FunctionValue, InstValue, block_at, inst_at, no_inst}
 use Rattle.regalloc2_semantics.specs.Runs.{Way, Onward, ToSuccessor, Location}
-use Rattle.regalloc2_semantics.specs.Live.{DefinesAt, IsTakenOver, IsGiven}
+use Rattle.regalloc2_semantics.specs.Live.{DefinesAt, IsGiven}
 use Rattle.regalloc2_semantics.specs.Sound.{Undefined, IsAside, names, target_at}
 use Rattle.regalloc2_semantics.proofs.Cells.{is_vreg-same, is_vreg-true}
 

@@ -6,7 +6,8 @@ use Rattle.regalloc2_function.specs.FunctionValue.{FunctionValue, op_at}
 use Rattle.regalloc2_function.specs.Machine.{MachineValue}
 use Rattle.regalloc2_function.specs.OutputValue.{OutputValue}
 use Rattle.regalloc2_semantics.specs.Runs.{Way, IsPath, last_inst, Stamp, source_read, allocated_read}
-use Rattle.regalloc2_semantics.specs.Faithful.{ReadsAgree, IsFaithful}
+use Rattle.regalloc2_semantics.specs.Faithful.{IsFaithful}
+use Rattle.regalloc2_semantics.specs.Laws.{ReadsAgree}
 use Rattle.regalloc2_semantics.specs.Laws.{ReadsGiveNumbers}
 use Rattle.regalloc2_semantics.specs.Values.{Meaning, Numbers, reads_from, source_reads, allocated_reads, numbers, SameNumbers}
 

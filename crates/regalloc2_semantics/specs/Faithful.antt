@@ -25,18 +25,6 @@ abbrev pub HoldsOnPaths : FunctionValue → OutputValue → Location → Operand
 HoldsOnPaths f o l position p v = (ws : List Way) → IsPath f ws → end_of f ws ≡ l →
     IsSome (cell_at f o ws position p) × (cell_at f o ws position p ≡ read_of position (source_before f ws v) (source_after f ws v))
 
--- at the last step of a path each reading use finds in its place the write that its vreg has, and there is one
-abbrev pub ReadsAgree : FunctionValue → OutputValue → List Way → Type 0
-ReadsAgree f out ws = (k : ℕ) → k < length (last_inst f ws).operands →
-    let o : OperandValue = op_at (last_inst f ws).operands k in
-    is_reading o ≡ true → IsSome (source_read f ws o) × (allocated_read f out ws k o ≡ source_read f ws o)
-
--- a register below a bound
-abbrev pub IsNumberedBelow : Place → ℕ → Type 0
-IsNumberedBelow NoPlace n = ⊥
-IsNumberedBelow (InRegister r) n = r.number < n
-IsNumberedBelow (InSlot m) n = ⊥
-
 -- the place of an operand meets its constraint; `places` are the places of the instruction's `count` operands
 abbrev pub Meets : MachineValue → ℕ → List Place → OperandConstraint → Place → Type 0
 Meets env count places Any p = p ≡ NoPlace → ⊥
@@ -49,7 +37,12 @@ Meets env count places (Reuse n) p = IsRegister p × (n < count) × (p ≡ place
     IsRegister NoPlace = ⊥
     IsRegister (InRegister r) = Unit {0}
     IsRegister (InSlot m) = ⊥
-Meets env count places (Limit n) p = IsPlainRegister env p × IsNumberedBelow p n
+Meets env count places (Limit n) p = IsPlainRegister env p × IsBelow p
+  where
+    IsBelow : Place → Type 0
+    IsBelow NoPlace = ⊥
+    IsBelow (InRegister r) = r.number < n
+    IsBelow (InSlot m) = ⊥
 
 -- the place of every operand of an instruction meets the operand's constraint
 abbrev pub ConstraintsMet : FunctionValue → MachineValue → OutputValue → ℕ → Type 0
@@ -60,9 +53,11 @@ ConstraintsMet f env out i = (k : ℕ) → k < length (inst_at f i).operands →
 abbrev pub IsStackToStack : MachineValue → MoveValue → Type 0
 IsStackToStack env m = IsStackPlace env m.from × IsStackPlace env m.to
 
--- at each step of each path reads agree, constraints are met, and no move is stack-to-stack
+-- at each step of each path each use finds in its place the write that its vreg has, and there is one; constraints are met, and no move is stack-to-stack
 pub record IsFaithful (f : FunctionValue) (env : MachineValue) (out : OutputValue) : Type 0 where
-  pub reads : (ws : List Way) → IsPath f ws → ReadsAgree f out ws
+  pub reads : (ws : List Way) → IsPath f ws → (k : ℕ) → k < length (last_inst f ws).operands →
+      let o : OperandValue = op_at (last_inst f ws).operands k in
+      is_reading o ≡ true → IsSome (source_read f ws o) × (allocated_read f out ws k o ≡ source_read f ws o)
   pub constraints : (ws : List Way) → IsPath f ws → ConstraintsMet f env out (end_of f ws).inst
   pub moves : (ws : List Way) → IsPath f ws → All (λ m. IsStackToStack env m → ⊥) (moves_at f out (end_of f ws))
 

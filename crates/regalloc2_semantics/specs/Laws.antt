@@ -7,9 +7,21 @@ use Rattle.regalloc2_function.specs.FunctionValue.{FunctionValue, op_at}
 use Rattle.regalloc2_function.specs.Machine.{MachineValue}
 use Rattle.regalloc2_function.specs.OutputValue.{OutputValue}
 use Rattle.regalloc2_function.specs.WellFormed.{IsWellFormed}
-use Rattle.regalloc2_semantics.specs.Runs.{Way, last_inst, Stamp, source_read, IsPath, source_before, cells_before, UsesWritten}
-use Rattle.regalloc2_semantics.specs.Faithful.{ReadsAgree, IsFaithful, ConstraintsMet, IsStackToStack}
+use Rattle.regalloc2_semantics.specs.Runs.{Way, last_inst, Stamp, source_read, IsPath, source_before, cells_before, allocated_read}
+use Rattle.regalloc2_semantics.specs.Faithful.{IsFaithful, ConstraintsMet, IsStackToStack}
 use Rattle.regalloc2_semantics.specs.Values.{SameNumbers}
+
+-- every use of the last step finds a write
+abbrev pub UsesWritten : FunctionValue → List Way → Type 0
+UsesWritten f ws = (k : ℕ) → k < length (last_inst f ws).operands →
+    let o : OperandValue = op_at (last_inst f ws).operands k in
+    is_reading o ≡ true → IsSome (source_read f ws o)
+
+-- at the last step of a path each use finds in its place the write that its vreg has, and there is one
+abbrev pub ReadsAgree : FunctionValue → OutputValue → List Way → Type 0
+ReadsAgree f out ws = (k : ℕ) → k < length (last_inst f ws).operands →
+    let o : OperandValue = op_at (last_inst f ws).operands k in
+    is_reading o ≡ true → IsSome (source_read f ws o) × (allocated_read f out ws k o ≡ source_read f ws o)
 
 -- every use of the last step finds a write of an earlier step
 abbrev pub UsesFindEarlier : FunctionValue → List Way → Type 0

@@ -1,13 +1,11 @@
--- The instructions that define, read or pass a vreg, the vregs that are live where a path comes to an instruction, and the places that hold
--- their values.
-use Rattle.std.specs.Prelude.{ℕ, ◌<◌, ◌⊎◌, List, length, slice_index, ◌≡◌, true, IsSome, Contains}
+-- The instructions that define, read or pass a vreg, and the vregs that are live where a path comes to an
+-- instruction.
+use Rattle.std.specs.Prelude.{ℕ, ◌<◌, ◌⊎◌, List, length, slice_index, ◌≡◌, true, Contains}
 use Rattle.regalloc2_names.specs.declared.OperandPos.{OperandPos}
 use Rattle.regalloc2_names.specs.Register.{VirtualRegister}
 use Rattle.regalloc2_names.specs.Operand.{is_def, is_reading}
-use Rattle.regalloc2_names.specs.Place.{Place}
 use Rattle.regalloc2_function.specs.FunctionValue.{FunctionValue, block_at, inst_at, op_at}
-use Rattle.regalloc2_function.specs.OutputValue.{OutputValue}
-use Rattle.regalloc2_semantics.specs.Runs.{Way, Onward, ToSuccessor, Location, next_of, HasWay, arguments_at, source_before, cells_before}
+use Rattle.regalloc2_semantics.specs.Runs.{Way, Onward, ToSuccessor, Location, next_of, HasWay, arguments_at}
 
 -- the operand k of the instruction i names v
 abbrev pub NamesAt : FunctionValue → VirtualRegister → ℕ → ℕ → Type 0
@@ -26,14 +24,13 @@ ReadsAt f v position i = (k : ℕ) × NamesAt f v i k × (is_reading (op_at (ins
 abbrev pub PassesAt : FunctionValue → VirtualRegister → Location → Type 0
 PassesAt f v l = (k : ℕ) × HasWay f l (ToSuccessor k) × Contains (arguments_at f l.block k) v × (DefinesAt f v l.inst → ⊥)
 
--- an edge gives v the value of its argument: v is a parameter of the block that the edge leads to
-abbrev pub IsTakenOver : FunctionValue → VirtualRegister → Location → Way → Type 0
-IsTakenOver f v l Onward = ⊥
-IsTakenOver f v l (ToSuccessor k) = Contains (block_at f (slice_index (block_at f l.block).succs k)).params v
-
--- v gets a value at the location, by the instruction there or by the edge
+-- v gets a value at the location: the instruction there defines it, or it is a parameter of the block that the edge leads to
 abbrev pub IsGiven : FunctionValue → VirtualRegister → Location → Way → Type 0
-IsGiven f v l w = DefinesAt f v l.inst ⊎ IsTakenOver f v l w
+IsGiven f v l w = DefinesAt f v l.inst ⊎ IsParameter w
+  where
+    IsParameter : Way → Type 0
+    IsParameter Onward = ⊥
+    IsParameter (ToSuccessor k) = Contains (block_at f (slice_index (block_at f l.block).succs k)).params v
 
 -- v is live before an instruction: it is read there, or read or passed on some path from there before it is given a value (if no instruction reads what it
 -- writes, as in well-formed functions)
@@ -41,7 +38,3 @@ pub data IsLive (f : FunctionValue) (v : VirtualRegister) : Location → Type 0 
   read_there : (l : Location) (position : OperandPos) → ReadsAt f v position l.inst → IsLive f v l
   passed_there : (l : Location) → PassesAt f v l → IsLive f v l
   later : (l : Location) (w : Way) → HasWay f l w → (IsGiven f v l w → ⊥) → IsLive f v (next_of f l w) → IsLive f v l
-
--- before a path's last step v has a value (a parameter the one that the edge gave it), and the place holds it
-abbrev pub HoldsValueAt : FunctionValue → OutputValue → List Way → Place → VirtualRegister → Type 0
-HoldsValueAt f out ws p v = IsSome (source_before f ws v) × (cells_before f out ws p ≡ source_before f ws v)

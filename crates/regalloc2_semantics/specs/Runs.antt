@@ -106,15 +106,12 @@ read_of Late before after = after
 abbrev pub source_read : FunctionValue → List Way → OperandValue → Option Stamp
 source_read f ws o = read_of o.position (source_before f ws o.vreg) (source_after f ws o.vreg)
 
--- every use of the last step finds a write
-abbrev pub UsesWritten : FunctionValue → List Way → Type 0
-UsesWritten f ws = (k : ℕ) → k < length (last_inst f ws).operands →
-    let o : OperandValue = op_at (last_inst f ws).operands k in
-    is_reading o ≡ true → IsSome (source_read f ws o)
-
--- each vreg is definitely assigned: no path reads or passes it before writing it
+-- each vreg is definitely assigned: at the last step of every path each use, and each argument on an edge from there, finds a write
 abbrev pub IsWrittenFirst : FunctionValue → Type 0
-IsWrittenFirst f = (ws : List Way) → IsPath f ws → UsesWritten f ws
+IsWrittenFirst f = (ws : List Way) → IsPath f ws →
+    ((k : ℕ) → k < length (last_inst f ws).operands →
+    let o : OperandValue = op_at (last_inst f ws).operands k in
+    is_reading o ≡ true → IsSome (source_read f ws o))
     × ((k : ℕ) → HasWay f (end_of f ws) (ToSuccessor k) → All (λ v. IsSome (source_after f ws v)) (arguments_at f (end_of f ws).block k))
 
 -- who wrote each place last, if anyone

@@ -10,7 +10,7 @@ use Rattle.regalloc2_function.specs.FunctionValue.{FunctionValue, block_at, inst
 use Rattle.regalloc2_function.specs.OutputValue.{OutputValue, allocs_of, place_at}
 use Rattle.regalloc2_semantics.specs.Runs.{Way, Onward, ToSuccessor, end_of, Stamp, read_of, arguments_at, source_before, source_after, over_edge, Cells}
 use Rattle.regalloc2_semantics.specs.Runs.{after_moves, moves_at, cells_early, cells_late, cells_before}
-use Rattle.regalloc2_semantics.specs.Faithful.{ReadsAgree}
+use Rattle.regalloc2_semantics.specs.Laws.{ReadsAgree}
 use Rattle.regalloc2_carry.specs.Carry.{Spares}
 use Rattle.regalloc2_semantics.specs.Sound.{Undefined, target_at, IsAside}
 use Rattle.regalloc2_carry.proofs.UnwrittenPlaces.{NoMoveTo, moves_kept}

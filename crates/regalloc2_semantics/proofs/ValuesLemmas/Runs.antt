@@ -12,7 +12,7 @@ use Rattle.regalloc2_function.specs.FunctionValue.{FunctionValue, block_at, inst
 use Rattle.regalloc2_function.specs.OutputValue.{OutputValue, allocs_of, place_at}
 use Rattle.regalloc2_semantics.specs.Runs.{Way, Onward, ToSuccessor, Location, end_of, next_of, last_inst, IsPath, HasWay, Stamp, read_of, source_before}
 use Rattle.regalloc2_semantics.specs.Runs.{source_after, source_read, Cells, after_moves, after_writes, moves_at, cells_early, cells_late, cells_before}
-use Rattle.regalloc2_semantics.specs.Faithful.{ReadsAgree}
+use Rattle.regalloc2_semantics.specs.Laws.{ReadsAgree}
 use Rattle.regalloc2_semantics.specs.Interpreters.{History, InstMeaning, State, read_by, is_late_use, edge_to, way_on, vreg_reads, source_told, vreg_written}
 use Rattle.regalloc2_semantics.specs.Interpreters.{source_step, source_run, place_found, place_reads, place_told, place_step, place_run, passed_over}
 use Rattle.regalloc2_semantics.specs.Interpreters.{numbers_moved, written_to, numbers_clobbered}
