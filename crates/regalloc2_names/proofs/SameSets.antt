@@ -1,9 +1,9 @@
 -- Sets with the same registers have the same words.
-use Rattle.std.proofs.Common.{ℕ, zero, suc, ◌≡◌, ◌<◌, ◌^◌, true, refl, sym, ap, ◌∙◌, arith, nat_eq, length}
+use Rattle.std.proofs.Common.{ℕ, Bool, zero, suc, ◌≡◌, ◌<◌, ◌^◌, true, refl, sym, ap, ◌∙◌, arith, nat_eq, length}
 use Rattle.std.specs.Prelude.{slice_index, ◌↔◌, IsTrue}
 use Rattle.std.specs.Bool.{Decides}
 use Rattle.std.specs.Cmp.Lexicographic.{pointwise}
-use Rattle.std.proofs.lemmas.Bool.Decides.{Decides-eqb, same_from_decides}
+use Rattle.std.proofs.lemmas.Bool.Decides.{same_from_decides}
 use Rattle.std.proofs.lemmas.Grind.{same_number_lists}
 use Rattle.std.proofs.lemmas.Nat.Bits.{bit_at-lt, same_from_bits_below}
 use Rattle.std.proofs.lemmas.Slice.Eq.{slice_eq-Decides}
@@ -57,20 +57,36 @@ same_listed s t e = rw e refl
 same_register : (a b : Register) → Decides (is_register a b) (a ≡ b)
 same_register a b = (is_register-true a b, λ e. ap (λ x. is_register a x) (sym e) ∙ is_register-same a)
 
--- the test of the words accepts two sets exactly if they list the same registers
-pub tests_listed : (s t : PRegSet) → ((i : ℕ) → slice_index s.bits i < 2 ^ 64) → ((i : ℕ) → slice_index t.bits i < 2 ^ 64) → length s.bits ≡ 3 →
-    length t.bits ≡ 3 → pointwise nat_eq s.bits t.bits ≡ is_same_set s t
-tests_listed s t fs ft ls lt =
-    let w = slice_eq-Decides Decides-eqb s.bits t.bits (pointwise nat_eq s.bits t.bits) refl in
-    let l = slice_eq-Decides same_register (registers_of s) (registers_of t) (is_same_set s t) refl in
-    same_from_decides {P = registers_of s ≡ registers_of t} _ _
-    (λ h. same_listed s t (w.0 h), λ e. w.1 (same_words s t fs ft ls lt (same_members s t fs ft e)))
-    l
-
--- sets are equal exactly if each register is in both or in neither
-pub same_exactly : (s t : PRegSet) → ((i : ℕ) → slice_index s.bits i < 2 ^ 64) → ((i : ℕ) → slice_index t.bits i < 2 ^ 64) → length s.bits ≡ 3 →
-    length t.bits ≡ 3 → IsTrue (pointwise nat_eq s.bits t.bits) ↔ ((r : Register) → has_register s r ≡ has_register t r)
+-- sets with the same words have the same registers
+same_has : (s t : PRegSet) → s.bits ≡ t.bits → (r : Register) → has_register s r ≡ has_register t r
 unfolding has_register
-same_exactly s t fs ft ls lt =
-    let w = slice_eq-Decides Decides-eqb s.bits t.bits (pointwise nat_eq s.bits t.bits) refl in
-    (λ h r. rw (w.0 h) refl, λ h. w.1 (same_words s t fs ft ls lt h))
+same_has s t e r = rw e refl
+
+-- the three words of two sets are equal
+abbrev pub HasSameWords : PRegSet → PRegSet → Type 0
+HasSameWords s t =
+    (slice_index s.bits 0 ≡ slice_index t.bits 0) × (slice_index s.bits 1 ≡ slice_index t.bits 1) × (slice_index s.bits 2 ≡ slice_index t.bits 2)
+
+same_bits : (s t : PRegSet) → length s.bits ≡ 3 → length t.bits ≡ 3 → HasSameWords s t → s.bits ≡ t.bits
+same_bits s t ls lt h = same_number_lists s.bits t.bits (ls ∙ sym lt) at_word
+  where
+    at_word : (k : ℕ) → k < length s.bits → slice_index s.bits k ≡ slice_index t.bits k
+    at_word zero l = h.0
+    at_word (suc zero) l = h.1
+    at_word (suc (suc zero)) l = h.2
+    at_word (suc (suc (suc k))) l = absurd (omega (arith, ls, l))
+
+words_same : (s t : PRegSet) → s.bits ≡ t.bits → HasSameWords s t
+words_same s t e = rw e (refl, refl, refl)
+
+-- a test of the words accepts two sets exactly if they list the same registers, and exactly if each register is in both or in neither
+pub test_exact : (s t : PRegSet) → ((i : ℕ) → slice_index s.bits i < 2 ^ 64) → ((i : ℕ) → slice_index t.bits i < 2 ^ 64) → length s.bits ≡ 3 →
+    length t.bits ≡ 3 → (b : Bool) → Decides b (HasSameWords s t) →
+    (b ≡ is_same_set s t) × (IsTrue b ↔ ((r : Register) → has_register s r ≡ has_register t r))
+test_exact s t fs ft ls lt b w =
+    let l = slice_eq-Decides same_register (registers_of s) (registers_of t) (is_same_set s t) refl in (
+      same_from_decides {P = registers_of s ≡ registers_of t} _ _
+          (λ h. same_listed s t (same_bits s t ls lt (w.0 h)), λ e. w.1 (words_same s t (same_words s t fs ft ls lt (same_members s t fs ft e))))
+          l,
+      (λ h. same_has s t (same_bits s t ls lt (w.0 h)), λ h. w.1 (words_same s t (same_words s t fs ft ls lt h))),
+    )

@@ -23,7 +23,7 @@ mod virtual_registers;
 pub use operands::Operand;
 pub use places::{Allocation, SpillSlot};
 pub use points::ProgPoint;
-pub use registers::PReg;
+pub use registers::{CLASSES, PReg};
 pub use sets::{PRegSet, PRegSetIter};
 pub use texts::VRegText;
 pub use unions::OperandUnion;

@@ -87,6 +87,11 @@ fn is_constraint_field(field: u64) -> bool
 }
 
 impl Operand {
+    /// The indexes that a reuse can name are below.
+    ///
+    /// Upstream: none.
+    pub const REUSE_LIMIT: usize = (FIXED - REUSE) as usize;
+
     const VREG_BITS: usize = 32;
 
     const VREG_MASK: u64 = (1 << Self::VREG_BITS) - 1;
@@ -425,8 +430,7 @@ impl Operand {
         ensures word { IsOperandBits result }
         ensures operand { operand_of_bits result ≡ self }
     {
-        let Self { bits } = self;
-        bits
+        self.bits
     }
 
     /// Returns `true` if `bits` encode an operand.

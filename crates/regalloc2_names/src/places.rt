@@ -247,8 +247,7 @@ impl Allocation {
         ensures word { IsPlaceBits result }
         ensures place { place_of_bits result ≡ self }
     {
-        let Self { bits } = self;
-        bits
+        self.bits
     }
 
     /// Returns `true` if `bits` encode a place.

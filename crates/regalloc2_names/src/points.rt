@@ -106,8 +106,7 @@ impl ProgPoint {
         ensures index { result ≡ self }
         ensures point { IsPointNumber self }
     {
-        let Self { bits } = self;
-        bits
+        self.bits
     }
 
     /// Returns `true` if `index` is the number of a point.

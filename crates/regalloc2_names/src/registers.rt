@@ -7,8 +7,10 @@ ghost use Rattle.regalloc2_names.specs.Register.{IsRegister, class_code, invalid
 use super::RegClass;
 use std::marker::Model;
 
-/// The classes by their code. Looking up a class by its code takes one step and no test.
-pub(crate) static CLASSES: [RegClass; 3] = [RegClass::Int, RegClass::Float, RegClass::Vector];
+/// The classes by their codes. Looking up a class by its code takes one step and no test.
+///
+/// Upstream: none.
+pub static CLASSES: [RegClass; 3] = [RegClass::Int, RegClass::Float, RegClass::Vector];
 
 impl RegClass {
     /// Returns the number of the class, in `0..=2`: the index in a table with one item for each class.

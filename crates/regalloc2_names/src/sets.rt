@@ -50,14 +50,6 @@ impl PRegSet {
         set
     }
 
-    /// Returns the set's words, one for each class. Reading them by value gives their range to `eq`.
-    const fn words(self) -> [u64; 3]
-        ensures words { result ≡ self.bits }
-        ensures fits { (i : ℕ) → slice_index result i < 2 ^ 64 }
-    {
-        self.bits
-    }
-
     /// Returns the index of the word of `reg`, and the index of its bit in the word.
     const fn split_index(reg: PReg) -> (usize, usize)
         ensures word { result.0 ≡ class_code reg.class }
@@ -217,7 +209,9 @@ impl PartialEq for PRegSet {
         ensures listed { result ≡ is_same_set self.now other.now }
         ensures members { IsTrue result ↔ ((r : Register) → has_register self.now r ≡ has_register other.now r) }
     {
-        self.words() == other.words()
+        let [a, b, c] = self.bits;
+        let [d, e, f] = other.bits;
+        a == d && b == e && c == f
     }
 }
 

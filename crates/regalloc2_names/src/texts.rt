@@ -37,15 +37,19 @@ impl RegClass {
     }
 }
 
-/// Returns the word for a definition or a use by `kind`, with `pos` if it isn't the usual position.
-fn kind_name(kind: OperandKind, pos: OperandPos) -> &'static str
-    ensures { result.now ≡ kind_text kind pos }
-{
-    match (kind, pos) {
-        (OperandKind::Def, OperandPos::Late) => "Def",
-        (OperandKind::Def, OperandPos::Early) => "Def@Early",
-        (OperandKind::Use, OperandPos::Early) => "Use",
-        (OperandKind::Use, OperandPos::Late) => "Use@Late",
+impl Operand {
+    /// Returns `Def` or `Use`, followed by the position if it isn't the usual one: `Def@Early` or `Use@Late`.
+    ///
+    /// Upstream: none.
+    pub fn kind_name(self) -> &'static str
+        ensures { result.now ≡ kind_text self.kind self.position }
+    {
+        match (self.kind(), self.pos()) {
+            (OperandKind::Def, OperandPos::Late) => "Def",
+            (OperandKind::Def, OperandPos::Early) => "Def@Early",
+            (OperandKind::Use, OperandPos::Early) => "Use",
+            (OperandKind::Use, OperandPos::Late) => "Use@Late",
+        }
     }
 }
 
@@ -137,7 +141,7 @@ impl fmt::Display for Operand {
         if let Some(preg) = self.as_fixed_nonallocatable() {
             return write!(f, "Fixed: {preg}");
         }
-        let kind = kind_name(self.kind(), self.pos());
+        let kind = self.kind_name();
         let vreg = self.vreg();
         let class = self.class().letter();
         let constraint = self.constraint();

@@ -5,8 +5,9 @@ ghost use Rattle.std.specs.Prelude.{◌≡◌, ◌<◌};
 
 use super::graph::Graph;
 use super::instructions::Draft;
-use super::random::{CLASSES, Random, any_class, any_machine, preg};
+use super::random::{Random, any_class, any_machine, preg};
 use regalloc2::{Block, MachineEnv, Operand, OperandKind, PRegSet, RegClass, VReg};
+use regalloc2_names::CLASSES;
 use regalloc2_serialize::InstOpcode;
 use regalloc2_serialize::table_function::{SlotUnits, TableBuilder, TableFunction, TableInst};
 use std::alloc::Global;

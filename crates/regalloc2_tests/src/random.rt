@@ -4,10 +4,8 @@ ghost use Rattle.std.specs.Prelude.{◌≡◌};
 
 pub use codegen::program::Random;
 use regalloc2::{MachineEnv, PReg, PRegSet, RegClass};
+use regalloc2_names::CLASSES;
 use std::alloc::Global;
-
-/// The classes by their codes.
-pub static CLASSES: [RegClass; 3] = [RegClass::Int, RegClass::Float, RegClass::Vector];
 
 /// The first fixed stack slot of each class; the registers that are allocated have lower numbers.
 pub const FIRST_SLOT: usize = 40;

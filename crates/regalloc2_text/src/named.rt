@@ -5,9 +5,6 @@ use regalloc2_names::{Allocation, InstPosition, Operand, PReg, ProgPoint, RegCla
 use regalloc2_serialize::limits::INST_LIMIT;
 use std::alloc::Allocator;
 
-/// The classes by their codes.
-pub(crate) const CLASSES: [RegClass; 3] = [RegClass::Int, RegClass::Float, RegClass::Vector];
-
 /// Returns the operand that `bits` encode, if they encode one.
 pub(crate) fn operand_of(bits: u64) -> Option<Operand> {
     if Operand::is_bits(bits) {

@@ -68,12 +68,7 @@ fn write_fixed<W: fmt::Write>(
     register: PReg,
     f: &mut fmt::Formatter<W>,
 ) -> fmt::Result {
-    let kind = match (operand.kind(), operand.pos()) {
-        (OperandKind::Def, OperandPos::Late) => "Def",
-        (OperandKind::Def, OperandPos::Early) => "Def@Early",
-        (OperandKind::Use, OperandPos::Early) => "Use",
-        (OperandKind::Use, OperandPos::Late) => "Use@Late",
-    };
+    let kind = operand.kind_name();
     let vreg = VRegText(operand.vreg());
     write!(f, "{kind}: {vreg} fixed({register})")
 }

@@ -18,9 +18,6 @@ use regalloc2_names::{
 };
 use std::alloc::Allocator;
 
-/// A reuse names an operand whose index is below this: an encoded operand has five bits for the index.
-const REUSE_LIMIT: usize = 32;
-
 /// Whether a definition of `class` may reuse an operand under `constraint`: `Reg`, or a fixed
 /// register that is allocatable on the machine `env`.
 fn may_be_reused<B: Allocator>(
@@ -107,10 +104,10 @@ fn are_no_reuses(operands: &[Operand]) -> bool
 }
 
 /// For each of `operands`, by index, whether a reuse names it.
-fn named_by_reuses(operands: &[Operand]) -> [bool; REUSE_LIMIT]
+fn named_by_reuses(operands: &[Operand]) -> [bool; Operand::REUSE_LIMIT]
     ensures { (k : ℕ) → IsTrue (slice_index_or result k false) ↔ IsReusedOperand operands.now k }
 {
-    let mut named = [false; REUSE_LIMIT];
+    let mut named = [false; Operand::REUSE_LIMIT];
     for k in 0..operands.len() {
         if let Some(index) = operands[k].reused_index() {
             named[index] = true;
@@ -130,7 +127,7 @@ fn is_named(named: &[bool], k: usize) -> bool
 fn are_apart(operands: &[Operand]) -> bool
     ensures { IsTrue result ↔ AreReusesApart operands.now (length operands.now) }
 {
-    let mut named = [false; REUSE_LIMIT];
+    let mut named = [false; Operand::REUSE_LIMIT];
     for k in 0..operands.len() {
         if let Some(index) = operands[k].reused_index() {
             if named[index] {

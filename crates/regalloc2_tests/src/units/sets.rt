@@ -1,10 +1,9 @@
 //! Sets of registers, and sparse sets of numbers.
 
-use crate::random::CLASSES;
 use crate::test_alloc::Refusing;
 use crate::units::report::Report;
 use regalloc2_function::indexset::{IndexSet, SetBitsIter};
-use regalloc2_names::{PReg, PRegSet, RegClass};
+use regalloc2_names::{CLASSES, PReg, PRegSet, RegClass};
 use std::alloc::{AllocError, Allocator, Global};
 
 /// Writes what sets return.

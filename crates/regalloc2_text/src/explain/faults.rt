@@ -6,9 +6,9 @@ ghost use Rattle.regalloc2_text.specs.Explain.FaultGroup.{IsIndexCause, IsLength
 ghost use Rattle.regalloc2_text.specs.Explain.FaultText.{stored_cause_text};
 
 use crate::explain::stored::{ClassName, Counted};
-use crate::named::{CLASSES, register_of};
+use crate::named::register_of;
 use regalloc2_function::{StoredFault, StoredOutput};
-use regalloc2_names::{Allocation, Operand, PReg, ProgPoint, RegClass, VReg};
+use regalloc2_names::{Allocation, CLASSES, Operand, PReg, ProgPoint, RegClass, VReg};
 use regalloc2_serialize::limits::{BLOCK_LIMIT, INST_LIMIT, LARGEST_SLOT, VREG_LIMIT};
 use regalloc2_serialize::{StoredFunction, StoredInst, StoredMachine, vreg_number};
 use std::fmt;

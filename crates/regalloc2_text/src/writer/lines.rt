@@ -5,9 +5,9 @@ use super::machine::{write_machine, write_misfit, write_stored, write_stored_mac
 use super::moves::Moves;
 use super::places::{Places, ShownOutput};
 use super::shown::{Shown, targets_disagree};
-use crate::named::CLASSES;
 use crate::spell::StoredVReg;
 use regalloc2_function::StoredOutput;
+use regalloc2_names::CLASSES;
 use regalloc2_serialize::StoredFunction;
 use std::alloc::{AllocError, Allocator};
 use std::fmt;

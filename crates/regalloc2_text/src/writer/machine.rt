@@ -3,8 +3,8 @@
 use super::lists::JsonText;
 use super::registers::{write_class, write_registers};
 use super::shown::have_items;
-use crate::named::CLASSES;
 use crate::spell::StoredRegister;
+use regalloc2_names::CLASSES;
 use regalloc2_serialize::StoredMachine;
 use std::alloc::Allocator;
 use std::fmt;
