@@ -25,6 +25,8 @@ mod allocate;
 mod debug;
 mod survey;
 
+use survey::{first_error, survey_operands};
+
 /// An algorithm of register allocation. Upstream has a second one, `Ion`, which is left out.
 #[derive(Clone, Copy, Debug, Default, PartialEq, Eq)]
 pub enum Algorithm {
@@ -162,13 +164,13 @@ pub fn run<A: Allocator + Copy, F: Function, B: Allocator>(
     ensures refused { IfErr result (IsReason (F.function f.now) (machine_of env.now) options.now.validate_ssa) }
     ensures many_operands { (result ≡ Err RegAllocError.TooManyOperands) ↔ (2 ^ 32 ≤ operand_count (F.function f.now)) }
 {
-    let found = survey::survey_operands(alloc, f)?;
+    let survey = survey_operands(alloc, f)?;
     if options.validate_ssa {
         validate_function(alloc, f, env)?;
     }
-    match allocate::allocate(alloc, f, env, found) {
+    match allocate::allocate(alloc, f, env, survey) {
         Ok(output) => Ok(output),
-        Err(error) => Err(survey::first_error(f, error)),
+        Err(error) => Err(first_error(f, error)),
     }
 }
 

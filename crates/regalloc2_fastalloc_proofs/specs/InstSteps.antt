@@ -23,7 +23,7 @@ use Rattle.regalloc2_fastalloc_state.specs.Positions.{positions_of, both_positio
 use Rattle.regalloc2_fastalloc_state.specs.declared.inst_regs.InstRegs.{InstRegs}
 use Rattle.regalloc2_fastalloc_state.specs.declared.positions.Positions.{Positions}
 use Rattle.regalloc2_fastalloc_state.specs.declared.request.Requirement.{Requirement}
-use Rattle.regalloc2_fastalloc_state.specs.declared.request.Requirement.TheVariants.{AnyPlace, AnyReg, InMemory, InPReg}
+use Rattle.regalloc2_fastalloc_state.specs.declared.request.Requirement.TheVariants.{AnyPlace, AnyReg, OnStack, InPReg}
 use Rattle.regalloc2_fastalloc_state.specs.declared.request.OperandRequest.{OperandRequest}
 
 -- the tables of the walk; the moves in the order in which they were pushed; the machine's registers; and for each class
@@ -166,7 +166,7 @@ EvictsOtherVRegs point r v t u old new = EvictOtherVRegs point r v t old (next u
 unfoldable pub MeetsRequirement : StateValue → Requirement → Place → Type 0
 MeetsRequirement t AnyPlace p = p ≢ NoPlace
 MeetsRequirement t AnyReg p = (r : Register) × (p ≡ InRegister r) × (is_stack_in t p ≡ false)
-MeetsRequirement t InMemory p = is_stack_in t p ≡ true
+MeetsRequirement t OnStack p = is_stack_in t p ≡ true
 MeetsRequirement t (InPReg r) p = p ≡ InRegister r
 
 -- The place of an operand, before it is claimed: its vreg's current location; or the register that it requires; or its
@@ -174,7 +174,7 @@ MeetsRequirement t (InPReg r) p = p ≡ InRegister r
 pub data SelectsPlace (inst_regs : InstRegs) (o : OperandRequest) (p : Place) (old new : StateValue) : Type 0 where
   stays : alloc_of old.places o.vreg.number ≡ p → MeetsRequirement old o.requirement p → new ≡ old → SelectsPlace inst_regs o p old new
   fixed : (r : Register) → o.requirement ≡ InPReg r → p ≡ InRegister r → new ≡ old → SelectsPlace inst_regs o p old new
-  slot : (o.requirement ≡ AnyPlace) ⊎ (o.requirement ≡ InMemory) → GetsSpillSlot old.slots new.slots o.vreg p → new.places ≡ old.places →
+  slot : (o.requirement ≡ AnyPlace) ⊎ (o.requirement ≡ OnStack) → GetsSpillSlot old.slots new.slots o.vreg p → new.places ≡ old.places →
       new.edits ≡ old.edits → SameMachine old new → new.lrus ≡ old.lrus → SelectsPlace inst_regs o p old new
   free : (r : Register) → (o.requirement ≡ AnyPlace) ⊎ (o.requirement ≡ AnyReg) →
       (o.requirement ≡ AnyReg → MeetsRequirement old AnyReg (alloc_of old.places o.vreg.number) → ⊥) → MayHold old o.vreg.class r →
@@ -201,7 +201,7 @@ IsAffordable inst_regs t r = is_free t.allocatable inst_regs r ≡ true →
 abbrev pub awaited_less : Requirement → RegClass → List ℕ → List ℕ
 awaited_less AnyPlace class awaited = awaited
 awaited_less AnyReg class awaited = slice_set awaited (class_code class) (slice_index awaited (class_code class) - 1)
-awaited_less InMemory class awaited = awaited
+awaited_less OnStack class awaited = awaited
 awaited_less (InPReg r) class awaited = awaited
 
 -- a place is claimed: a register is emptied of other vregs, and is held
@@ -344,7 +344,7 @@ InTables operands t = (k : ℕ) → k < length operands → is_fixed_nonallocata
 abbrev pub requirement_of : OperandConstraint → Requirement
 requirement_of Any = AnyPlace
 requirement_of Reg = AnyReg
-requirement_of Stack = InMemory
+requirement_of Stack = OnStack
 requirement_of (FixedReg r) = InPReg r
 requirement_of (Reuse n) = AnyReg
 requirement_of (Limit n) = AnyReg
@@ -448,12 +448,12 @@ pub data NeedsFixedReg (operands : List OperandValue) (k : ℕ) (r : Register) (
       p ≡ record { early = false; late = true } → NeedsFixedReg operands k r p
 
 -- whether an operand requires any register of a class, and how many do
-abbrev pub asks_reg_of_class : RegClass → OperandValue → Bool
-asks_reg_of_class class o = is_under_reg o.constraint && nat_eq (class_code o.vreg.class) (class_code class)
+abbrev pub needs_reg_of_class : RegClass → OperandValue → Bool
+needs_reg_of_class class o = is_under_reg o.constraint && nat_eq (class_code o.vreg.class) (class_code class)
 
 -- how many operands require any register of a class
-abbrev pub asking : List OperandValue → RegClass → ℕ
-asking operands class = count_by (asks_reg_of_class class) operands
+abbrev pub needing_reg : List OperandValue → RegClass → ℕ
+needing_reg operands class = count_by (needs_reg_of_class class) operands
 
 -- an operand is fixed to the register
 abbrev pub IsFixedIn : List OperandValue → Register → Type 0
@@ -472,7 +472,7 @@ pub record ReservesRegs (operands : List OperandValue) (t u : InstRegs) (old : S
   pub late : (r : Register) → has_register u.late r ≡ true → has_register t.late r ≡ true
   pub scratch : u.scratch ≡ t.scratch
   pub only : (r : Register) → is_free_throughout t r ≡ true → is_free_throughout u r ≡ false → IsFixedIn operands r
-  pub awaited : t.awaited ≡ 0 ∷ 0 ∷ 0 ∷ [] → (c : RegClass) → awaited_of u c ≡ asking operands c
+  pub awaited : t.awaited ≡ 0 ∷ 0 ∷ 0 ∷ [] → (c : RegClass) → awaited_of u c ≡ needing_reg operands c
 
 -- an operand claims a register that isn't the machine's, or that an operand before it claims at a position of its own
 pub data RegsAreNotReserved (operands : List OperandValue) (old : StateValue) : Type 0 where
@@ -558,7 +558,7 @@ pub record PreparesRegs (i : ℕ) (operands : List OperandValue) (clobbers : PRe
   pub holds : RemovesClobbers clobbers reserved held
   pub fixed : EvictsFixed (after i) operands held old (length operands) cleared middle
   pub emptied : EvictsEach (after i) (registers_of clobbers) cleared middle quiet new
-  pub awaited : (c : RegClass) → awaited_of quiet c ≡ asking operands c
+  pub awaited : (c : RegClass) → awaited_of quiet c ≡ needing_reg operands c
 
 -- the registers can't be taken, or can't be emptied
 pub data RegsAreNotPrepared (i : ℕ) (operands : List OperandValue) (clobbers : PRegSet) (t : InstRegs) (old : StateValue) : Type 0 where

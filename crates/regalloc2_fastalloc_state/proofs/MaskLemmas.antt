@@ -17,7 +17,7 @@ use Rattle.regalloc2_names.specs.declared.OperandKind.TheVariants.{Def, Use}
 use Rattle.regalloc2_names.specs.Operand.{OperandValue, is_def, is_late}
 use Rattle.regalloc2_function.specs.FunctionValue.{op_at}
 use Rattle.regalloc2_parts.specs.Picked.{is_early_operand, is_late_operand, is_use_kind, picked, stands_early, stands_late}
-use Rattle.regalloc2_fastalloc_state.specs.Masks.{IsMask, selected}
+use Rattle.regalloc2_fastalloc_state.specs.Masks.{IsMask, max_masked, selected}
 
 -- ---- lists
 
@@ -117,7 +117,7 @@ lowest_first m ops some fits small =
 -- ---- masks
 
 -- the mask of one operand more, which gets the lowest bit
-pub mask_before : (test : OperandValue → Bool) (o : OperandValue) (ops : List OperandValue) (m : ℕ) (b : Bool) → b ≡ test o → length ops < 63 →
+pub mask_before : (test : OperandValue → Bool) (o : OperandValue) (ops : List OperandValue) (m : ℕ) (b : Bool) → b ≡ test o → length ops < max_masked →
     IsMask test ops m → IsMask test (o ∷ ops) (bit_or (m * 2 % 18446744073709551616) (bool_byte b))
 mask_before test o ops m b is few mask = rw joined (record { bits = bits; below = below })
   where
@@ -147,7 +147,7 @@ mask_before test o ops m b is few mask = rw joined (record { bits = bits; below 
     below = omega (arith, mask.below, bit b, pow-suc 2 (length ops))
 
 -- the early operands are those that aren't late
-pub early_mask : (ops : List OperandValue) (m : ℕ) → length ops ≤ 63 → m < 2 ^ 64 → IsMask is_late_operand ops m →
+pub early_mask : (ops : List OperandValue) (m : ℕ) → length ops ≤ max_masked → m < 2 ^ 64 → IsMask is_late_operand ops m →
     IsMask is_early_operand ops (bit_and (18446744073709551615 - m) (1 * 2 ^ length ops % 18446744073709551616 - 1))
 early_mask ops m few fits mask = rw (one_shl (length ops) 64 (omega arith)) (record { bits = bits; below = below })
   where

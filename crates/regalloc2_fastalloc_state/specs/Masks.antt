@@ -7,6 +7,10 @@ use Rattle.regalloc2_function.specs.FunctionValue.{op_at}
 use Rattle.regalloc2_parts.specs.Picked.{is_late_operand, is_use_operand}
 use Rattle.regalloc2_fastalloc_state.specs.declared.masks.Masks.{Masks}
 
+-- the greatest number of operands that have masks: one less than the bits of a word
+abbrev pub max_masked : ℕ
+max_masked = 63
+
 -- bit k of a word is 1 exactly if the operand k passes a test
 pub record IsMask (test : OperandValue → Bool) (operands : List OperandValue) (mask : ℕ) : Type 0 where
   pub bits : (k : ℕ) → k < length operands → nat_eq (bit_at mask k) 1 ≡ test (op_at operands k)

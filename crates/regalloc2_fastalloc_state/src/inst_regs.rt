@@ -2,11 +2,12 @@
 //! required.
 
 ghost use Rattle.std.specs.Prelude.{IsTrue, ◌≡◌, ◌+◌, ◌-◌, ◌<◌, ◌^◌, ◌&&◌, ◌||◌, ◌∷◌, [], true, None, Some, not, slice_index_or, slice_set, if◌then◌else◌};
-ghost use Rattle.regalloc2_names.specs.Register.{Register, class_code, is_register, has_register};
+ghost use Rattle.regalloc2_names.specs.Register.{Register, class_code, has_register};
+ghost use Rattle.regalloc2_semantics.specs.Fits.{is_under_reg};
 ghost use Rattle.regalloc2_fastalloc_state.specs.InstRegs.{RemovesAvailable, IsAvailableAt, SameAvailable, awaited_of, is_available_at, is_free_throughout};
 
 use crate::positions::Positions;
-use regalloc2_names::{PReg, PRegSet, RegClass};
+use regalloc2_names::{Operand, PReg, PRegSet, RegClass};
 
 /// The registers of one instruction, while its operands are allocated.
 #[derive(Clone, Copy)]
@@ -19,16 +20,6 @@ pub struct InstRegs {
     scratch: [Option<PReg>; 3],
     /// How many operands of each class that require any register are still to be allocated.
     awaited: [usize; 3],
-}
-
-/// Removes `preg` from `set` if `is_taken`.
-#[inline(always)]
-fn take_out(set: &mut PRegSet, preg: PReg, is_taken: bool)
-    ensures { (q : Register) → has_register set.new q ≡ not (is_taken && is_register preg q) && has_register set.old q }
-{
-    if is_taken {
-        set.remove(preg);
-    }
 }
 
 impl InstRegs {
@@ -84,8 +75,12 @@ impl InstRegs {
         ensures removed { RemovesAvailable self.old self.new preg positions }
         ensures awaited { self.new.awaited ≡ self.old.awaited }
     {
-        take_out(&mut self.early, preg, positions.early);
-        take_out(&mut self.late, preg, positions.late);
+        if positions.early {
+            self.early.remove(preg);
+        }
+        if positions.late {
+            self.late.remove(preg);
+        }
     }
 
     /// Makes the registers `taken` unavailable at the late position: a clobber is overwritten while late
@@ -99,15 +94,15 @@ impl InstRegs {
         self.late = self.late.difference(taken);
     }
 
-    /// Counts one more operand of `class` if it requires any register.
+    /// Counts `operand` if it requires any register. Has no branch: most processors would predict it badly.
     #[inline(always)]
-    pub fn add_any_reg_op(&mut self, class: RegClass, is_one: bool)
-        requires { awaited_of self.old class < 2 ^ 64 - 1 }
+    pub fn count_operand(&mut self, operand: Operand)
+        requires { awaited_of self.old operand.vreg.class < 2 ^ 64 - 1 }
         ensures sets { SameAvailable self.old self.new }
-        ensures awaited { self.new.awaited ≡ slice_set self.old.awaited (class_code class) (awaited_of self.old class + (if is_one then 1 else 0)) }
+        ensures awaited { self.new.awaited ≡ slice_set self.old.awaited (class_code operand.vreg.class)
+            (awaited_of self.old operand.vreg.class + (if is_under_reg operand.constraint then 1 else 0)) }
     {
-        let awaited = self.awaited[class as usize];
-        self.awaited[class as usize] = awaited + is_one as usize;
+        self.awaited[operand.class().code()] += operand.is_any_reg() as usize;
     }
 
     /// Counts an operand of `class` that required any register as placed.
@@ -115,15 +110,15 @@ impl InstRegs {
         ensures sets { SameAvailable self.old self.new }
         ensures awaited { self.new.awaited ≡ slice_set self.old.awaited (class_code class) (awaited_of self.old class - 1) }
     {
-        let awaited = self.awaited[class as usize];
-        self.awaited[class as usize] = awaited.saturating_sub(1);
+        let awaited = self.awaited[class.code()];
+        self.awaited[class.code()] = awaited.saturating_sub(1);
     }
 
     /// How many operands of `class` that require any register are still to be allocated.
     pub fn awaited(&self, class: RegClass) -> usize
         ensures { result ≡ awaited_of self.now class }
     {
-        self.awaited[class as usize]
+        self.awaited[class.code()]
     }
 
     /// Whether `preg` is free at both positions.
@@ -137,7 +132,7 @@ impl InstRegs {
     pub fn scratch_of(&self, class: RegClass) -> Option<PReg>
         ensures { result ≡ slice_index_or self.now.scratch (class_code class) None }
     {
-        self.scratch[class as usize]
+        self.scratch[class.code()]
     }
 
     /// Makes `preg` the register that stack-to-stack moves of `class` go through from now on.
@@ -147,6 +142,6 @@ impl InstRegs {
         ensures scratch { self.new.scratch ≡ slice_set self.old.scratch (class_code class) (Some preg) }
         ensures awaited { self.new.awaited ≡ self.old.awaited }
     {
-        self.scratch[class as usize] = Some(preg);
+        self.scratch[class.code()] = Some(preg);
     }
 }

@@ -11,7 +11,7 @@ pub enum Requirement {
     /// A register that is no fixed stack slot.
     AnyReg,
     /// A stack place.
-    InMemory,
+    OnStack,
     /// The register or fixed stack slot itself.
     InPReg(PReg),
 }

@@ -1,6 +1,6 @@
 -- What a pass over operands, from the last to the first, finds.
 use Rattle.std.proofs.Common.{ℕ, zero, suc, ◌≡◌, ◌+◌, ◌<◌, ◌≤◌, inl, inr, Bool, true, false, List, [], ◌∷◌, length, refl, arith, eq-eqb, sym, ap, ◌∙◌, subst}
-use Rattle.std.specs.Prelude.{All, drop, IsTrue, ◌↔◌, ◌&&◌, ◌||◌, if◌then◌else◌, nat_eq, slice_index, slice_set}
+use Rattle.std.specs.Prelude.{All, drop, ◌↔◌, ◌&&◌, ◌||◌, if◌then◌else◌, nat_eq, slice_index, slice_set}
 use Rattle.std.proofs.lemmas.Bool.{cases_Bool, cases_eq}
 use Rattle.std.proofs.lemmas.Bool.Decides.{nat_tests}
 use Rattle.std.proofs.lemmas.List.{drop_all, drop_more, get_or-set_other, get_or-set_same, length-set}
@@ -19,12 +19,12 @@ use Rattle.regalloc2_names.specs.Packing.{IsOperand}
 use Rattle.regalloc2_fastalloc_state.specs.declared.inst_regs.InstRegs.{InstRegs}
 use Rattle.regalloc2_fastalloc_state.specs.declared.masks.Masks.{Masks}
 use Rattle.regalloc2_fastalloc_state.specs.InstRegs.{SameAvailable, awaited_of}
-use Rattle.regalloc2_fastalloc_state.specs.Masks.{AreMasks}
+use Rattle.regalloc2_fastalloc_state.specs.Masks.{AreMasks, max_masked}
 use Rattle.regalloc2_fastalloc_state.specs.Validate.NoLimits.{IsTakenOperand}
 use Rattle.regalloc2_fastalloc_state.proofs.ArraysByClass.{zeros}
 use Rattle.regalloc2_function.specs.FunctionValue.{op_at, no_operand}
 use Rattle.regalloc2_semantics.specs.Fits.{is_under_reg}
-use Rattle.regalloc2_fastalloc_proofs.specs.InstSteps.{asks_reg_of_class, asking}
+use Rattle.regalloc2_fastalloc_proofs.specs.InstSteps.{needs_reg_of_class, needing_reg}
 use Rattle.regalloc2_fastalloc_walk.specs.ReserveSteps.{AreSorted}
 
 -- a constraint to one register names the register
@@ -68,8 +68,8 @@ pub record Sorting (ops : List OperandValue) (k : ℕ) (t u : InstRegs) (masks :
   pub inside : k ≤ length ops
   pub available : SameAvailable t u
   pub long : length u.awaited ≡ 3
-  pub counted : (class : RegClass) → awaited_of u class ≡ asking (drop k ops) class
-  pub masked : length (drop k ops) ≤ 63 → AreMasks (drop k ops) masks
+  pub counted : (class : RegClass) → awaited_of u class ≡ needing_reg (drop k ops) class
+  pub masked : length (drop k ops) ≤ max_masked → AreMasks (drop k ops) masks
   pub united : IsUnionOf (drop k ops) union
 
 -- behind the last operand nothing was found
@@ -81,7 +81,7 @@ sorting_none ops t masks union e m none =
       inside = omega arith;
       available = record { early = refl; late = refl; scratch = refl };
       long = ap length e;
-      counted = λ class. ap (λ xs. slice_index xs (class_code class)) e ∙ zeros class ∙ ap (λ (xs : List OperandValue). asking xs class) (sym all);
+      counted = λ class. ap (λ xs. slice_index xs (class_code class)) e ∙ zeros class ∙ ap (λ (xs : List OperandValue). needing_reg xs class) (sym all);
       masked = λ few. subst (λ (xs : List OperandValue). AreMasks xs masks) (sym all) m;
       united = subst (λ (xs : List OperandValue). IsUnionOf xs union) (sym all) none;
     }
@@ -92,15 +92,6 @@ class_short Int = omega arith
 class_short Float = omega arith
 class_short Vector = omega arith
 
--- whether an operand requires any register
-under_reg : (c : OperandConstraint) (b : Bool) → (IsTrue b ↔ (c ≡ Reg)) → b ≡ is_under_reg c
-under_reg Any b h = elim (cases_Bool b) [ inl e ↦ absurd (let x = h.0 e in cc) | inr e ↦ e ]
-under_reg Reg b h = h.1 refl
-under_reg Stack b h = elim (cases_Bool b) [ inl e ↦ absurd (let x = h.0 e in cc) | inr e ↦ e ]
-under_reg (FixedReg r) b h = elim (cases_Bool b) [ inl e ↦ absurd (let x = h.0 e in cc) | inr e ↦ e ]
-under_reg (Reuse n) b h = elim (cases_Bool b) [ inl e ↦ absurd (let x = h.0 e in cc) | inr e ↦ e ]
-under_reg (Limit n) b h = elim (cases_Bool b) [ inl e ↦ absurd (let x = h.0 e in cc) | inr e ↦ e ]
-
 -- an operand is counted in its own class alone
 and_holds : (a b c : Bool) → c ≡ a → b ≡ true → (a && b) ≡ c
 and_holds true b c e q = q ∙ sym e
@@ -110,24 +101,23 @@ and_fails : (a b : Bool) → b ≡ false → (a && b) ≡ false
 and_fails true b q = q
 and_fails false b q = refl
 
-module _ (ops : List OperandValue) (k : ℕ) (t u w : InstRegs) (m p : Masks) (union more : OperandUnion) (o : OperandValue) (asks : Bool)
+module _ (ops : List OperandValue) (k : ℕ) (t u w : InstRegs) (m p : Masks) (union more : OperandUnion) (o : OperandValue)
     (h : Sorting ops (k + 1) t u m union) (is : o ≡ op_at ops k) where
   -- the operand k is in front of the operands after it
   before : drop k ops ≡ o ∷ drop (k + 1) ops
   before = drop_more ops k no_operand (let i = h.inside in omega (arith, i)) ∙ ap (λ (x : OperandValue). x ∷ drop (k + 1) ops) (sym is)
 
   -- an operand is counted in its class if it requires any register
-  counted_more : (IsTrue asks ↔ (o.constraint ≡ Reg)) →
-      w.awaited ≡ slice_set u.awaited (class_code o.vreg.class) (awaited_of u o.vreg.class + (if asks then 1 else 0)) → (class : RegClass) →
-      awaited_of w class ≡ asking (o ∷ drop (k + 1) ops) class
-  counted_more any e class =
+  counted_more : w.awaited ≡ slice_set u.awaited (class_code o.vreg.class) (awaited_of u o.vreg.class + (if is_under_reg o.constraint then 1 else 0)) →
+      (class : RegClass) → awaited_of w class ≡ needing_reg (o ∷ drop (k + 1) ops) class
+  counted_more e class =
       let rest : List OperandValue = drop (k + 1) ops in
       let code : ℕ = class_code o.vreg.class in
-      let v : ℕ = awaited_of u o.vreg.class + (if asks then 1 else 0) in
+      let v : ℕ = awaited_of u o.vreg.class + (if is_under_reg o.constraint then 1 else 0) in
       let now : awaited_of w class ≡ slice_index (slice_set u.awaited code v) (class_code class) = ap (λ (xs : List ℕ). slice_index xs (class_code class)) e in
-      let was : awaited_of u class ≡ asking rest class = h.counted class in
-      let sum : asking (o ∷ rest) class ≡ (if asks_reg_of_class class o then 1 else 0) + asking rest class =
-      sum_by-cons (λ (x : OperandValue). if asks_reg_of_class class x then 1 else 0) o rest in
+      let was : awaited_of u class ≡ needing_reg rest class = h.counted class in
+      let sum : needing_reg (o ∷ rest) class ≡ (if needs_reg_of_class class o then 1 else 0) + needing_reg rest class =
+      sum_by-cons (λ (x : OperandValue). if needs_reg_of_class class x then 1 else 0) o rest in
       elim (cases_eq code (class_code class)) [
         | inl x ↦ (
             let here : slice_index (slice_set u.awaited code v) code ≡ v =
@@ -135,35 +125,35 @@ module _ (ops : List OperandValue) (k : ℕ) (t u w : InstRegs) (m p : Masks) (u
             let there : slice_index (slice_set u.awaited code v) (class_code class) ≡ v =
             ap (λ (n : ℕ). slice_index (slice_set u.awaited code v) n) (sym x) ∙ here in
             let own : awaited_of u o.vreg.class ≡ awaited_of u class = ap (λ (n : ℕ). slice_index u.awaited n) x in
-            let asked : asks_reg_of_class class o ≡ asks =
-            and_holds (is_under_reg o.constraint) (nat_eq code (class_code class)) asks (under_reg o.constraint asks any) (eq-eqb _ _ x) in
-            let total : awaited_of w class ≡ (if asks then 1 else 0) + asking rest class = omega (arith, now, there, own, was) in
-            total ∙ ap (λ (b : Bool). (if b then 1 else 0) + asking rest class) (sym asked) ∙ sym sum)
+            let asked : needs_reg_of_class class o ≡ is_under_reg o.constraint =
+            and_holds (is_under_reg o.constraint) (nat_eq code (class_code class)) (is_under_reg o.constraint) refl (eq-eqb _ _ x) in
+            let total : awaited_of w class ≡ (if is_under_reg o.constraint then 1 else 0) + needing_reg rest class = omega (arith, now, there, own, was) in
+            total ∙ ap (λ (b : Bool). (if b then 1 else 0) + needing_reg rest class) (sym asked) ∙ sym sum)
         | inr ne ↦ (
             let other : slice_index (slice_set u.awaited code v) (class_code class) ≡ awaited_of u class =
             get_or-set_other u.awaited code (class_code class) v 0 (λ x. ne (sym x)) in
-            let unasked : asks_reg_of_class class o ≡ false =
+            let unasked : needs_reg_of_class class o ≡ false =
             and_fails (is_under_reg o.constraint) (nat_eq code (class_code class)) (grind (arith, nat_tests)) in
-            let none : asking rest class ≡ 0 + asking rest class = omega arith in
-            now ∙ other ∙ was ∙ none ∙ ap (λ (b : Bool). (if b then 1 else 0) + asking rest class) (sym unasked) ∙ sym sum)
+            let none : needing_reg rest class ≡ 0 + needing_reg rest class = omega arith in
+            now ∙ other ∙ was ∙ none ∙ ap (λ (b : Bool). (if b then 1 else 0) + needing_reg rest class) (sym unasked) ∙ sym sum)
       ]
 
   -- with the operand k, what was found is what there is from the index k on
-  pub sorting_more : SameAvailable u w → (IsTrue asks ↔ (o.constraint ≡ Reg)) →
-      w.awaited ≡ slice_set u.awaited (class_code o.vreg.class) (awaited_of u o.vreg.class + (if asks then 1 else 0)) →
-      ((xs : List OperandValue) → length xs < 63 → AreMasks xs m → AreMasks (o ∷ xs) p) →
+  pub sorting_more : SameAvailable u w →
+      w.awaited ≡ slice_set u.awaited (class_code o.vreg.class) (awaited_of u o.vreg.class + (if is_under_reg o.constraint then 1 else 0)) →
+      ((xs : List OperandValue) → length xs < max_masked → AreMasks xs m → AreMasks (o ∷ xs) p) →
       ((xs : List OperandValue) → IsUnionOf xs union → IsUnionOf (o ∷ xs) more) → Sorting ops k t w p more
-  sorting_more same any e masks unites = record {
+  sorting_more same e masks unites = record {
     inside = (let i = h.inside in omega (arith, i));
     available = record {
       early = same.early ∙ h.available.early;
       late = same.late ∙ h.available.late;
       scratch = same.scratch ∙ h.available.scratch;
     };
-    long = ap length e ∙ length-set u.awaited (class_code o.vreg.class) (awaited_of u o.vreg.class + (if asks then 1 else 0)) ∙ h.long;
-    counted = λ class. counted_more any e class ∙ ap (λ (xs : List OperandValue). asking xs class) (sym before);
+    long = ap length e ∙ length-set u.awaited (class_code o.vreg.class) (awaited_of u o.vreg.class + (if is_under_reg o.constraint then 1 else 0)) ∙ h.long;
+    counted = λ class. counted_more e class ∙ ap (λ (xs : List OperandValue). needing_reg xs class) (sym before);
     masked = λ few.
-        let short : length (drop (k + 1) ops) < 63 = (let l = ap length before in omega (arith, l, few)) in
+        let short : length (drop (k + 1) ops) < max_masked = (let l = ap length before in omega (arith, l, few)) in
         subst (λ (xs : List OperandValue). AreMasks xs p) (sym before) (masks (drop (k + 1) ops) short (h.masked (omega (arith, short))));
     united = subst (λ (xs : List OperandValue). IsUnionOf xs more) (sym before) (unites (drop (k + 1) ops) h.united);
   }

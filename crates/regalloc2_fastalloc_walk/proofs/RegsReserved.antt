@@ -4,6 +4,7 @@ use Rattle.std.specs.Prelude.{Option, None, Some, IfSome, not, ◌&&◌, ◌||�
 use Rattle.std.proofs.lemmas.Bool.{cases_Bool, cases_eq, and_parts, or_left, or_right, and_from, or_cases, both_ways}
 use Rattle.std.proofs.Math.Bool.{and_comm}
 use Rattle.regalloc2_names.specs.declared.OperandConstraint.TheVariants.{FixedReg}
+use Rattle.regalloc2_names.specs.declared.sets.PRegSet.{PRegSet}
 use Rattle.regalloc2_names.specs.Register.{Register, is_register, has_register}
 use Rattle.regalloc2_names.specs.Operand.{OperandValue}
 use Rattle.regalloc2_semantics.proofs.Cells.{is_register-same, is_register-true}
@@ -13,7 +14,7 @@ use Rattle.regalloc2_fastalloc_walk.specs.declared.reserve_regs.ReservedRegs.{Re
 use Rattle.regalloc2_fastalloc_state.specs.InstRegs.{RemovesAvailable, SameAvailable, is_free_throughout}
 use Rattle.regalloc2_function.specs.FunctionValue.{op_at}
 use Rattle.regalloc2_fastalloc_proofs.specs.InstSteps.{StateValue, NeedsFixedReg, own, named, IsFixedIn, ReservesRegs, EvictsFixed, none_cleared, not_fixed}
-use Rattle.regalloc2_fastalloc_proofs.specs.InstSteps.{RegsAreNotReserved, SameButOrder, unknown, shared}
+use Rattle.regalloc2_fastalloc_proofs.specs.InstSteps.{RegsAreNotReserved, RemovesClobbers, SameButOrder, unknown, shared}
 use Rattle.regalloc2_fastalloc_walk.specs.ReserveSteps.{IsMachineReg, Shrinks, KeepsReserved, IsNewlyReserved, IsReserved, ReservesRegForOperand, TakesOnly}
 use Rattle.regalloc2_fastalloc_walk.specs.ReserveSteps.{TakesFixed, AwaitsAll, ReservesClaims, ReservesOnly, OperandReserves, RegIsNotReserved}
 use Rattle.regalloc2_fastalloc_proofs.proofs.BlockEnd.NoMoveInPasses.{overlap_cases}
@@ -32,6 +33,16 @@ shrinks_held t u r p h = record {
   early = λ q e. (and_parts (not (p.early && is_register r q)) (has_register t.early q) (sym (h.early q) ∙ e)).1;
   late = λ q e. (and_parts (not (p.late && is_register r q)) (has_register t.late q) (sym (h.late q) ∙ e)).1;
   scratch = h.scratch;
+}
+
+-- clobbers that are taken at the late position alone
+pub removes_clobbers : (clobbers : PRegSet) (t u : InstRegs) → ((r : Register) → has_register u.late r ≡ (not (has_register clobbers r) && has_register t.late r)) →
+    u.early ≡ t.early → u.scratch ≡ t.scratch → u.awaited ≡ t.awaited → RemovesClobbers clobbers t u
+removes_clobbers clobbers t u late early scratch awaited = record {
+  late = late;
+  early = λ r. ap (λ (s : PRegSet). has_register s r) early;
+  scratch = scratch;
+  awaited = awaited;
 }
 
 -- one register is held

@@ -188,11 +188,11 @@ no_slots_made f e t ds n ns z none_found few = refl
 no_slots_made f e t ds n ns z (one_found j os m x y lt prev one) few = absurd (omega (arith, few))
 
 -- What is made of moves doesn't depend on slots and edits.
-made_on : (t : StateValue) (s : SpillSlotsValue) (es : List (ℕ × MoveValue)) (from_memory : Bool) (ms : List StoreMove) (ss : List Store) →
-    AreMadeOf (record t { slots = s; edits = es }) from_memory ms ss → AreMadeOf t from_memory ms ss
-made_on t s es from_memory ms ss none_made = none_made
-made_on t s es from_memory ms ss (passed_over m ns ts is rest) = passed_over m ns ts is (made_on t s es from_memory ns ts rest)
-made_on t s es from_memory ms ss (one_made m x ns ts is made rest) = one_made m x ns ts is (record {
+made_on : (t : StateValue) (s : SpillSlotsValue) (es : List (ℕ × MoveValue)) (from_stack : Bool) (ms : List StoreMove) (ss : List Store) →
+    AreMadeOf (record t { slots = s; edits = es }) from_stack ms ss → AreMadeOf t from_stack ms ss
+made_on t s es from_stack ms ss none_made = none_made
+made_on t s es from_stack ms ss (passed_over m ns ts is rest) = passed_over m ns ts is (made_on t s es from_stack ns ts rest)
+made_on t s es from_stack ms ss (one_made m x ns ts is made rest) = one_made m x ns ts is (record {
   from = made.from;
   to = made.to;
   direct = made.direct;
@@ -207,7 +207,7 @@ made_on t s es from_memory ms ss (one_made m x ns ts is made rest) = one_made m 
       ],
     ));
   };
-}) (made_on t s es from_memory ns ts rest)
+}) (made_on t s es from_stack ns ts rest)
 
 module _ (t : StateValue) (apart : RegsAvoidStack t) where
   abbrev Memory : Place → Bool
@@ -444,7 +444,7 @@ module _ (at_edge : EdgeStores) where
         (λ x one. (
           refl,
           λ i lt from.
-              let o = made_of t apart true ms p.stores from_memory x one in
+              let o = made_of t apart true ms p.stores from_stack x one in
               let sep = separate i o.0 lt o.1 (λ same. (
               let z : is_memory t.fixed_stack (store_move_at ms o.0).from ≡ false = subst (λ y. is_memory t.fixed_stack (store_move_at ms y).from ≡ false) same from in
               let zz : true ≡ false = sym o.2 ∙ z in cc)) in
@@ -453,7 +453,7 @@ module _ (at_edge : EdgeStores) where
     each = λ x one. elim (one_of_append x q.stores p.stores one) [
       | inl r ↦ (let o = made_of t apart false ms q.stores from_registers x r in
           ((store_at ds o.0).index, (store_at ds o.0).to, is_for_vreg w slots_are o.0 o.1 x o.3))
-      | inr m ↦ (let o = made_of t apart true ms p.stores from_memory x m in
+      | inr m ↦ (let o = made_of t apart true ms p.stores from_stack x m in
           ((store_at ds o.0).index, (store_at ds o.0).to, is_for_vreg w slots_are o.0 o.1 x o.3))
     ];
     all = λ j v stored. (
@@ -462,7 +462,7 @@ module _ (at_edge : EdgeStores) where
         let is : store_at ds c.0 ≡ record { index = j; to = v } = listed_at ds c.0 (record { index = j; to = v }) c.1 c.2 in
         subst (λ (d : StoredDef). (x : Store) × IsOneOf x (q.stores ++ p.stores) × StoresFor f e k t w x d.index d.to) is
         (elim (cases_Bool (is_memory t.fixed_stack (store_move_at ms c.0).from)) [
-          | inl memory ↦ (let o = makes_one t apart true ms p.stores from_memory c.0 lt memory in
+          | inl memory ↦ (let o = makes_one t apart true ms p.stores from_stack c.0 lt memory in
               (o.0, of_second o.0 q.stores p.stores o.1, is_for_vreg w slots_are c.0 lt o.0 o.2))
           | inr none ↦ (let o = makes_one t apart false ms q.stores from_registers c.0 lt none in
               (o.0, of_first o.0 q.stores p.stores o.1, is_for_vreg w slots_are c.0 lt o.0 o.2))
@@ -494,8 +494,8 @@ module _ (at_edge : EdgeStores) where
       slots_are : w.slots ≡ s
       slots_are = ap (λ (z : StateValue). z.slots) after_both
 
-      from_memory : AreMadeOf t true ms p.stores
-      from_memory = made_on t s t.edits true ms p.stores p.made
+      from_stack : AreMadeOf t true ms p.stores
+      from_stack = made_on t s t.edits true ms p.stores p.made
 
       from_registers : AreMadeOf t false ms q.stores
       from_registers = made_on t s (t.edits ++ pushed_moves point (store_moves p.stores)) false ms q.stores
@@ -503,7 +503,7 @@ module _ (at_edge : EdgeStores) where
 
       order_memory : AreInOrder (is_memory t.fixed_stack) p.stores
       order_memory = subst (AreInOrder (is_memory t.fixed_stack)) (append-nil p.stores)
-          (in_order t apart true ms p.stores from_memory to_memory separate [] (empty_order t apart) (λ x none. elim none [ ]))
+          (in_order t apart true ms p.stores from_stack to_memory separate [] (empty_order t apart) (λ x none. elim none [ ]))
 
       listed_at : (xs : List StoredDef) (i : ℕ) (d : StoredDef) → i < length xs → slice_index_or xs i d ≡ d → store_at xs i ≡ d
       listed_at [] i d lt is = absurd (omega (arith, lt))

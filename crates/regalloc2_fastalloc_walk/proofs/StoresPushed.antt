@@ -49,37 +49,37 @@ opposite true false ne = refl
 opposite false true ne = refl
 opposite false false ne = absurd (ne refl)
 
-module _ (point : ℕ) (from_memory : Bool) (ms : List StoreMove) (t : StateValue) where
+module _ (point : ℕ) (from_stack : Bool) (ms : List StoreMove) (t : StateValue) where
   -- no store is pushed so far
-  pub pushes_none : (u : StateValue) (xs : List StoreMove) → xs ≡ [] → u ≡ t → PushesStores point from_memory xs t u
+  pub pushes_none : (u : StateValue) (xs : List StoreMove) → xs ≡ [] → u ≡ t → PushesStores point from_stack xs t u
   unfolding pushed_moves store_moves
   pushes_none u xs empty same = record {
     stores = [];
-    made = subst (λ (l : List StoreMove). AreMadeOf t from_memory l []) (sym empty) none_made;
+    made = subst (λ (l : List StoreMove). AreMadeOf t from_stack l []) (sym empty) none_made;
     pushed = same ∙ ap (λ (es : List (ℕ × MoveValue)). record t { edits = es }) (sym (append-nil t.edits));
   }
 
   -- a move of the other kind is passed over
-  pub pushes_over : (k : ℕ) (d : StoreMove) (u : StateValue) → k < length ms → is_memory t.fixed_stack (slice_index_or ms k d).from ≡ not from_memory →
-      PushesStores point from_memory (drop (k + 1) ms) t u → PushesStores point from_memory (drop k ms) t u
+  pub pushes_over : (k : ℕ) (d : StoreMove) (u : StateValue) → k < length ms → is_memory t.fixed_stack (slice_index_or ms k d).from ≡ not from_stack →
+      PushesStores point from_stack (drop (k + 1) ms) t u → PushesStores point from_stack (drop k ms) t u
   pushes_over k d u lt other h = record {
     stores = h.stores;
-    made = subst (λ (l : List StoreMove). AreMadeOf t from_memory l h.stores) (sym (drop_more ms k d lt))
+    made = subst (λ (l : List StoreMove). AreMadeOf t from_stack l h.stores) (sym (drop_more ms k d lt))
         (passed_over (slice_index_or ms k d) (drop (k + 1) ms) h.stores other h.made);
     pushed = h.pushed;
   }
 
   -- one more store is pushed
-  pub pushes_one : (k : ℕ) (d : StoreMove) (u v : StateValue) (s : Store) → k < length ms → is_memory t.fixed_stack (slice_index_or ms k d).from ≡ from_memory →
-      PushesStores point from_memory (drop (k + 1) ms) t u → IsMadeOf u (slice_index_or ms k d) s →
-      v ≡ record u { edits = u.edits ++ pushed_moves point (moves_by s.from s.by s.to) } → PushesStores point from_memory (drop k ms) t v
+  pub pushes_one : (k : ℕ) (d : StoreMove) (u v : StateValue) (s : Store) → k < length ms → is_memory t.fixed_stack (slice_index_or ms k d).from ≡ from_stack →
+      PushesStores point from_stack (drop (k + 1) ms) t u → IsMadeOf u (slice_index_or ms k d) s →
+      v ≡ record u { edits = u.edits ++ pushed_moves point (moves_by s.from s.by s.to) } → PushesStores point from_stack (drop k ms) t v
   unfolding store_moves
   pushes_one k d u v s lt kind h made same =
       let before : List (ℕ × MoveValue) = pushed_moves point (store_moves h.stores) in
       let more : List (ℕ × MoveValue) = pushed_moves point (moves_by s.from s.by s.to) in
       record {
         stores = s ∷ h.stores;
-        made = subst (λ (l : List StoreMove). AreMadeOf t from_memory l (s ∷ h.stores)) (sym (drop_more ms k d lt))
+        made = subst (λ (l : List StoreMove). AreMadeOf t from_stack l (s ∷ h.stores)) (sym (drop_more ms k d lt))
             (one_made (slice_index_or ms k d) s (drop (k + 1) ms) h.stores kind (made_same t u (t.edits ++ before) h.pushed (slice_index_or ms k d) s made)
             h.made);
         pushed = same ∙ ap (λ (x : StateValue). record x { edits = x.edits ++ more }) h.pushed
@@ -89,11 +89,11 @@ module _ (point : ℕ) (from_memory : Bool) (ms : List StoreMove) (t : StateValu
       }
 
   -- a place that is of a kind in the tables after pushes is of the kind in the tables before them
-  pub kind_there : (xs : List StoreMove) (u : StateValue) → PushesStores point from_memory xs t u → (p : Place) (b : Bool) → b ≡ is_memory u.fixed_stack p →
-      beq b from_memory ≡ true → is_memory t.fixed_stack p ≡ from_memory
-  kind_there xs u h p b is same = sym (ap (λ (x : StateValue). is_memory x.fixed_stack p) h.pushed) ∙ sym is ∙ (booleans_Decides b from_memory).0 same
+  pub kind_there : (xs : List StoreMove) (u : StateValue) → PushesStores point from_stack xs t u → (p : Place) (b : Bool) → b ≡ is_memory u.fixed_stack p →
+      beq b from_stack ≡ true → is_memory t.fixed_stack p ≡ from_stack
+  kind_there xs u h p b is same = sym (ap (λ (x : StateValue). is_memory x.fixed_stack p) h.pushed) ∙ sym is ∙ (booleans_Decides b from_stack).0 same
 
-  pub other_kind : (xs : List StoreMove) (u : StateValue) → PushesStores point from_memory xs t u → (p : Place) (b : Bool) → b ≡ is_memory u.fixed_stack p →
-      beq b from_memory ≡ false → is_memory t.fixed_stack p ≡ not from_memory
-  other_kind xs u h p b is other = sym (ap (λ (x : StateValue). is_memory x.fixed_stack p) h.pushed) ∙ sym is ∙ opposite b from_memory (λ same.
-      let x : true ≡ false = sym ((booleans_Decides b from_memory).1 same) ∙ other in cc)
+  pub other_kind : (xs : List StoreMove) (u : StateValue) → PushesStores point from_stack xs t u → (p : Place) (b : Bool) → b ≡ is_memory u.fixed_stack p →
+      beq b from_stack ≡ false → is_memory t.fixed_stack p ≡ not from_stack
+  other_kind xs u h p b is other = sym (ap (λ (x : StateValue). is_memory x.fixed_stack p) h.pushed) ∙ sym is ∙ opposite b from_stack (λ same.
+      let x : true ≡ false = sym ((booleans_Decides b from_stack).1 same) ∙ other in cc)

@@ -83,18 +83,18 @@ pub record IsMadeOf (t : StateValue) (m : StoreMove) (s : Store) : Type 0 where
   pub by_way : IsByWay t m.class s
 
 -- the moves from the stack, or the moves from registers, as they are made, in their order
-pub data AreMadeOf (t : StateValue) (from_memory : Bool) : List StoreMove → List Store → Type 0 where
-  none_made : AreMadeOf t from_memory [] []
-  passed_over : (m : StoreMove) (ms : List StoreMove) (ss : List Store) → is_memory t.fixed_stack m.from ≡ not from_memory → AreMadeOf t from_memory ms ss →
-      AreMadeOf t from_memory (m ∷ ms) ss
-  one_made : (m : StoreMove) (s : Store) (ms : List StoreMove) (ss : List Store) → is_memory t.fixed_stack m.from ≡ from_memory → IsMadeOf t m s →
-      AreMadeOf t from_memory ms ss
-      → AreMadeOf t from_memory (m ∷ ms) (s ∷ ss)
+pub data AreMadeOf (t : StateValue) (from_stack : Bool) : List StoreMove → List Store → Type 0 where
+  none_made : AreMadeOf t from_stack [] []
+  passed_over : (m : StoreMove) (ms : List StoreMove) (ss : List Store) → is_memory t.fixed_stack m.from ≡ not from_stack → AreMadeOf t from_stack ms ss →
+      AreMadeOf t from_stack (m ∷ ms) ss
+  one_made : (m : StoreMove) (s : Store) (ms : List StoreMove) (ss : List Store) → is_memory t.fixed_stack m.from ≡ from_stack → IsMadeOf t m s →
+      AreMadeOf t from_stack ms ss
+      → AreMadeOf t from_stack (m ∷ ms) (s ∷ ss)
 
 -- the stores from the stack, or the stores from registers, are pushed at a point, the last store first
-pub record PushesStores (point : ℕ) (from_memory : Bool) (ms : List StoreMove) (old new : StateValue) : Type 0 where
+pub record PushesStores (point : ℕ) (from_stack : Bool) (ms : List StoreMove) (old new : StateValue) : Type 0 where
   pub stores : List Store
-  pub made : AreMadeOf old from_memory ms stores
+  pub made : AreMadeOf old from_stack ms stores
   pub pushed : new ≡ record old { edits = old.edits ++ pushed_moves point (store_moves stores) }
 
 -- one of the moves is of a class that has no register
@@ -103,8 +103,8 @@ LacksStoreReg t ms = (m : StoreMove) × Contains ms m × NoneIsFrom t.allocatabl
 
 -- the stores from the stack, or those from registers, are pushed at a point, or one lacks a register
 abbrev pub PushStores : ℕ → Bool → List StoreMove → StateValue → Outcome (Unit {0}) → Type 0
-PushStores point from_memory ms old (next x new) = PushesStores point from_memory ms old new
-PushStores point from_memory ms old no_register = LacksStoreReg old ms
+PushStores point from_stack ms old (next x new) = PushesStores point from_stack ms old new
+PushStores point from_stack ms old no_register = LacksStoreReg old ms
 
 -- the stores from the stack are pushed first, and then the stores from registers
 abbrev pub PushAllStores : ℕ → List StoreMove → StateValue → Outcome (Unit {0}) → Type 0

@@ -7,12 +7,12 @@ use Rattle.regalloc2_names.specs.Operand.{OperandValue}
 use Rattle.regalloc2_fastalloc_state.specs.declared.positions.Positions.{Positions}
 use Rattle.regalloc2_fastalloc_state.specs.declared.inst_regs.InstRegs.{InstRegs}
 use Rattle.regalloc2_fastalloc_state.specs.InstRegs.{SameAvailable, awaited_of, is_free_throughout}
-use Rattle.regalloc2_fastalloc_state.specs.Masks.{AreMasks}
+use Rattle.regalloc2_fastalloc_state.specs.Masks.{AreMasks, max_masked}
 use Rattle.regalloc2_fastalloc_state.specs.Validate.NoLimits.{IsTakenOperand}
 use Rattle.regalloc2_function.specs.FunctionValue.{op_at}
 use Rattle.regalloc2_fastalloc_walk.specs.declared.reserve_regs.ReservedRegs.{ReservedRegs}
 use Rattle.regalloc2_fastalloc_walk.specs.declared.reserve_regs.Sorted.{Sorted}
-use Rattle.regalloc2_fastalloc_proofs.specs.InstSteps.{StateValue, NeedsFixedReg, IsFixedIn, ReservesRegs, asking}
+use Rattle.regalloc2_fastalloc_proofs.specs.InstSteps.{StateValue, NeedsFixedReg, IsFixedIn, ReservesRegs, needing_reg}
 
 -- one of the machine's registers or fixed stack slots
 abbrev pub IsMachineReg : StateValue → Register → Type 0
@@ -35,7 +35,7 @@ TakesFixed operands t u = (r : Register) → is_free_throughout t r ≡ true →
 
 -- where none was counted, all operands that require any register are
 abbrev pub AwaitsAll : List OperandValue → InstRegs → InstRegs → Type 0
-AwaitsAll operands t u = t.awaited ≡ 0 ∷ 0 ∷ 0 ∷ [] → (class : RegClass) → awaited_of u class ≡ asking operands class
+AwaitsAll operands t u = t.awaited ≡ 0 ∷ 0 ∷ 0 ∷ [] → (class : RegClass) → awaited_of u class ≡ needing_reg operands class
 
 -- claims are kept
 pub record KeepsReserved (c d : ReservedRegs) : Type 0 where
@@ -92,7 +92,7 @@ ReservesClaims operands t u old = (began : InstRegs) → SameAvailable began t �
 
 -- what one pass over operands finds
 pub record AreSorted (operands : List OperandValue) (s : Sorted) : Type 0 where
-  pub masks : length operands ≤ 63 → AreMasks operands s.masks
+  pub masks : length operands ≤ max_masked → AreMasks operands s.masks
   pub some : s.any_fixed ≡ true → (k : ℕ) × (r : Register) × (k < length operands) × ((op_at operands k).constraint ≡ FixedReg r)
   pub none : s.any_fixed ≡ false → (k : ℕ) → k < length operands → (r : Register) → (op_at operands k).constraint ≡ FixedReg r → ⊥
   pub unlimited : (s.unlimited ≡ true) ↔ All IsTakenOperand operands

@@ -62,7 +62,7 @@ fn requirement_of(constraint: OperandConstraint) -> Requirement
 {
     match constraint {
         OperandConstraint::Any => Requirement::AnyPlace,
-        OperandConstraint::Stack => Requirement::InMemory,
+        OperandConstraint::Stack => Requirement::OnStack,
         OperandConstraint::FixedReg(preg) => Requirement::InPReg(preg),
         _ => Requirement::AnyReg,
     }
@@ -110,7 +110,7 @@ fn def_request(operand: Operand) -> OperandRequest
 }
 
 /// Whether `operand` requires any register, and no reuse has chosen `place` for it.
-fn asks_any_reg(operand: Operand, place: Allocation) -> bool
+fn needs_any_reg(operand: Operand, place: Allocation) -> bool
     ensures { IsTrue result ↔ (operand.constraint ≡ OperandConstraint.Reg) × (place ≡ NoPlace) }
 {
     operand.is_any_reg() && place.is_none()
@@ -354,7 +354,7 @@ impl<'a, A: Allocator> State<'a, A> {
         let operands = cx.operands;
         let operand = operands[k];
         let place = allocs[k];
-        if asks_any_reg(operand, place) {
+        if needs_any_reg(operand, place) {
             return self.process_reg_operand(inst_regs, cx, allocs, k);
         }
         if let Some(preg) = known_register(operand, place) {
@@ -367,10 +367,10 @@ impl<'a, A: Allocator> State<'a, A> {
         self.process_operand(inst_regs, cx, allocs, k)
     }
 
-    /// Allocates the operands at the position `pos`, in operand order, however many operands there
-    /// are.
+    /// Allocates the operands at the position `pos`, in operand order: `process_masked_at` without
+    /// masks, for instructions with more operands than masks have bits.
     #[inline(never)]
-    fn process_each_at(
+    fn process_many_at(
         &mut self,
         inst_regs: &mut InstRegs,
         pos: OperandPos,
@@ -394,7 +394,7 @@ impl<'a, A: Allocator> State<'a, A> {
     /// Allocates the operands at the position `pos`, in operand order. There are at most
     /// `Masks::MAX_OPERANDS` operands, whose `masks` are given.
     #[inline(always)]
-    pub fn process_operands_at(
+    fn process_masked_at(
         &mut self,
         inst_regs: &mut InstRegs,
         pos: OperandPos,
@@ -438,9 +438,10 @@ impl<'a, A: Allocator> State<'a, A> {
     }
 
     /// Moves the uses among `operands` from their vregs' current locations to their places in
-    /// `allocs`, in operand order, however many there are.
+    /// `allocs`, in operand order: `move_masked_uses` without masks, for instructions with more
+    /// operands than masks have bits.
     #[inline(never)]
-    fn move_each(
+    fn move_many_uses(
         &mut self,
         inst_regs: &mut InstRegs,
         point: ProgPoint,
@@ -464,7 +465,7 @@ impl<'a, A: Allocator> State<'a, A> {
     /// Moves the uses among `operands` from their vregs' current locations to their places in
     /// `allocs`, in operand order. There are at most `Masks::MAX_OPERANDS` operands, whose `masks`
     /// are given.
-    pub fn move_uses(
+    fn move_masked_uses(
         &mut self,
         inst_regs: &mut InstRegs,
         point: ProgPoint,
@@ -507,16 +508,16 @@ impl<'a, A: Allocator> State<'a, A> {
     {
         let point = ProgPoint::after(cx.inst);
         let sorted = self.reserve(inst_regs, cx.operands)?;
-        self.remove_clobbers_from_available_pregs(inst_regs, cx.clobbers);
+        inst_regs.remove_late(cx.clobbers);
         self.evict_fixed(inst_regs, point, cx.operands, sorted.any_fixed)?;
         self.evict_clobbers(inst_regs, point, cx.clobbers)?;
         Ok(sorted)
     }
 
     /// Allocates the operands of the instruction `cx`, whose registers are prepared, and moves its
-    /// uses.
+    /// uses. The instruction has more operands than masks have bits.
     #[inline(never)]
-    fn place_each(
+    fn place_many(
         &mut self,
         inst_regs: &mut InstRegs,
         cx: &InstCx<'_>,
@@ -530,9 +531,9 @@ impl<'a, A: Allocator> State<'a, A> {
             (allocs.new, inst_regs.new) result self.old self.new }
         ensures step { IsStepAt (before cx.now.inst) result self.old self.new }
     {
-        self.process_each_at(inst_regs, OperandPos::Late, cx, allocs)?;
-        self.process_each_at(inst_regs, OperandPos::Early, cx, allocs)?;
-        self.move_each(inst_regs, ProgPoint::before(cx.inst), cx.operands, allocs)
+        self.process_many_at(inst_regs, OperandPos::Late, cx, allocs)?;
+        self.process_many_at(inst_regs, OperandPos::Early, cx, allocs)?;
+        self.move_many_uses(inst_regs, ProgPoint::before(cx.inst), cx.operands, allocs)
     }
 
     /// Allocates the instruction `cx`: `allocs`, which has no place yet, gets the places of its
@@ -540,7 +541,7 @@ impl<'a, A: Allocator> State<'a, A> {
     ///
     /// Returns whether no operand has `Limit`. An operand under `Limit` requires any register, as
     /// under `Reg`.
-    pub fn alloc_inst(
+    fn alloc_inst(
         &mut self,
         inst_regs: &mut InstRegs,
         cx: &InstCx<'_>,
@@ -560,12 +561,12 @@ impl<'a, A: Allocator> State<'a, A> {
         let sorted = self.prepare_regs(inst_regs, cx)?;
         let masks = &sorted.masks;
         if cx.operands.len() > Masks::MAX_OPERANDS {
-            self.place_each(inst_regs, cx, allocs)?;
+            self.place_many(inst_regs, cx, allocs)?;
             return Ok(sorted.unlimited);
         }
-        self.process_operands_at(inst_regs, OperandPos::Late, cx, masks, allocs)?;
-        self.process_operands_at(inst_regs, OperandPos::Early, cx, masks, allocs)?;
-        self.move_uses(
+        self.process_masked_at(inst_regs, OperandPos::Late, cx, masks, allocs)?;
+        self.process_masked_at(inst_regs, OperandPos::Early, cx, masks, allocs)?;
+        self.move_masked_uses(
             inst_regs,
             ProgPoint::before(cx.inst),
             cx.operands,

@@ -8,9 +8,9 @@ ghost use Rattle.regalloc2_fastalloc_state.specs.StateParts.{AllAtOrAfter};
 ghost use Rattle.regalloc2_fastalloc_state.specs.OutOfResources.{IsResourceErrorIn};
 ghost use Rattle.regalloc2_fastalloc_state.specs.Validate.NoLimits.{IsTakenOperand};
 ghost use Rattle.regalloc2_function.specs.FunctionValue.{op_at};
-ghost use Rattle.regalloc2_fastalloc_proofs.specs.InstSteps.{NeedsFixedReg, NoneUsed, RegsAreNotReserved, RemovesClobbers, ReserveRegs, EvictFixed};
+ghost use Rattle.regalloc2_fastalloc_proofs.specs.InstSteps.{NeedsFixedReg, NoneUsed, RegsAreNotReserved, ReserveRegs, EvictFixed};
 ghost use Rattle.regalloc2_fastalloc_proofs.specs.InstSteps.{EvictEach, SameButOrder};
-ghost use Rattle.regalloc2_fastalloc_walk.specs.StateView.{Between, IsStepAt, SameTables, tables_of, ComesTo};
+ghost use Rattle.regalloc2_fastalloc_walk.specs.StateView.{Between, IsStepAt, tables_of, ComesTo};
 ghost use Rattle.regalloc2_fastalloc_walk.specs.ReserveSteps.{AreSorted, AwaitsAll, ReservesClaims, ReservesOnly, IsNewlyReserved, IsReservedAt, IsReserved};
 ghost use Rattle.regalloc2_fastalloc_walk.specs.ReserveSteps.{KeepsReserved, Shrinks, ReservesRegForOperand, TakesOnly, RegIsNotReserved};
 
@@ -18,7 +18,7 @@ use super::state::State;
 use regalloc2_fastalloc_state::inst_regs::InstRegs;
 use regalloc2_fastalloc_state::masks::Masks;
 use regalloc2_fastalloc_state::positions::Positions;
-use regalloc2_fastalloc_state::validate::constraints::are_unlimited;
+use regalloc2_fastalloc_state::validate::constraints::all_unlimited;
 use regalloc2_names::{
     Operand, OperandConstraint, OperandUnion, PReg, PRegSet, ProgPoint, RegAllocError,
 };
@@ -94,12 +94,12 @@ fn sort(inst_regs: &mut InstRegs, operands: &[Operand]) -> Sorted
     while k > 0 {
         k -= 1;
         let operand = operands[k];
-        inst_regs.add_any_reg_op(operand.class(), operand.is_any_reg());
+        inst_regs.count_operand(operand);
         masks = masks.before(operand);
         union = union.with(operand);
     }
     let any_fixed = union.any_fixed();
-    let unlimited = !union.may_have_limit() || are_unlimited(operands);
+    let unlimited = !union.may_have_limit() || all_unlimited(operands);
     Sorted {
         masks,
         any_fixed,
@@ -227,8 +227,7 @@ impl<'a, A: Allocator> State<'a, A> {
         ensures awaited { inst_regs.new.awaited ≡ inst_regs.old.awaited }
         ensures err { IfErr result (IsResourceErrorIn self.now.slots) }
     {
-        if let Some(claim) = reserved_by(operands, k) {
-            let (preg, positions) = claim;
+        if let Some((preg, positions)) = reserved_by(operands, k) {
             return self.reserve_preg(inst_regs, claims, preg, positions);
         }
         remove_unclaimed(inst_regs, operands[k]);
@@ -314,18 +313,6 @@ impl<'a, A: Allocator> State<'a, A> {
             self.reserve_each(inst_regs, operands)?;
         }
         Ok(sorted)
-    }
-
-    /// Removes `clobbers` from the available registers while late operands are there.
-    pub fn remove_clobbers_from_available_pregs(
-        &mut self,
-        inst_regs: &mut InstRegs,
-        clobbers: PRegSet,
-    )
-        ensures removed { RemovesClobbers clobbers inst_regs.old inst_regs.new }
-        ensures same { SameTables self.old self.new }
-    {
-        inst_regs.remove_late(clobbers);
     }
 
     /// Empties the fixed registers of `operands`, in operand order, of all vregs but each operand's

@@ -229,24 +229,24 @@ impl<'a, A: Allocator> State<'a, A> {
         Ok(())
     }
 
-    /// Pushes the stores from the stack if `from_memory` is true, else the stores from registers.
+    /// Pushes the stores from the stack if `from_stack` is true, else the stores from registers.
     /// The last store is pushed first.
     fn push_stores(
         &mut self,
         point: ProgPoint,
         held: PRegSet,
-        from_memory: bool,
+        from_stack: bool,
         moves: &[StoreMove],
     ) -> Result<(), RegAllocError>
         requires { AllAtOrAfter point self.old.edits }
-        ensures outcome { ComesTo (PushStores point from_memory moves.now) tt result self.old self.new }
+        ensures outcome { ComesTo (PushStores point from_stack moves.now) tt result self.old self.new }
         ensures step { IsStepAt point result self.old self.new }
     {
         let mut k = moves.len();
         while k > 0 {
             k -= 1;
             let m = moves[k];
-            if self.is_stack(m.from) == from_memory {
+            if self.is_stack(m.from) == from_stack {
                 self.push_store(point, held, m)?;
             }
         }

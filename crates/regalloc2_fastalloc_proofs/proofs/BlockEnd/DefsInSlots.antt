@@ -11,16 +11,16 @@ use Rattle.regalloc2_names.specs.Register.{Register, VirtualRegister}
 use Rattle.regalloc2_names.specs.Operand.{OperandValue, is_def, is_late}
 use Rattle.regalloc2_names.specs.Place.{Place, NoPlace, InRegister, after}
 use Rattle.regalloc2_function.specs.FunctionValue.{InstValue, op_at}
-use Rattle.regalloc2_function.specs.OutputValue.{MoveValue}
+use Rattle.regalloc2_function.specs.OutputValue.{MoveValue, place_at}
 use Rattle.regalloc2_fastalloc_state.specs.declared.inst_regs.InstRegs.{InstRegs}
 use Rattle.regalloc2_fastalloc_state.specs.declared.request.Requirement.{Requirement}
-use Rattle.regalloc2_fastalloc_state.specs.declared.request.Requirement.TheVariants.{AnyPlace, AnyReg, InMemory, InPReg}
+use Rattle.regalloc2_fastalloc_state.specs.declared.request.Requirement.TheVariants.{AnyPlace, AnyReg, OnStack, InPReg}
 use Rattle.regalloc2_fastalloc_state.specs.StateParts.{alloc_of}
 use Rattle.regalloc2_fastalloc_proofs.specs.InstSteps.{StateValue, SelectsPlace, AllocsDefOp, ProcessesOperand, a_register, a_use, a_def, a_reuse}
 use Rattle.regalloc2_fastalloc_proofs.specs.InstSteps.{def_request, ProcessesOperandsAt, none_placed, of_other, one_placed, AllocsInst, ends_block}
 use Rattle.regalloc2_fastalloc_proofs.specs.InstSteps.{requirement_of}
 use Rattle.regalloc2_fastalloc_proofs.specs.InstSteps.SelectsPlace.{stays, fixed, slot, free}
-use Rattle.regalloc2_fastalloc_proofs.proofs.Operands.AllocsSoFar.{at_place, AreSoundOperands}
+use Rattle.regalloc2_fastalloc_proofs.proofs.Operands.AllocsSoFar.{AreSoundOperands}
 use Rattle.regalloc2_fastalloc_proofs.proofs.BlockEnd.NoMoveForOperand.{IsOutside}
 use Rattle.regalloc2_fastalloc_proofs.proofs.BlockEnd.NoMoveInPasses.{NoMoveSoFar}
 use Rattle.regalloc2_fastalloc_proofs.proofs.BlockEnd.NoMoveInLastInst.{LateDone, EarlyDone, lates_no_move, earlies_no_move, other_pass, no_move_at_start}
@@ -38,16 +38,16 @@ no_reuse : (c : OperandConstraint) (n : ℕ) → IsAnyOrStack c → c ≡ Reuse 
 no_reuse c n (inl a) e = (let x : Any ≡ Reuse n = sym a ∙ e in cc)
 no_reuse c n (inr s) e = (let x : Stack ≡ Reuse n = sym s ∙ e in cc)
 
-no_wish : (wants : Requirement) → wants ≡ InMemory → (wants ≡ AnyPlace) ⊎ (wants ≡ AnyReg) → ⊥
-no_wish wants e (inl a) = (let x : InMemory ≡ AnyPlace = sym e ∙ a in cc)
-no_wish wants e (inr a) = (let x : InMemory ≡ AnyReg = sym e ∙ a in cc)
+no_wish : (wants : Requirement) → wants ≡ OnStack → (wants ≡ AnyPlace) ⊎ (wants ≡ AnyReg) → ⊥
+no_wish wants e (inl a) = (let x : OnStack ≡ AnyPlace = sym e ∙ a in cc)
+no_wish wants e (inr a) = (let x : OnStack ≡ AnyReg = sym e ∙ a in cc)
 
 module _ (Known : VirtualRegister → Type 0) (ops : List OperandValue) (sound_ops : AreSoundOperands Known ops) (i : ℕ) (ends_block : Bool)
     (only_at_end : (k : ℕ) → k < length ops → is_def (op_at ops k).kind ≡ true → ends_block ≡ true) (edits : List (ℕ × MoveValue)) where
   -- the definitions that are done are in no register
   abbrev InNone : (ℕ → Type 0) → List Place → Type 0
   InNone D there = (k : ℕ) → k < length ops → D k → is_def (op_at ops k).kind ≡ true → IsAnyOrStack (op_at ops k).constraint → (r : Register) →
-      at_place there k ≡ InRegister r → ⊥
+      place_at there k ≡ InRegister r → ⊥
 
   -- an `Any` or `Stack` definition whose vreg is in no register gets no register
   placed_none : (j : ℕ) (p : Place) (t u : InstRegs) (old new : StateValue) → j < length ops → is_def (op_at ops j).kind ≡ true →
@@ -59,9 +59,9 @@ module _ (Known : VirtualRegister → Type 0) (ops : List OperandValue) (sound_o
       away q.0 q.1
   placed_none j p t u old new less def away d c is (inr stack) r at = by_place (ap requirement_of (is ∙ stack)) d.gets.picks
     where
-      by_place : requirement_of (op_at ops j).constraint ≡ InMemory → SelectsPlace t (def_request (op_at ops j)) p old d.gets.middle → ⊥
+      by_place : requirement_of (op_at ops j).constraint ≡ OnStack → SelectsPlace t (def_request (op_at ops j)) p old d.gets.middle → ⊥
       by_place wish (stays there suits en) = away r (there ∙ at)
-      by_place wish (fixed q wants same en) = (let x : InMemory ≡ InPReg q = sym wish ∙ wants in cc)
+      by_place wish (fixed q wants same en) = (let x : OnStack ≡ InPReg q = sym wish ∙ wants in cc)
       by_place wish (slot wants gives places es machine order) = slot_no_register d.gets.middle.slots.count p r gives.below at
       by_place wish (free q wants away may is_free first same en) = no_wish (requirement_of (op_at ops j).constraint) wish wants
 
@@ -72,18 +72,18 @@ module _ (Known : VirtualRegister → Type 0) (ops : List OperandValue) (sound_o
   processes_operand_none D E j here there t u old new (a_register q silent is written eu en) less back long away h k lk done def kind r at = elim
       (cases_eq k j) [
         | inl e ↦ no_fixed (op_at ops k).constraint q kind (ap (λ (x : ℕ). (op_at ops x).constraint) e ∙ is)
-        | inr ne ↦ h k lk (back k done ne) def kind r (sym (get_or-set_other here j k (InRegister q) NoPlace ne) ∙ ap (λ l. at_place l k) (sym written) ∙ at)
+        | inr ne ↦ h k lk (back k done ne) def kind r (sym (get_or-set_other here j k (InRegister q) NoPlace ne) ∙ ap (λ l. place_at l k) (sym written) ∙ at)
       ]
   processes_operand_none D E j here there t u old new (a_use p reads places written) less back long away h k lk done def kind r at = elim (cases_eq k j) [
     | inl e ↦ both_ways (is_def (op_at ops k).kind) (ap (λ (x : ℕ). is_def (op_at ops x).kind) e ∙ reads_use (op_at ops j) reads) def
-    | inr ne ↦ h k lk (back k done ne) def kind r (sym (get_or-set_other here j k p NoPlace ne) ∙ ap (λ l. at_place l k) (sym written) ∙ at)
+    | inr ne ↦ h k lk (back k done ne) def kind r (sym (get_or-set_other here j k p NoPlace ne) ∙ ap (λ l. place_at l k) (sym written) ∙ at)
   ]
   processes_operand_none D E j here there t u old new (a_def p defines plain places written) less back long away h k lk done def kind r at = elim
       (cases_eq k j) [
         | inl e ↦ placed_none j p t u old new less defines (λ q. away q defines) places (op_at ops j).constraint refl
             (subst (λ (x : ℕ). IsAnyOrStack (op_at ops x).constraint) e kind) r
-            (sym (get_or-set_same here j p NoPlace (omega (arith, long, less))) ∙ ap (at_place (set here j p)) (sym e) ∙ ap (λ l. at_place l k) (sym written) ∙ at)
-        | inr ne ↦ h k lk (back k done ne) def kind r (sym (get_or-set_other here j k p NoPlace ne) ∙ ap (λ l. at_place l k) (sym written) ∙ at)
+            (sym (get_or-set_same here j p NoPlace (omega (arith, long, less))) ∙ ap (place_at (set here j p)) (sym e) ∙ ap (λ l. place_at l k) (sym written) ∙ at)
+        | inr ne ↦ h k lk (back k done ne) def kind r (sym (get_or-set_other here j k p NoPlace ne) ∙ ap (λ l. place_at l k) (sym written) ∙ at)
       ]
   processes_operand_none D E j here there t u old new (a_reuse n p defines reuses places written) less back long away h k lk done def kind r at = elim
       (cases_eq k j) [
@@ -92,7 +92,7 @@ module _ (Known : VirtualRegister → Type 0) (ops : List OperandValue) (sound_o
           | inl e ↦ both_ways (is_def (op_at ops k).kind) (ap (λ (x : ℕ). is_def (op_at ops x).kind) e
               ∙ reads_use (op_at ops n) (sound_ops.named j n less reuses).2) def
           | inr other ↦ h k lk (back k done ne) def kind r (sym (get_or-set_other here j k p NoPlace ne) ∙ sym (get_or-set_other (set here j p) n k p NoPlace other)
-              ∙ ap (λ l. at_place l k) (sym written) ∙ at)
+              ∙ ap (λ l. place_at l k) (sym written) ∙ at)
         ]
       ]
 
@@ -136,7 +136,7 @@ module _ (Known : VirtualRegister → Type 0) (ops : List OperandValue) (sound_o
 -- at an instruction that ends its block, no `Any` or `Stack` definition is in a register
 pub defs_in_slots : {Known : VirtualRegister → Type 0} {i : ℕ} (inst : InstValue) {blank places : List Place} {old new : StateValue} →
     AreSoundOperands Known inst.operands → ends_block inst ≡ true → AllocsInst i inst blank places old new → IsOutside old → (k : ℕ) → k < length inst.operands →
-    is_def (op_at inst.operands k).kind ≡ true → IsAnyOrStack (op_at inst.operands k).constraint → (r : Register) → at_place places k ≡ InRegister r → ⊥
+    is_def (op_at inst.operands k).kind ≡ true → IsAnyOrStack (op_at inst.operands k).constraint → (r : Register) → place_at places k ≡ InRegister r → ⊥
 defs_in_slots {Known} {i} inst {blank} {places} {old} {new} sound_ops ends a bare k less =
     let ops : List OperandValue = inst.operands in
     let only_at_end : (j : ℕ) → j < length ops → is_def (op_at ops j).kind ≡ true → ends_block inst ≡ true = λ j lj def. ends in

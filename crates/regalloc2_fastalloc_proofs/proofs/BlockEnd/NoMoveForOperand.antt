@@ -8,7 +8,7 @@ use Rattle.regalloc2_names.specs.declared.sets.PRegSet.{PRegSet}
 use Rattle.regalloc2_names.specs.Register.{Register, VirtualRegister, is_register, has_register}
 use Rattle.regalloc2_names.specs.Operand.{OperandValue, is_def, is_late}
 use Rattle.regalloc2_names.specs.Place.{Place, NoPlace, InRegister, InSlot}
-use Rattle.regalloc2_function.specs.OutputValue.{MoveValue}
+use Rattle.regalloc2_function.specs.OutputValue.{MoveValue, place_at}
 use Rattle.regalloc2_semantics.proofs.Cells.{is_place-same, is_place-other}
 use Rattle.regalloc2_fastalloc_state.specs.declared.inst_regs.InstRegs.{InstRegs}
 use Rattle.regalloc2_fastalloc_state.specs.declared.positions.Positions.{Positions}
@@ -23,7 +23,6 @@ use Rattle.regalloc2_fastalloc_proofs.specs.InstSteps.{in_register, AllocsOperan
 use Rattle.regalloc2_fastalloc_proofs.specs.InstSteps.SelectsPlace.{stays, fixed, slot, free}
 use Rattle.regalloc2_carry.proofs.Plain.{no_some}
 use Rattle.regalloc2_carry.proofs.Forms.{same_register}
-use Rattle.regalloc2_fastalloc_proofs.proofs.Operands.AllocsSoFar.{at_place}
 use Rattle.regalloc2_fastalloc_proofs.proofs.Changes.OneChange.{uses_rest}
 use Rattle.regalloc2_fastalloc_proofs.proofs.Operands.SelectedPlace.{meets_requirement_is_place}
 use Rattle.regalloc2_fastalloc_proofs.proofs.Moves.ScratchRegTaken.{Less}
@@ -47,9 +46,9 @@ abbrev pub Overlap : Positions → Positions → Type 0
 Overlap p q = ((p.early && q.early) || (p.late && q.late)) ≡ true
 
 -- an operand that will get the register: its constraint claims it, or a reuse chose it for the operand
-pub data Asks (ops : List OperandValue) (there : List Place) (k : ℕ) (r : Register) (p : Positions) : Type 0 where
-  claims : NeedsFixedReg ops k r p → Asks ops there k r p
-  chosen : at_place there k ≡ InRegister r → p ≡ positions_of (op_at ops k) → Asks ops there k r p
+pub data NeedsReg (ops : List OperandValue) (there : List Place) (k : ℕ) (r : Register) (p : Positions) : Type 0 where
+  claims : NeedsFixedReg ops k r p → NeedsReg ops there k r p
+  chosen : place_at there k ≡ InRegister r → p ≡ positions_of (op_at ops k) → NeedsReg ops there k r p
 
 -- no move was pushed; registers of vregs are held, in the pass over late operands at both positions; a vreg that is
 -- defined is in none
@@ -65,14 +64,14 @@ pub record NoMovePushed (ops : List OperandValue) (pass : Bool) (edits : List (�
 -- the registers of the operands that aren't done are held, and have no vreg; two such operands that overlap have two
 -- registers
 pub record Awaiting (ops : List OperandValue) (done : ℕ → Type 0) (there : List Place) (u : InstRegs) (t : StateValue) : Type 0 where
-  pub held_early : (k : ℕ) (r : Register) (p : Positions) → k < length ops → (done k → ⊥) → Asks ops there k r p → p.early ≡ true →
+  pub held_early : (k : ℕ) (r : Register) (p : Positions) → k < length ops → (done k → ⊥) → NeedsReg ops there k r p → p.early ≡ true →
       has_register u.early r ≡ false
-  pub held_late : (k : ℕ) (r : Register) (p : Positions) → k < length ops → (done k → ⊥) → Asks ops there k r p → p.late ≡ true → has_register u.late r ≡ false
-  pub small : (k : ℕ) (r : Register) (p : Positions) → k < length ops → (done k → ⊥) → Asks ops there k r p → r.number < 64
-  pub one : (j k : ℕ) (r : Register) (p q : Positions) → j < length ops → k < length ops → (done j → ⊥) → (done k → ⊥) → Asks ops there j r p →
-      Asks ops there k r q → Overlap p q → j ≡ k
-  pub none_held : (k : ℕ) (r : Register) (p : Positions) → k < length ops → (done k → ⊥) → Asks ops there k r p → vreg_of_preg t.places r ≡ None
-  pub lates : (k : ℕ) → k < length ops → (done k → ⊥) → is_late (op_at ops k).position ≡ true → at_place there k ≡ NoPlace
+  pub held_late : (k : ℕ) (r : Register) (p : Positions) → k < length ops → (done k → ⊥) → NeedsReg ops there k r p → p.late ≡ true → has_register u.late r ≡ false
+  pub small : (k : ℕ) (r : Register) (p : Positions) → k < length ops → (done k → ⊥) → NeedsReg ops there k r p → r.number < 64
+  pub one : (j k : ℕ) (r : Register) (p q : Positions) → j < length ops → k < length ops → (done j → ⊥) → (done k → ⊥) → NeedsReg ops there j r p →
+      NeedsReg ops there k r q → Overlap p q → j ≡ k
+  pub none_held : (k : ℕ) (r : Register) (p : Positions) → k < length ops → (done k → ⊥) → NeedsReg ops there k r p → vreg_of_preg t.places r ≡ None
+  pub lates : (k : ℕ) → k < length ops → (done k → ⊥) → is_late (op_at ops k).position ≡ true → place_at there k ≡ NoPlace
 
 -- the origin of an operand's place
 pub data Origin (o : OperandRequest) (p : Place) (t : InstRegs) (old : StateValue) : Type 0 where

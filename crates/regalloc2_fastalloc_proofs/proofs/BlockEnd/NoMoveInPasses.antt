@@ -9,7 +9,7 @@ use Rattle.regalloc2_names.specs.declared.OperandConstraint.TheVariants.{FixedRe
 use Rattle.regalloc2_names.specs.Register.{Register, VirtualRegister, has_register}
 use Rattle.regalloc2_names.specs.Operand.{OperandValue, is_def, is_late, is_reading}
 use Rattle.regalloc2_names.specs.Place.{Place, NoPlace, InRegister, InSlot, is_place, after}
-use Rattle.regalloc2_function.specs.OutputValue.{MoveValue}
+use Rattle.regalloc2_function.specs.OutputValue.{MoveValue, place_at}
 use Rattle.regalloc2_semantics.proofs.Cells.{is_place-same, is_place-other}
 use Rattle.regalloc2_carry.proofs.Operands.{reads_use}
 use Rattle.regalloc2_carry.proofs.Forms.{same_register}
@@ -23,8 +23,8 @@ use Rattle.regalloc2_function.specs.FunctionValue.{op_at}
 use Rattle.regalloc2_fastalloc_proofs.specs.InstSteps.{StateValue, use_request, def_request, reuse_request, LocatesUse, stays, located, AllocsUse}
 use Rattle.regalloc2_fastalloc_proofs.specs.InstSteps.{AllocsDefOp, ProcessesOperand, a_register, a_use, a_def, a_reuse, own, named}
 use Rattle.regalloc2_fastalloc_proofs.proofs.Safety.StepsKeepSafe.{holder_after_set_alloc}
-use Rattle.regalloc2_fastalloc_proofs.proofs.Operands.AllocsSoFar.{at_place, AreSoundOperands, reads_allocated, requires_fixed_reg, reuse_requires_fixed_reg}
-use Rattle.regalloc2_fastalloc_proofs.proofs.BlockEnd.NoMoveForOperand.{Overlap, Asks, claims, chosen, NoMovePushed, Awaiting, Origin, stood_there, asked}
+use Rattle.regalloc2_fastalloc_proofs.proofs.Operands.AllocsSoFar.{AreSoundOperands, reads_allocated, requires_fixed_reg, reuse_requires_fixed_reg}
+use Rattle.regalloc2_fastalloc_proofs.proofs.BlockEnd.NoMoveForOperand.{Overlap, NeedsReg, claims, chosen, NoMovePushed, Awaiting, Origin, stood_there, asked}
 use Rattle.regalloc2_fastalloc_proofs.proofs.BlockEnd.NoMoveForOperand.{was_free, in_a_slot, Got, no_register_slot, none_some, allocs_operand_no_move}
 use Rattle.regalloc2_fastalloc_proofs.proofs.BlockEnd.NoMoveForOperand.{SamePlaces, same_places, frees_alloc_no_move}
 use Rattle.regalloc2_fastalloc_proofs.proofs.Operands.OperandRules.{use_vreg}
@@ -101,27 +101,27 @@ pub record NextDone (D E : ℕ → Type 0) (k : ℕ) : Type 0 where
   pub before_it : D k → ⊥
   pub back : (j : ℕ) → (E j → ⊥) → (D j → ⊥) × (j ≢ k)
 
-asks_back : (ops : List OperandValue) (here there : List Place) (k : ℕ) (r : Register) (p : Positions) → at_place there k ≡ at_place here k →
-    Asks ops there k r p → Asks ops here k r p
-asks_back ops here there k r p e (claims c) = claims c
-asks_back ops here there k r p e (chosen at is) = chosen (sym e ∙ at) is
+needs_back : (ops : List OperandValue) (here there : List Place) (k : ℕ) (r : Register) (p : Positions) → place_at there k ≡ place_at here k →
+    NeedsReg ops there k r p → NeedsReg ops here k r p
+needs_back ops here there k r p e (claims c) = claims c
+needs_back ops here there k r p e (chosen at is) = chosen (sym e ∙ at) is
 
 -- operands that wait for their registers go on waiting, if fewer are left, no register becomes available, and their
 -- registers stay empty
 pub awaiting_on : (ops : List OperandValue) (D E : ℕ → Type 0) (here there : List Place) (t u : InstRegs) (old new : StateValue) →
     ((j : ℕ) → j < length ops → (E j → ⊥) → D j → ⊥)
-    → ((j : ℕ) → j < length ops → (E j → ⊥) → at_place there j ≡ at_place here j) → Less t u
-    → ((j : ℕ) (r : Register) (p : Positions) → j < length ops → (E j → ⊥) → Asks ops here j r p → vreg_of_preg new.places r ≡ None) →
+    → ((j : ℕ) → j < length ops → (E j → ⊥) → place_at there j ≡ place_at here j) → Less t u
+    → ((j : ℕ) (r : Register) (p : Positions) → j < length ops → (E j → ⊥) → NeedsReg ops here j r p → vreg_of_preg new.places r ≡ None) →
     Awaiting ops D here t old → Awaiting ops E there u new
 awaiting_on ops D E here there t u old new back same later none_held a = record {
   held_early = λ k r p less not_e asks early. later.early r (a.held_early k r p less (back k less not_e)
-      (asks_back ops here there k r p (same k less not_e) asks) early);
-  held_late = λ k r p less not_e asks late. later.late r (a.held_late k r p less (back k less not_e) (asks_back ops here there k r p (same k less not_e) asks)
+      (needs_back ops here there k r p (same k less not_e) asks) early);
+  held_late = λ k r p less not_e asks late. later.late r (a.held_late k r p less (back k less not_e) (needs_back ops here there k r p (same k less not_e) asks)
       late);
-  small = λ k r p less not_e asks. a.small k r p less (back k less not_e) (asks_back ops here there k r p (same k less not_e) asks);
-  one = λ j k r p q lj lk ej ek x y both. a.one j k r p q lj lk (back j lj ej) (back k lk ek) (asks_back ops here there j r p (same j lj ej) x)
-      (asks_back ops here there k r q (same k lk ek) y) both;
-  none_held = λ k r p less not_e asks. none_held k r p less not_e (asks_back ops here there k r p (same k less not_e) asks);
+  small = λ k r p less not_e asks. a.small k r p less (back k less not_e) (needs_back ops here there k r p (same k less not_e) asks);
+  one = λ j k r p q lj lk ej ek x y both. a.one j k r p q lj lk (back j lj ej) (back k lk ek) (needs_back ops here there j r p (same j lj ej) x)
+      (needs_back ops here there k r q (same k lk ek) y) both;
+  none_held = λ k r p less not_e asks. none_held k r p less not_e (needs_back ops here there k r p (same k less not_e) asks);
   lates = λ k less not_e late. same k less not_e ∙ a.lates k less (back k less not_e) late;
 }
 
@@ -147,12 +147,12 @@ early_use o d l = (rw d refl, rw (d, l) refl)
 -- a reuse has chosen a place for the use that it names too
 awaiting_reuse : (ops : List OperandValue) (D E : ℕ → Type 0) (n : ℕ) (p : Place) (here there : List Place) (t u : InstRegs) (old new : StateValue) →
     n < length ops → is_def (op_at ops n).kind ≡ false → is_late (op_at ops n).position ≡ false
-    → ((j : ℕ) → j < length ops → (E j → ⊥) → D j → ⊥) → at_place there n ≡ p →
-    ((j : ℕ) → j < length ops → (E j → ⊥) → j ≢ n → at_place there j ≡ at_place here j) → Less t u
+    → ((j : ℕ) → j < length ops → (E j → ⊥) → D j → ⊥) → place_at there n ≡ p →
+    ((j : ℕ) → j < length ops → (E j → ⊥) → j ≢ n → place_at there j ≡ place_at here j) → Less t u
     → ((q : Register) → p ≡ InRegister q → (q.number < 64) × (has_register u.early q ≡ false) × (has_register u.late q ≡ false)
     × (vreg_of_preg new.places q ≡ None)
-    × ((j : ℕ) (w : Positions) → j < length ops → (E j → ⊥) → j ≢ n → Asks ops here j q w → w.early ≡ true → ⊥))
-    → ((j : ℕ) (r : Register) (w : Positions) → j < length ops → (E j → ⊥) → Asks ops here j r w → vreg_of_preg new.places r ≡ None) →
+    × ((j : ℕ) (w : Positions) → j < length ops → (E j → ⊥) → j ≢ n → NeedsReg ops here j q w → w.early ≡ true → ⊥))
+    → ((j : ℕ) (r : Register) (w : Positions) → j < length ops → (E j → ⊥) → NeedsReg ops here j r w → vreg_of_preg new.places r ≡ None) →
     Awaiting ops D here t old → Awaiting ops E there u new
 awaiting_reuse ops D E n p here there t u old new within reads early_n back at_n same later newly none_held a = record {
   held_early = λ k r w less not_e asks early. elim (split k r w less not_e asks) [
@@ -193,11 +193,11 @@ awaiting_reuse ops D E n p here there t u old new within reads early_n back at_n
   ];
 }
   where
-    split : (j : ℕ) (r : Register) (w : Positions) → j < length ops → (E j → ⊥) → Asks ops there j r w → Asks ops here j r w
+    split : (j : ℕ) (r : Register) (w : Positions) → j < length ops → (E j → ⊥) → NeedsReg ops there j r w → NeedsReg ops here j r w
         ⊎ ((j ≡ n) × (p ≡ InRegister r) × (w ≡ positions_of (op_at ops n)))
     split j r w less not_e (claims c) = inl (claims c)
     split j r w less not_e (chosen at is) = elim (cases_eq j n) [
-      | inl e ↦ inr (e, sym at_n ∙ ap (at_place there) (sym e) ∙ at, is ∙ ap (λ (x : ℕ). positions_of (op_at ops x)) e)
+      | inl e ↦ inr (e, sym at_n ∙ ap (place_at there) (sym e) ∙ at, is ∙ ap (λ (x : ℕ). positions_of (op_at ops x)) e)
       | inr ne ↦ inl (chosen (sym (same j less not_e ne) ∙ at) is)
     ]
 
@@ -217,10 +217,10 @@ awaiting_reuse ops D E n p here there t u old new within reads early_n back at_n
     ]
 
 -- what a use requires, and what it holds
-use_asks : (o : OperandValue) (here : Place) (q : Register) → (use_request o here).requirement ≡ InPReg q → (here ≡ InRegister q) ⊎ (o.constraint ≡ FixedReg q)
-use_asks o NoPlace q h = inr (requires_fixed_reg o.constraint q h)
-use_asks o (InRegister r) q h = inl (let e : InPReg r ≡ InPReg q = h in let same : r ≡ q = cc in ap InRegister same)
-use_asks o (InSlot n) q h = inr (requires_fixed_reg o.constraint q h)
+use_needs : (o : OperandValue) (here : Place) (q : Register) → (use_request o here).requirement ≡ InPReg q → (here ≡ InRegister q) ⊎ (o.constraint ≡ FixedReg q)
+use_needs o NoPlace q h = inr (requires_fixed_reg o.constraint q h)
+use_needs o (InRegister r) q h = inl (let e : InPReg r ≡ InPReg q = h in let same : r ≡ q = cc in ap InRegister same)
+use_needs o (InSlot n) q h = inr (requires_fixed_reg o.constraint q h)
 
 use_positions : (o : OperandValue) (here : Place) → (use_request o here).positions ≡ positions_of o
 use_positions o NoPlace = refl
@@ -233,10 +233,10 @@ available_at_same t p q r e h = subst (λ (x : Positions). IsAvailableAt t x r) 
 module _ (Known : VirtualRegister → Type 0) (ops : List OperandValue) (sound_ops : AreSoundOperands Known ops) (i : ℕ) (ends_block : Bool)
     (only_at_end : (k : ℕ) → k < length ops → is_def (op_at ops k).kind ≡ true → ends_block ≡ true) (pass : Bool) (edits : List (ℕ × MoveValue)) where
   -- an operand is allocated, and holds its register at least at one position of the pass
-  abbrev pub Reaches : Positions → Type 0
-  Reaches p = (p.early ≡ true) ⊎ ((pass ≡ true) × (p.late ≡ true))
+  abbrev pub HoldsInPass : Positions → Type 0
+  HoldsInPass p = (p.early ≡ true) ⊎ ((pass ≡ true) × (p.late ≡ true))
 
-  not_free : (t : InstRegs) (old : StateValue) (p : Positions) → Reaches p → NoMovePushed ops pass edits t old → (q : Register) (v : VirtualRegister) → q.number < 64 →
+  not_free : (t : InstRegs) (old : StateValue) (p : Positions) → HoldsInPass p → NoMovePushed ops pass edits t old → (q : Register) (v : VirtualRegister) → q.number < 64 →
       vreg_of_preg old.places q ≡ Some v → IsAvailableAt t p q → ⊥
   not_free t old p (inl early) no_move q v small held is_free = both_ways (has_register t.early q) (no_move.early q v small held) (is_free.early early)
   not_free t old p (inr late) no_move q v small held is_free = both_ways (has_register t.late q) (no_move.late late.0 q v small held) (is_free.late late.1)
@@ -259,7 +259,7 @@ module _ (Known : VirtualRegister → Type 0) (ops : List OperandValue) (sound_o
 
   -- a definition that is no reuse
   def_no_move : (D E : ℕ → Type 0) (k : ℕ) (p : Place) (here : List Place) (t u : InstRegs) (old new : StateValue) → k < length ops → NextDone D E k →
-      Reaches (positions_of (op_at ops k)) → is_def (op_at ops k).kind ≡ true
+      HoldsInPass (positions_of (op_at ops k)) → is_def (op_at ops k).kind ≡ true
       → AllocsDefOp (after i) (def_request (op_at ops k)) ends_block p t u old new → NoMoveSoFar D here t old → NoMoveSoFar E (set here k p) u new
   def_no_move D E k p here t u old new less next reach def d c =
       let o : OperandValue = op_at ops k in
@@ -287,7 +287,7 @@ module _ (Known : VirtualRegister → Type 0) (ops : List OperandValue) (sound_o
       let name = sound_ops.named k n less reuses in
       let use_it : is_def m.kind ≡ false = reads_use m name.2 in
       let mine : (q : Register) → (reuse_request o m).requirement ≡ InPReg q →
-      Asks ops here k q (record { early = false; late = true }) = λ q wants. claims (named n reuses name.0 (reuse_requires_fixed_reg m.constraint q wants) refl) in
+      NeedsReg ops here k q (record { early = false; late = true }) = λ q wants. claims (named n reuses name.0 (reuse_requires_fixed_reg m.constraint q wants) refl) in
       let none : (q : Register) → (reuse_request o m).requirement ≡ InPReg q →
       vreg_of_preg old.places q ≡ None = λ q wants. c.1.none_held k q (record { early = false; late = true }) less next.before_it (mine q wants) in
       let taken : (q : Register) (v : VirtualRegister) → q.number < 64 → vreg_of_preg old.places q ≡ Some v → IsAvailableAt t (reuse_request o m).positions q →
@@ -303,7 +303,7 @@ module _ (Known : VirtualRegister → Type 0) (ops : List OperandValue) (sound_o
         held_by = λ r small. z.1.held_by r small ∙ ap (λ (x : VRegAllocsValue). vreg_of_preg x r) g.places;
       } in
       let long_enough : (q : Register) → p ≡ InRegister q → (q.number < 64) × (vreg_of_preg old.places q ≡ None)
-      × ((j : ℕ) (w : Positions) → j < length ops → (E j → ⊥) → j ≢ n → Asks ops here j q w → w.early ≡ true → ⊥) =
+      × ((j : ℕ) (w : Positions) → j < length ops → (E j → ⊥) → j ≢ n → NeedsReg ops here j q w → w.early ≡ true → ⊥) =
       λ q is. by_origin q is g.origin none taken mine in (
         no_move_pushed_on ops pass edits t u old new later both c.0,
         awaiting_reuse ops D E n p here (set (set here k p) n p) t u old new name.0 use_it name.1 (λ j within not_e. (next.back j not_e).0)
@@ -325,15 +325,15 @@ module _ (Known : VirtualRegister → Type 0) (ops : List OperandValue) (sound_o
           → ((q : Register) → (reuse_request (op_at ops k) (op_at ops n)).requirement ≡ InPReg q → vreg_of_preg old.places q ≡ None)
           → ((q : Register) (v : VirtualRegister) → q.number < 64 → vreg_of_preg old.places q ≡ Some v →
           IsAvailableAt t (reuse_request (op_at ops k) (op_at ops n)).positions q → ⊥)
-          → ((q : Register) → (reuse_request (op_at ops k) (op_at ops n)).requirement ≡ InPReg q → Asks ops here k q (record { early = false; late = true }))
-          → (q.number < 64) × (vreg_of_preg old.places q ≡ None) × ((j : ℕ) (w : Positions) → j < length ops → (E j → ⊥) → j ≢ n → Asks ops here j q w →
+          → ((q : Register) → (reuse_request (op_at ops k) (op_at ops n)).requirement ≡ InPReg q → NeedsReg ops here k q (record { early = false; late = true }))
+          → (q.number < 64) × (vreg_of_preg old.places q ≡ None) × ((j : ℕ) (w : Positions) → j < length ops → (E j → ⊥) → j ≢ n → NeedsReg ops here j q w →
           w.early ≡ true → ⊥)
       by_origin q is (stood_there there real) none taken mine = absurd (c.0.away k q less def (there ∙ is))
       by_origin q is (asked r at wants) none taken mine =
           let same : r ≡ q = same_register r q (sym at ∙ is) in
           let asks : (reuse_request (op_at ops k) (op_at ops n)).requirement ≡ InPReg q = wants ∙ ap InPReg same in
           let name = sound_ops.named k n less reuses in
-          let claim : Asks ops here n q (positions_of (op_at ops n)) = claims
+          let claim : NeedsReg ops here n q (positions_of (op_at ops n)) = claims
           (own (reads_allocated (op_at ops n) name.2) (reuse_requires_fixed_reg (op_at ops n).constraint q asks) refl) in (
             c.1.small k q (record { early = false; late = true }) less next.before_it (mine q asks),
             none q asks,
@@ -353,41 +353,41 @@ module _ (Known : VirtualRegister → Type 0) (ops : List OperandValue) (sound_o
 
   -- a use
   use_no_move : (D E : ℕ → Type 0) (k : ℕ) (p : Place) (here : List Place) (t u : InstRegs) (old new : StateValue) → k < length ops → NextDone D E k →
-      Reaches (positions_of (op_at ops k)) → is_reading (op_at ops k) ≡ true
+      HoldsInPass (positions_of (op_at ops k)) → is_reading (op_at ops k) ≡ true
       → (pass ≡ true → (positions_of (op_at ops k)).late ≡ true)
-      → ((j : ℕ) (r : Register) (w : Positions) → j < length ops → (D j → ⊥) → Asks ops here j r w → Overlap (positions_of (op_at ops k)) w)
-      → AllocsUse (after i) (use_request (op_at ops k) (at_place here k)) p t u old new → NoMoveSoFar D here t old → NoMoveSoFar E (set here k p) u new
+      → ((j : ℕ) (r : Register) (w : Positions) → j < length ops → (D j → ⊥) → NeedsReg ops here j r w → Overlap (positions_of (op_at ops k)) w)
+      → AllocsUse (after i) (use_request (op_at ops k) (place_at here k)) p t u old new → NoMoveSoFar D here t old → NoMoveSoFar E (set here k p) u new
   use_no_move D E k p here t u old new less next reach reads lates covers d c = by_use d.uses
     where
-      asks_it : (q : Register) → (use_request (op_at ops k) (at_place here k)).requirement ≡ InPReg q → Asks ops here k q (positions_of (op_at ops k))
-      asks_it q wants = elim (use_asks (op_at ops k) (at_place here k) q wants) [
+      asks_it : (q : Register) → (use_request (op_at ops k) (place_at here k)).requirement ≡ InPReg q → NeedsReg ops here k q (positions_of (op_at ops k))
+      asks_it q wants = elim (use_needs (op_at ops k) (place_at here k) q wants) [
         | inl at ↦ chosen at refl
         | inr is ↦ claims (own (reads_allocated (op_at ops k) reads) is refl)
       ]
 
-      none : (q : Register) → (use_request (op_at ops k) (at_place here k)).requirement ≡ InPReg q → vreg_of_preg old.places q ≡ None
+      none : (q : Register) → (use_request (op_at ops k) (place_at here k)).requirement ≡ InPReg q → vreg_of_preg old.places q ≡ None
       none q wants = c.1.none_held k q (positions_of (op_at ops k)) less next.before_it (asks_it q wants)
 
       taken : (q : Register) (v : VirtualRegister) → q.number < 64 → vreg_of_preg old.places q ≡ Some v →
-          IsAvailableAt t (use_request (op_at ops k) (at_place here k)).positions q → ⊥
+          IsAvailableAt t (use_request (op_at ops k) (place_at here k)).positions q → ⊥
       taken q v small held f = not_free t old (positions_of (op_at ops k)) reach c.0 q v small held
-          (available_at_same t (use_request (op_at ops k) (at_place here k)).positions (positions_of (op_at ops k)) q (use_positions (op_at ops k) (at_place here k)) f)
+          (available_at_same t (use_request (op_at ops k) (place_at here k)).positions (positions_of (op_at ops k)) q (use_positions (op_at ops k) (place_at here k)) f)
 
-      g : Got (use_request (op_at ops k) (at_place here k)) p t u old d.middle
-      g = allocs_operand_no_move (after i) ops pass edits (use_request (op_at ops k) (at_place here k)) p t u old d.middle d.gets c.0 none taken
+      g : Got (use_request (op_at ops k) (place_at here k)) p t u old d.middle
+      g = allocs_operand_no_move (after i) ops pass edits (use_request (op_at ops k) (place_at here k)) p t u old d.middle d.gets c.0 none taken
 
       early : (positions_of (op_at ops k)).early ≡ true
       early = (let e : is_def (op_at ops k).kind ≡ false = reads_use (op_at ops k) reads in rw e refl)
 
       -- if the vreg got a new location
       mine : (alloc_of old.places (op_at ops k).vreg.number ≡ NoPlace) → (q : Register) → p ≡ InRegister q →
-          Origin (use_request (op_at ops k) (at_place here k)) p t old
-          → (q.number < 64) × (vreg_of_preg old.places q ≡ None) × ((j : ℕ) (w : Positions) → j < length ops → (E j → ⊥) → Asks ops here j q w → ⊥)
+          Origin (use_request (op_at ops k) (place_at here k)) p t old
+          → (q.number < 64) × (vreg_of_preg old.places q ≡ None) × ((j : ℕ) (w : Positions) → j < length ops → (E j → ⊥) → NeedsReg ops here j q w → ⊥)
       mine nowhere q is (stood_there there real) =
-          absurd (real (sym there ∙ ap (λ (v : VirtualRegister). alloc_of old.places v.number) (use_vreg (op_at ops k) (at_place here k)) ∙ nowhere))
+          absurd (real (sym there ∙ ap (λ (v : VirtualRegister). alloc_of old.places v.number) (use_vreg (op_at ops k) (place_at here k)) ∙ nowhere))
       mine nowhere q is (asked r at wants) =
           let same : r ≡ q = same_register r q (sym at ∙ is) in
-          let asks : (use_request (op_at ops k) (at_place here k)).requirement ≡ InPReg q = wants ∙ ap InPReg same in (
+          let asks : (use_request (op_at ops k) (place_at here k)).requirement ≡ InPReg q = wants ∙ ap InPReg same in (
             c.1.small k q (positions_of (op_at ops k)) less next.before_it (asks_it q asks),
             none q asks,
             λ j w within not_e x. (next.back j not_e).1
@@ -397,9 +397,9 @@ module _ (Known : VirtualRegister → Type 0) (ops : List OperandValue) (sound_o
       mine nowhere q is (was_free r at small is_free) =
           let same : r ≡ q = same_register r q (sym at ∙ is) in
           let lt : q.number < 64 = subst (λ (x : Register). x.number < 64) same small in
-          let f : IsAvailableAt t (positions_of (op_at ops k)) q = available_at_same t (use_request (op_at ops k) (at_place here k)).positions
-          (positions_of (op_at ops k)) q (use_positions (op_at ops k) (at_place here k))
-          (subst (IsAvailableAt t (use_request (op_at ops k) (at_place here k)).positions) same is_free) in (
+          let f : IsAvailableAt t (positions_of (op_at ops k)) q = available_at_same t (use_request (op_at ops k) (place_at here k)).positions
+          (positions_of (op_at ops k)) q (use_positions (op_at ops k) (place_at here k))
+          (subst (IsAvailableAt t (use_request (op_at ops k) (place_at here k)).positions) same is_free) in (
             lt,
             no_some (vreg_of_preg old.places q) (λ v held. not_free t old (positions_of (op_at ops k)) reach c.0 q v lt held f),
             λ j w within not_e x. elim (overlap_cases (positions_of (op_at ops k)) w (covers j q w within (next.back j not_e).0 x)) [
@@ -409,20 +409,20 @@ module _ (Known : VirtualRegister → Type 0) (ops : List OperandValue) (sound_o
           )
       mine nowhere q is (in_a_slot l at) = absurd (no_register_slot l q (sym at ∙ is))
 
-      same_number : (use_request (op_at ops k) (at_place here k)).vreg.number ≡ (op_at ops k).vreg.number
-      same_number = ap (λ (v : VirtualRegister). v.number) (use_vreg (op_at ops k) (at_place here k))
+      same_number : (use_request (op_at ops k) (place_at here k)).vreg.number ≡ (op_at ops k).vreg.number
+      same_number = ap (λ (v : VirtualRegister). v.number) (use_vreg (op_at ops k) (place_at here k))
 
-      by_use : LocatesUse (use_request (op_at ops k) (at_place here k)).vreg p d.middle new → NoMoveSoFar E (set here k p) u new
+      by_use : LocatesUse (use_request (op_at ops k) (place_at here k)).vreg p d.middle new → NoMoveSoFar E (set here k p) u new
       by_use (stays there en) = same_no_move D E k p here t u old new next g.later
           (same_places old new (ap (λ (x : StateValue). x.places) en ∙ g.places) (ap (λ (x : StateValue). x.edits) en ∙ g.edits)) c
       by_use (located stood_nowhere sets_alloc slots pushed machine order) =
           let nowhere : alloc_of old.places (op_at ops k).vreg.number ≡ NoPlace = ap (alloc_of old.places) (sym same_number)
-          ∙ ap (λ (x : VRegAllocsValue). alloc_of x (use_request (op_at ops k) (at_place here k)).vreg.number) (sym g.places) ∙ stood_nowhere in
-          let z : SetsAlloc old.places new.places (use_request (op_at ops k) (at_place here k)).vreg
-          p = subst (λ (x : VRegAllocsValue). SetsAlloc x new.places (use_request (op_at ops k) (at_place here k)).vreg p) g.places sets_alloc in
-          let positions : (use_request (op_at ops k) (at_place here k)).positions ≡ positions_of (op_at ops k) = use_positions (op_at ops k)
-          (at_place here k) in (
-            no_move_after_use_located ops pass edits (use_request (op_at ops k) (at_place here k)).vreg p t u old new g.later z (pushed ∙ g.edits)
+          ∙ ap (λ (x : VRegAllocsValue). alloc_of x (use_request (op_at ops k) (place_at here k)).vreg.number) (sym g.places) ∙ stood_nowhere in
+          let z : SetsAlloc old.places new.places (use_request (op_at ops k) (place_at here k)).vreg
+          p = subst (λ (x : VRegAllocsValue). SetsAlloc x new.places (use_request (op_at ops k) (place_at here k)).vreg p) g.places sets_alloc in
+          let positions : (use_request (op_at ops k) (place_at here k)).positions ≡ positions_of (op_at ops k) = use_positions (op_at ops k)
+          (place_at here k) in (
+            no_move_after_use_located ops pass edits (use_request (op_at ops k) (place_at here k)).vreg p t u old new g.later z (pushed ∙ g.edits)
                 (ap (alloc_of old.places) same_number ∙ nowhere)
                 (λ q is. let m = mine nowhere q is g.origin in (
                   m.0,
@@ -434,7 +434,7 @@ module _ (Known : VirtualRegister → Type 0) (ops : List OperandValue) (sound_o
                 c.0,
             awaiting_on ops D E here (set here k p) t u old new (λ j within not_e. (next.back j not_e).0)
                 (λ j within not_e. get_or-set_other here k j p NoPlace (next.back j not_e).1) g.later
-                (λ j r w within not_e x. other_register_stays_empty (use_request (op_at ops k) (at_place here k)).vreg p old.places new.places r
+                (λ j r w within not_e x. other_register_stays_empty (use_request (op_at ops k) (place_at here k)).vreg p old.places new.places r
                 (c.1.small j r w within (next.back j not_e).0 x) z (λ is. (mine nowhere r is g.origin).2 j w within not_e x)
                 (c.1.none_held j r w within (next.back j not_e).0 x)) c.1,
             length-set here k p ∙ c.2,
@@ -442,10 +442,10 @@ module _ (Known : VirtualRegister → Type 0) (ops : List OperandValue) (sound_o
 
   -- an operand is allocated
   pub processes_operand_no_move : {D E : ℕ → Type 0} {k : ℕ} {here there : List Place} {t u : InstRegs} {old new : StateValue} →
-      ProcessesOperand i ends_block ops k here there t u old new → k < length ops → NextDone D E k → Reaches (positions_of (op_at ops k))
+      ProcessesOperand i ends_block ops k here there t u old new → k < length ops → NextDone D E k → HoldsInPass (positions_of (op_at ops k))
       → ((n : ℕ) → (op_at ops k).constraint ≡ Reuse n → D n → ⊥)
       → (is_reading (op_at ops k) ≡ true → pass ≡ true → (positions_of (op_at ops k)).late ≡ true)
-      → (is_reading (op_at ops k) ≡ true → (j : ℕ) (r : Register) (w : Positions) → j < length ops → (D j → ⊥) → Asks ops here j r w →
+      → (is_reading (op_at ops k) ≡ true → (j : ℕ) (r : Register) (w : Positions) → j < length ops → (D j → ⊥) → NeedsReg ops here j r w →
       Overlap (positions_of (op_at ops k)) w)
       → NoMoveSoFar D here t old → NoMoveSoFar E there u new
   processes_operand_no_move {D} {E} {k} {here} {t} {u} {old} {new} (a_register r silent is written_it eu en) less next reach not_n lates covers c =

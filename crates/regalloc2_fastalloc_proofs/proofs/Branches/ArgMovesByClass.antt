@@ -10,11 +10,12 @@ use Rattle.regalloc2_names.specs.Place.{Place, NoPlace, InRegister, InSlot}
 use Rattle.regalloc2_function.specs.OutputValue.{MoveValue}
 use Rattle.regalloc2_semantics.specs.Runs.{Cells, after_moves}
 use Rattle.regalloc2_carry.specs.BlockByPoints.{at_point, listed}
+use Rattle.regalloc2_parts.specs.Resolved.{AreBetweenPlaces}
 use Rattle.regalloc2_fastalloc_state.specs.declared.inst_regs.InstRegs.{InstRegs}
 use Rattle.regalloc2_fastalloc_state.specs.ScratchPool.{Moves, pushed}
 use Rattle.regalloc2_fastalloc_proofs.specs.InstSteps.{StateValue}
 use Rattle.regalloc2_fastalloc_proofs.specs.BranchSteps.{IsScratchRegFor, OrdersMoves, Pushes, ClassMove, of_class}
-use Rattle.regalloc2_fastalloc_proofs.proofs.Branches.ArgMovesPushed.{moves_of, at_pushed, other_pushed, after_append, came_from, AreThereEnds, after_made}
+use Rattle.regalloc2_fastalloc_proofs.proofs.Branches.ArgMovesPushed.{moves_of, at_pushed, other_pushed, after_append, came_from, after_made}
 use Rattle.regalloc2_fastalloc_proofs.proofs.Branches.ArgMovesPushed.{came_own}
 
 -- a slot, if it is one, is below a count
@@ -28,7 +29,7 @@ IsNoTarget given q = (m : Place × Place × Unit {0}) → Contains given m → m
 -- what the moves of a class do
 pub record Stepped (point : ℕ) (inst_regs : InstRegs) (class : RegClass) (given : Moves) (old new : StateValue) : Type 0 where
   pub made : Moves
-  pub ends : AreThereEnds made
+  pub ends : AreBetweenPlaces made
   pub places : new.places ≡ old.places
   pub vreg_spillslots : new.slots.vreg_spillslots ≡ old.slots.vreg_spillslots
   pub sizes : new.slots.sizes ≡ old.slots.sizes

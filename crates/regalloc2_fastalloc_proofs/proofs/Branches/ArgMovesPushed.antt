@@ -13,6 +13,7 @@ use Rattle.regalloc2_carry.proofs.Points.{at_point-here, at_point-other, with_mo
 use Rattle.regalloc2_carry.proofs.PushedMoves.{listed-push}
 use Rattle.regalloc2_carry.proofs.ListingParts.{walked-one}
 use Rattle.regalloc2_parts.specs.AtOnce.{ends_of, own_names, in_turn, moved, in_turn-any}
+use Rattle.regalloc2_parts.specs.Resolved.{AreBetweenPlaces}
 use Rattle.regalloc2_fastalloc_state.specs.ScratchPool.{Moves, pushed}
 
 -- the moves as they are listed
@@ -53,10 +54,6 @@ after_append (m ∷ ms) ns c q = after_append ms ns (stored c m.to (c m.from)) q
 abbrev pub came_from : Moves → Place → Place
 came_from made q = in_turn (ends_of made) own_names q
 
--- neither end of a move is none
-abbrev pub AreThereEnds : Moves → Type 0
-AreThereEnds made = All (λ m. (m.0 ≢ NoPlace) × (m.1 ≢ NoPlace)) made
-
 pick : (b : Bool) (c : Cells) (p q : Place) → cond b (c p) (c q) ≡ c (cond b p q)
 pick true c p q = refl
 pick false c p q = refl
@@ -72,7 +69,7 @@ unfolding in_turn
 came_more m ms q = in_turn-any (ends_of ms) (moved own_names m.1 m.0) q
 
 -- after a list of moves a place holds the value of its source
-pub after_made : (made : Moves) → AreThereEnds made → (c : Cells) (q : Place) → after_moves (moves_of made) c q ≡ c (came_from made q)
+pub after_made : (made : Moves) → AreBetweenPlaces made → (c : Cells) (q : Place) → after_moves (moves_of made) c q ≡ c (came_from made q)
 unfolding after_moves moves_of in_turn
 after_made [] h c q = refl
 after_made (m ∷ ms) h c q =

@@ -28,8 +28,8 @@ abbrev pub IsStart : FunctionValue → ℕ → Type 0
 IsStart f i = (b : ℕ) × (b < length f.blocks) × ((block_at f b).range.first ≡ i)
 
 -- points before an instruction; if a block begins there, the point in front of it too
-abbrev pub IsBeforeInst : FunctionValue → ℕ → ℕ → Type 0
-IsBeforeInst f i p = (p < before i) ⊎ ((p ≡ before i) × IsStart f i)
+abbrev pub IsPointBefore : FunctionValue → ℕ → ℕ → Type 0
+IsPointBefore f i p = (p < before i) ⊎ ((p ≡ before i) × IsStart f i)
 
 -- nothing before the instruction i names the number
 pub record IsUnnamedBefore (f : FunctionValue) (x i : ℕ) : Type 0 where
@@ -56,13 +56,13 @@ pub record Met (f : FunctionValue) (placesf : ℕ → List Place) (start : List 
   pub inside : AllocsBlockInsts f block end_places end_tables (i + 1) blank old
   pub listed : AreListed f placesf (i + 1) blank
   pub behind : IsBetweenInsts (i + 1) old
-  pub rest : Grown (IsBeforeInst f i) new final
+  pub rest : Grown (IsPointBefore f i) new final
   pub out : (x : ℕ) → IsUnnamedBefore f x i → StaysOut x new final
 
 module _ (code : PlacedCode) (start : List Place) (begin : StateValue) (i : ℕ) where
   open code use {Known, f, proper, kept, follow, ends, placesf}
 
-  extend : (t u : StateValue) → Grown (IsBeforeInst f i) t u → ((x : ℕ) → IsUnnamedBefore f x i → StaysOut x t u) → Met f placesf start begin i t →
+  extend : (t u : StateValue) → Grown (IsPointBefore f i) t u → ((x : ℕ) → IsUnnamedBefore f x i → StaysOut x t u) → Met f placesf start begin i t →
       Met f placesf start begin i u
   extend t u g o m = record {
     block = m.block;
@@ -81,7 +81,7 @@ module _ (code : PlacedCode) (start : List Place) (begin : StateValue) (i : ℕ)
     inside = m.inside;
     listed = m.listed;
     behind = m.behind;
-    rest = grown_then (IsBeforeInst f i) m.new t u m.rest g;
+    rest = grown_then (IsPointBefore f i) m.new t u m.rest g;
     out = λ x n. out_then x m.new t u (m.out x n) (o x n);
   }
 
@@ -111,8 +111,8 @@ module _ (code : PlacedCode) (start : List Place) (begin : StateValue) (i : ℕ)
       | inr ne ↦ (
           let sooner : k < i = omega (arith, le, ne) in
           extend s u
-          (changes_grow (IsBeforeInst f i)
-          (allocs_inst_in_block_changes (any_inst (λ e. IsBeforeInst f i e.0) f b k (λ n r. inl (omega (arith, sooner))) (λ n r. inl (omega (arith, sooner)))) a))
+          (changes_grow (IsPointBefore f i)
+          (allocs_inst_in_block_changes (any_inst (λ e. IsPointBefore f i e.0) f b k (λ n r. inl (omega (arith, sooner))) (λ n r. inl (omega (arith, sooner)))) a))
           (one_out_of k p q s u ge less sooner a)
           (meet_in lt (k + 1) p s prev (listed_behind code s b k p q s u (within k less) a are)
           (omega (arith, sooner))))
@@ -137,7 +137,7 @@ module _ (code : PlacedCode) (start : List Place) (begin : StateValue) (i : ℕ)
           inside = prev;
           listed = listed_behind code s b k p q s u (within k less) a are;
           behind = walk_between (kept_code_of Known f proper kept) follow b lb blank old h (k + 1) p s prev;
-          rest = grown_none (IsBeforeInst f k) u u refl;
+          rest = grown_none (IsPointBefore f k) u u refl;
           out = λ x n. (λ a. (a, refl));
         }
 
@@ -154,13 +154,13 @@ module _ (code : PlacedCode) (start : List Place) (begin : StateValue) (i : ℕ)
       let behind : IsBetweenInsts end s = allocs_blocks_between (kept_code_of Known f proper kept) follow start begin fresh (c + 1) p s prev end
       (edge_next f follow c lc) in
       let here_listed : AreListed f placesf first q = subst (λ (m : ℕ). AreListed f placesf m q) at_first are in
-      let beginning : Grown (IsBeforeInst f i) u w = changes_grow (IsBeforeInst f i) (begins_block_changes (any_begin (λ e. IsBeforeInst f i e.0) f c
+      let beginning : Grown (IsPointBefore f i) u w = changes_grow (IsPointBefore f i) (begins_block_changes (any_begin (λ e. IsPointBefore f i e.0) f c
       (λ n r. elim (cases_eq first i) [ inl same ↦ inr (ap before same, (c, lc, same)) | inr ne ↦ inl (omega (arith, from, ne)) ])) begins) in
       let aside : (x : ℕ) → IsUnnamedBefore f x i → StaysOut x u w = λ x n. begins_block_out x f c u w (n.params c lc) (n.stores c lc) begins in
       elim (cases_lt i end) [
         | inl inside ↦ extend u w beginning aside (meet_in c lc p s behind prev inside first q u walk here_listed from)
         | inr past ↦ extend u w beginning aside
-            (extend s u (grown_weaken (IsWithin first end) (IsBeforeInst f i) s u (λ z y. inl (omega (arith, y.1, past)))
+            (extend s u (grown_weaken (IsWithin first end) (IsPointBefore f i) s u (λ z y. inl (omega (arith, y.1, past)))
             (walk_grown (kept_code_of Known f proper kept) follow c lc p s first q u walk))
             (walk_out c lc p s behind prev first q u walk past)
             (walk_reaches fresh lt prev end (edge_next f follow c lc)

@@ -21,7 +21,7 @@ use Rattle.regalloc2_fastalloc_proofs.proofs.Walk.LastInstAndRest.{listed_behind
 use Rattle.regalloc2_fastalloc_proofs.specs.Located.{Absent}
 use Rattle.regalloc2_fastalloc_proofs.proofs.Debug.UnnamedStaysUnlocated.{IsUnpassed, allocs_inst_in_block_out, begins_block_absent}
 use Rattle.regalloc2_fastalloc_proofs.proofs.Debug.LocatedStaysOrHasSlot.{StaysOrHasSlot, hold_then, allocs_inst_hold, branch_hold}
-use Rattle.regalloc2_fastalloc_proofs.proofs.Debug.InstWithinWalk.{Met, IsBeforeInst}
+use Rattle.regalloc2_fastalloc_proofs.proofs.Debug.InstWithinWalk.{Met, IsPointBefore}
 use Rattle.regalloc2_fastalloc_proofs.proofs.Debug.LocationBeforeFirstRead.{ComesFirst, read_location}
 use Rattle.regalloc2_fastalloc_proofs.proofs.Walk.FunctionLaws.{PlacedCode}
 use Rattle.regalloc2_fastalloc_proofs.proofs.Changes.WalkChanges.{allocs_inst_in_block_changes, any_inst}
@@ -151,9 +151,9 @@ module _ (code : PlacedCode) (final : StateValue) (x id il ko : ℕ) (un : IsUns
         }) w.inside w.listed
         (grown_then AnyPlace w.old w.new final
         (changes_grow AnyPlace (allocs_inst_in_block_changes (any_inst (λ e. AnyPlace e.0) f w.block j (λ n r. tt) (λ n r. tt)) w.allocates))
-        (grown_weaken (IsBeforeInst f j) AnyPlace w.new final (λ n y. tt) w.rest))
+        (grown_weaken (IsPointBefore f j) AnyPlace w.new final (λ n y. tt) w.rest))
 
     -- in the state with which the walk leaves the instruction, x has its location before this one
     pub new_stays : Stays placesf x id il ko j w.new
     new_stays = step_stays w.block w.within w.ge w.less w.allocates w.at
-        (grown_weaken (IsBeforeInst f j) AnyPlace w.new final (λ n y. tt) w.rest) old_stays
+        (grown_weaken (IsPointBefore f j) AnyPlace w.new final (λ n y. tt) w.rest) old_stays

@@ -37,7 +37,7 @@ use Rattle.regalloc2_fastalloc_proofs.specs.Located.{Absent}
 use Rattle.regalloc2_fastalloc_proofs.proofs.Debug.SlotHoldsDefinedValue.{branch, rising, met_at, listed_at, allocated, by_itself, from_nowhere, front_of}
 use Rattle.regalloc2_fastalloc_proofs.proofs.Debug.InstOnPath.{Fronts, front, onward_front, carried_on, behind, moves_on}
 use Rattle.regalloc2_fastalloc_proofs.proofs.Debug.SlotHoldsToUses.{StepsArePlain, start_path, goes_live, goes_source}
-use Rattle.regalloc2_fastalloc_proofs.proofs.Debug.InstWithinWalk.{Met, IsStart, IsBeforeInst}
+use Rattle.regalloc2_fastalloc_proofs.proofs.Debug.InstWithinWalk.{Met, IsStart, IsPointBefore}
 use Rattle.regalloc2_fastalloc_proofs.proofs.Debug.PlaceKeepsValueOverMoves.{value_kept_over_moves}
 use Rattle.regalloc2_fastalloc_proofs.proofs.Debug.WellFormedPaths.{inst_in, inst_lt, within, plain_function}
 use Rattle.regalloc2_fastalloc_proofs.proofs.Debug.LocationWithoutSlot.{IsUnslotted, none_before, old_stays, new_stays}
@@ -138,7 +138,7 @@ module _ (walk : WholeWalk) (m : IsOutputOfWalk walk.f walk.env (Made walk.f) (M
   none_new : (j : ℕ) (w : MetAt j) → slot_in w.new v.number ≡ NoPlace
   none_new j w =
       none_before code last v.number id il ko un w.new
-      (grown_weaken (IsBeforeInst f j) AnyPlace w.new last (λ n y. tt) w.rest)
+      (grown_weaken (IsPointBefore f j) AnyPlace w.new last (λ n y. tt) w.rest)
 
   -- what an instruction carries into the place
   module _ (j : ℕ) (lt : j < length f.insts) (flat : (inst_at f j).is_branch ≡ false) (onward : (inst_at f j).is_ret ≡ false) where
@@ -189,9 +189,9 @@ module _ (walk : WholeWalk) (m : IsOutputOfWalk walk.f walk.env (Made walk.f) (M
       after_moves (at_point out.edits (before j)) c p ≡ source_before f ws v
   seen j lt flat low high ws c held =
       let w : MetAt j = meets j lt in
-      let same : at_point (listed last.edits) (before j) ≡ at_point (listed w.new.edits) (before j) = pushed_at (λ e. IsBeforeInst f j e.0) (before j) w.new.edits
+      let same : at_point (listed last.edits) (before j) ≡ at_point (listed w.new.edits) (before j) = pushed_at (λ e. IsPointBefore f j e.0) (before j) w.new.edits
       last.edits (λ e h is. elim h [ inl before_it ↦ omega (arith, before_it, is) | inr at ↦ not_start j w low high at.1 ])
-      (grown_pushes (IsBeforeInst f j) w.new last w.rest) in
+      (grown_pushes (IsPointBefore f j) w.new last w.rest) in
       ap (λ es. after_moves (at_point es (before j)) c p) m.edits ∙ ap (λ ms. after_moves ms c p) same
       ∙ value_kept_over_moves (proper_of (Made f) f (allocs_of out) (all_proper env f limited ok)) j
       w.allocates.allocates.blank w.allocates.allocates.here w.old w.new lt w.behind

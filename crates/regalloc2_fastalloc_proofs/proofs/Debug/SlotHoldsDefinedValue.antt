@@ -49,7 +49,7 @@ use Rattle.regalloc2_fastalloc_proofs.proofs.Debug.UnnamedStaysUnlocated.{whole_
 use Rattle.regalloc2_fastalloc_proofs.proofs.Debug.InstOnPath.{Fronts, entered_front, onward_front, carried_on, behind, front, moves_on}
 use Rattle.regalloc2_fastalloc_proofs.proofs.Debug.PathStepLeaves.{read_shows}
 use Rattle.regalloc2_fastalloc_proofs.proofs.Debug.SlotAfterWalk.{DefinedShows, moves_where, only_vreg_in_slot}
-use Rattle.regalloc2_fastalloc_proofs.proofs.Debug.InstWithinWalk.{IsStart, IsBeforeInst, IsUnnamedBefore, Met, walk_reaches}
+use Rattle.regalloc2_fastalloc_proofs.proofs.Debug.InstWithinWalk.{IsStart, IsUnnamedBefore, Met, walk_reaches, IsPointBefore}
 use Rattle.regalloc2_fastalloc_proofs.proofs.Debug.WellFormedPaths.{inst_in, inst_lt, next_inside, within}
 use Rattle.regalloc2_fastalloc_proofs.proofs.Debug.DefWithMovesStores.{stores}
 use Rattle.regalloc2_fastalloc_proofs.proofs.Debug.MovesLeaveSlot.{moves_fine}
@@ -130,8 +130,8 @@ module _ (walk : WholeWalk) (m : IsOutputOfWalk walk.f walk.env (Made walk.f) (M
   pub listed_at : (i : ℕ) (w : Met f (allocs_of out) blank begin i last) → (IsStart f i → ⊥) →
       walked (inst_at f) (at_point (listed w.new.edits)) (allocs_of out) i 1 ≡ walked (inst_at f) (at_point out.edits) (allocs_of out) i 1
   listed_at i w never =
-      sym (pushed_walked (λ e. IsBeforeInst f i e.0) (inst_at f) (allocs_of out) i 1 w.new.edits last.edits
-      (λ e h. elim h [ inl before_it ↦ before_it | inr at ↦ absurd (never at.1) ]) (grown_pushes (IsBeforeInst f i) w.new last w.rest))
+      sym (pushed_walked (λ e. IsPointBefore f i e.0) (inst_at f) (allocs_of out) i 1 w.new.edits last.edits
+      (λ e h. elim h [ inl before_it ↦ before_it | inr at ↦ absurd (never at.1) ]) (grown_pushes (IsPointBefore f i) w.new last w.rest))
       ∙ ap (λ es. walked (inst_at f) (at_point es) (allocs_of out) i 1) (sym m.edits)
 
   -- what the listing carries from nowhere, it carries with any reloads and stores of a block's start in front
@@ -140,15 +140,15 @@ module _ (walk : WholeWalk) (m : IsOutputOfWalk walk.f walk.env (Made walk.f) (M
       Carries v (walked (inst_at f) (at_point out.edits) (allocs_of out) i 1) (λ p. ⊥) E
   from_nowhere v E i w c =
       subst (λ es. Carries v (walked (inst_at f) (at_point es) (allocs_of out) i 1) (λ p. ⊥) E) (sym m.edits)
-      (pushed_carries v E i w.new.edits last.edits (grown_pushes (IsBeforeInst f i) w.new last w.rest) c)
+      (pushed_carries v E i w.new.edits last.edits (grown_pushes (IsPointBefore f i) w.new last w.rest) c)
     where
-      pushed_carries : (v : VirtualRegister) (E : Place → Type 0) (i : ℕ) (a b : List (ℕ × MoveValue)) → AppendsEdits (λ e. IsBeforeInst f i e.0) a b →
+      pushed_carries : (v : VirtualRegister) (E : Place → Type 0) (i : ℕ) (a b : List (ℕ × MoveValue)) → AppendsEdits (λ e. IsPointBefore f i e.0) a b →
           Carries v (walked (inst_at f) (at_point (listed a)) (allocs_of out) i 1) (λ p. ⊥) E →
           Carries v (walked (inst_at f) (at_point (listed b)) (allocs_of out) i 1) (λ p. ⊥) E
       pushed_carries v E i a b none_pushed c = c
       pushed_carries v E i a b (one_pushed es e prev at) c = one_more v E i es e.0 e.1 at (pushed_carries v E i a es prev c)
         where
-          one_more : (v : VirtualRegister) (E : Place → Type 0) (i : ℕ) (es : List (ℕ × MoveValue)) (q : ℕ) (n : MoveValue) → IsBeforeInst f i q →
+          one_more : (v : VirtualRegister) (E : Place → Type 0) (i : ℕ) (es : List (ℕ × MoveValue)) (q : ℕ) (n : MoveValue) → IsPointBefore f i q →
               Carries v (walked (inst_at f) (at_point (listed es)) (allocs_of out) i 1) (λ p. ⊥) E →
               Carries v (walked (inst_at f) (at_point (listed (es ++ (q, n) ∷ []))) (allocs_of out) i 1) (λ p. ⊥) E
           one_more v E i es q n (inl sooner) c = subst (λ l. Carries v l (λ p. ⊥) E) (sym (walked-pushed (inst_at f) q n es (allocs_of out) i 1 sooner)) c

@@ -35,12 +35,12 @@ module _ (x : ℕ) where
   Other v = v.number ≢ x
 
   -- changes that don't give x a location
-  abbrev pub Sets : Act → Type 0
-  Sets (slot_for v) = Unit {0}
-  Sets (spill_of v) = Other v
-  Sets (end_of v) = Other v
-  Sets (start_of v p) = Other v
-  Sets (move e) = Unit {0}
+  abbrev pub SetsOthers : Act → Type 0
+  SetsOthers (slot_for v) = Unit {0}
+  SetsOthers (spill_of v) = Other v
+  SetsOthers (end_of v) = Other v
+  SetsOthers (start_of v p) = Other v
+  SetsOthers (move e) = Unit {0}
 
   -- changes that don't give x a slot
   abbrev pub Names : Act → Type 0
@@ -50,7 +50,7 @@ module _ (x : ℕ) where
   Names (start_of v p) = Other v
   Names (move e) = Unit {0}
 
-  names_set : (a : Act) → Names a → Sets a
+  names_set : (a : Act) → Names a → SetsOthers a
   names_set (slot_for v) h = tt
   names_set (spill_of v) h = h
   names_set (end_of v) h = h
@@ -75,7 +75,7 @@ module _ (x : ℕ) where
   }
 
   -- any change that doesn't give it a location keeps it absent
-  one_absent : (old new : StateValue) → Change Sets old new → Absent x old → Absent x new
+  one_absent : (old new : StateValue) → Change SetsOthers old new → Absent x old → Absent x new
   one_absent old new (evicted r v s lt held gives sets_alloc edits machine) a = absent_after_set_alloc old new v s sets_alloc (a.unheld r v lt held) a
   one_absent old new (slot_given v s may gives places edits machine) a = absent_still old new places a
   one_absent old new (spilled v s may away gives sets_alloc edits machine) a = absent_after_set_alloc old new v s sets_alloc may a
@@ -101,7 +101,7 @@ module _ (x : ℕ) where
   one_slot old new (temps_added inst_regs class given made o) a = ap (λ (l : List Place). slice_index_or l x NoPlace) o.lends.2.vreg_spillslots
   one_slot old new (registers_used e) a = ap (λ (t : StateValue). slot_name t.slots x) e
 
-  pub changes_absent : {old new : StateValue} → Changes Sets old new → Absent x old → Absent x new
+  pub changes_absent : {old new : StateValue} → Changes SetsOthers old new → Absent x old → Absent x new
   changes_absent = changes_keep (record { same = λ t a. a; over = λ a b c f g h. g (f h); each = one_absent })
 
   -- two steps keep x absent if each does
@@ -112,7 +112,7 @@ module _ (x : ℕ) where
   changes_out = changes_keep (record {
     same = λ t a. (a, refl);
     over = out_then;
-    each = λ old new c a. (one_absent old new (change_weaken Names Sets names_set old new c) a, one_slot old new c a);
+    each = λ old new c a. (one_absent old new (change_weaken Names SetsOthers names_set old new c) a, one_slot old new c a);
   })
 
   other_placed : (ops : List OperandValue) (k : ℕ) → k < length ops → (Counts ops k → Other (op_at ops k).vreg) → MayBePlaced Names (op_at ops k)

@@ -16,7 +16,7 @@ use Rattle.regalloc2_carry.proofs.AllowedPlaces.{clear_free, clear_kept_use, cle
 use Rattle.regalloc2_carry.proofs.NeedsAcrossMoves.{claims_weaken}
 use Rattle.regalloc2_fastalloc_state.specs.declared.inst_regs.InstRegs.{InstRegs}
 use Rattle.regalloc2_fastalloc_state.specs.declared.request.Requirement.{Requirement}
-use Rattle.regalloc2_fastalloc_state.specs.declared.request.Requirement.TheVariants.{AnyPlace, AnyReg, InMemory, InPReg}
+use Rattle.regalloc2_fastalloc_state.specs.declared.request.Requirement.TheVariants.{AnyPlace, AnyReg, OnStack, InPReg}
 use Rattle.regalloc2_fastalloc_state.specs.declared.request.OperandRequest.{OperandRequest}
 use Rattle.regalloc2_fastalloc_state.specs.StateParts.{VRegAllocsValue, alloc_of, GetsSpillSlot}
 use Rattle.regalloc2_fastalloc_state.specs.InstRegs.{IsAvailableAt}
@@ -379,7 +379,7 @@ module _ (tail : BlockTail) (ops : List OperandValue) (far : Progress) (ends_blo
     allocs_operand_by middle new (owed r ck at w) (fixed g wg pg en) occ =
         let same : InPReg r ≡ InPReg g = sym w ∙ wg in let one : r ≡ g = cc in
         get_owed new r ck at (pg ∙ ap InRegister (sym one)) (subst (λ m. ClaimsPlace (after i) o p t u m new) en occ)
-    allocs_operand_by middle new (owed r ck at w) (slot h g e ed machine order) occ = absurd (not_both o.requirement InMemory r w h (λ a. cc))
+    allocs_operand_by middle new (owed r ck at w) (slot h g e ed machine order) occ = absurd (not_both o.requirement OnStack r w h (λ a. cc))
     allocs_operand_by middle new (owed r ck at w) (free g h away may fr first pg en) occ = absurd (not_both o.requirement AnyReg r w h (λ a. cc))
     allocs_operand_by middle new (fresh f other) (stays x su en) occ = get_kept new f x (subst (λ m. ClaimsPlace (after i) o p t u m new) en occ)
     allocs_operand_by middle new (fresh f other) (fixed g wg pg en) occ = absurd (other g wg)

@@ -1,6 +1,6 @@
 -- The places of an instruction's operands, while they are placed one after another.
 use Rattle.regalloc2_carry.proofs.Operands.{reads_use}
-use Rattle.std.proofs.Common.{ℕ, ◌≡◌, ◌≢◌, ◌<◌, List, true, false, refl, sym, ap, ◌∙◌, ◌⊎◌, inl, inr, subst, arith, length, set, slice_index_or}
+use Rattle.std.proofs.Common.{ℕ, ◌≡◌, ◌≢◌, ◌<◌, List, true, false, refl, sym, ap, ◌∙◌, ◌⊎◌, inl, inr, subst, arith, length, set}
 use Rattle.std.proofs.Common.{get_or-set_same}
 use Rattle.std.specs.Prelude.{not}
 use Rattle.std.proofs.lemmas.Bool.{cases_eq, and_parts, not-true, both_ways}
@@ -14,6 +14,7 @@ use Rattle.regalloc2_names.specs.Operand.{OperandValue, is_def, is_late, is_read
 use Rattle.regalloc2_names.specs.Packing.{IsConstraintOf}
 use Rattle.regalloc2_names.specs.Place.{Place, NoPlace, InRegister, InSlot, before, after}
 use Rattle.regalloc2_function.specs.Machine.{MachineValue, IsStackPlace, IsPlainRegister}
+use Rattle.regalloc2_function.specs.OutputValue.{place_at}
 use Rattle.regalloc2_fastalloc_state.specs.declared.inst_regs.InstRegs.{InstRegs}
 use Rattle.regalloc2_fastalloc_state.specs.declared.request.Requirement.TheVariants.{InPReg}
 use Rattle.regalloc2_fastalloc_state.specs.StateParts.{SpillSlotsValue, alloc_of}
@@ -22,10 +23,6 @@ use Rattle.regalloc2_fastalloc_proofs.specs.InstSteps.{StateValue, requirement_o
 use Rattle.regalloc2_fastalloc_proofs.specs.Safety.{IsOfMachine, MayBeLocatedAt, IsSafe, AreSafeRegs}
 use Rattle.regalloc2_fastalloc_proofs.proofs.Slots.SlotsGrow.{SlotsStay, may_be_located_grows}
 use Rattle.regalloc2_fastalloc_proofs.proofs.Safety.OperandKeepsSafe.{AnswersRequirement}
-
--- the place of operand k in a list of places: none where the list ends before it
-abbrev pub at_place : List Place → ℕ → Place
-at_place places k = slice_index_or places k NoPlace
 
 -- The operands of an instruction of a well-formed function: a number isn't read where it is defined;
 -- a reuse is a late definition that names an early use of its class, under Reg or FixedReg, which no other reuse names.
@@ -134,10 +131,10 @@ pub record Filled (env : MachineValue) (Known : VirtualRegister → Type 0) (Wri
   pub safe : IsSafe env Known Writes May t
   pub inst_regs : AreSafeRegs env u
   pub long : length there ≡ length ops
-  pub good : (j : ℕ) → j < length ops → done j → IsGood env t.slots (op_at ops j) (at_place there j)
-  pub shared : (j n : ℕ) → j < length ops → done j → (op_at ops j).constraint ≡ Reuse n → at_place there j ≡ at_place there n
-  pub waits : (j : ℕ) → j < length ops → (done j → ⊥) → (at_place there j ≡ NoPlace)
-      ⊎ (IsGood env t.slots (op_at ops j) (at_place there j) × IsInRegister (at_place there j))
+  pub good : (j : ℕ) → j < length ops → done j → IsGood env t.slots (op_at ops j) (place_at there j)
+  pub shared : (j n : ℕ) → j < length ops → done j → (op_at ops j).constraint ≡ Reuse n → place_at there j ≡ place_at there n
+  pub waits : (j : ℕ) → j < length ops → (done j → ⊥) → (place_at there j ≡ NoPlace)
+      ⊎ (IsGood env t.slots (op_at ops j) (place_at there j) × IsInRegister (place_at there j))
   pub found : (j : ℕ) → j < length ops → done j → is_reading (op_at ops j) ≡ true → alloc_of t.places (op_at ops j).vreg.number ≢ NoPlace
 
 -- The slots that an instruction may write: after it, the slots of the vregs that it defines; before it, the slots in
@@ -147,7 +144,7 @@ DefsAreWritten Writes i ops = (k n : ℕ) → k < length ops → is_def (op_at o
 
 -- before the instruction a vreg's value may be written to each slot in which a use reads it
 abbrev pub UsesAreWritten : (ℕ → VirtualRegister → ℕ → Type 0) → ℕ → List OperandValue → List Place → Type 0
-UsesAreWritten Writes i ops places = (k n : ℕ) → k < length ops → is_reading (op_at ops k) ≡ true → at_place places k ≡ InSlot n →
+UsesAreWritten Writes i ops places = (k n : ℕ) → k < length ops → is_reading (op_at ops k) ≡ true → place_at places k ≡ InSlot n →
     Writes (before i) (op_at ops k).vreg n
 
 -- a place that meets a reuse constraint is a register
@@ -200,11 +197,11 @@ module _ (filling : FillingContext) where
     safe = safe;
     inst_regs = inst_regs;
     long = h.long;
-    good = λ j less d. good_grows env old.slots new.slots (op_at ops j) (at_place there j) stay (h.good j less d);
+    good = λ j less d. good_grows env old.slots new.slots (op_at ops j) (place_at there j) stay (h.good j less d);
     shared = h.shared;
     waits = λ j less not_d. elim (h.waits j less not_d) [
       | inl none ↦ inl none
-      | inr g ↦ inr (good_grows env old.slots new.slots (op_at ops j) (at_place there j) stay g.0, g.1)
+      | inr g ↦ inr (good_grows env old.slots new.slots (op_at ops j) (place_at there j) stay g.0, g.1)
     ];
     found = λ j less d reads. standing j less reads (h.found j less d reads);
   }
@@ -220,7 +217,7 @@ module _ (filling : FillingContext) where
   pub written : (D E : ℕ → Type 0) (k : ℕ) (p : Place) (here : List Place) (u : InstRegs) (t : StateValue) → k < length ops → OneMore D E k →
       ((n : ℕ) → (op_at ops k).constraint ≡ Reuse n → ⊥)
       → IsGood env t.slots (op_at ops k) p → (is_reading (op_at ops k) ≡ true → alloc_of t.places (op_at ops k).vreg.number ≢ NoPlace)
-      → ((j : ℕ) → j < length ops → D j → (op_at ops j).constraint ≡ Reuse k → p ≡ at_place here k)
+      → ((j : ℕ) → j < length ops → D j → (op_at ops j).constraint ≡ Reuse k → p ≡ place_at here k)
       → Filled env Known Writes May ops D here u t → Filled env Known Writes May ops E (set here k p) u t
   written D E k p here u t lt more no_reuse good found kept h = record {
     safe = h.safe;
@@ -228,12 +225,12 @@ module _ (filling : FillingContext) where
     long = length-set here k p ∙ h.long;
     good = λ j less e. elim (more.back j e) [
       | inl d ↦ subst (IsGood env t.slots (op_at ops j)) (sym (elsewhere j (not_k j d))) (h.good j less d)
-      | inr same ↦ subst (λ (n : ℕ). IsGood env t.slots (op_at ops n) (at_place (set here k p) n)) (sym same)
+      | inr same ↦ subst (λ (n : ℕ). IsGood env t.slots (op_at ops n) (place_at (set here k p) n)) (sym same)
           (subst (IsGood env t.slots (op_at ops k)) (sym there) good)
     ];
     shared = λ j n less e is. elim (more.back j e) [
       | inl d ↦ (elsewhere j (not_k j d) ∙ h.shared j n less d is ∙ elim (cases_eq n k) [
-        | inl same ↦ (ap (at_place here) same ∙ sym (kept j less d (is ∙ ap Reuse same)) ∙ sym there ∙ ap (at_place (set here k p)) (sym same))
+        | inl same ↦ (ap (place_at here) same ∙ sym (kept j less d (is ∙ ap Reuse same)) ∙ sym there ∙ ap (place_at (set here k p)) (sym same))
         | inr ne ↦ sym (elsewhere n ne)
       ])
       | inr same ↦ absurd (no_reuse n (ap (λ (m : ℕ). (op_at ops m).constraint) (sym same) ∙ is))
@@ -249,10 +246,10 @@ module _ (filling : FillingContext) where
     ];
   }
     where
-      there : at_place (set here k p) k ≡ p
+      there : place_at (set here k p) k ≡ p
       there = get_or-set_same here k p NoPlace (let n = h.long in omega (arith, n, lt))
 
-      elsewhere : (j : ℕ) → j ≢ k → at_place (set here k p) j ≡ at_place here j
+      elsewhere : (j : ℕ) → j ≢ k → place_at (set here k p) j ≡ place_at here j
       elsewhere j ne = get_or-set_other here k j p NoPlace ne
 
       not_k : (j : ℕ) → D j → j ≢ k
@@ -269,22 +266,22 @@ module _ (filling : FillingContext) where
     long = length-set (set here k p) n p ∙ length-set here k p ∙ h.long;
     good = λ j less e. elim (more.back j e) [
       | inl d ↦ subst (IsGood env t.slots (op_at ops j)) (sym (elsewhere j (not_k j d) (not_named j d))) (h.good j less d)
-      | inr same ↦ subst (λ (m : ℕ). IsGood env t.slots (op_at ops m) (at_place (set (set here k p) n p) m)) (sym same)
+      | inr same ↦ subst (λ (m : ℕ). IsGood env t.slots (op_at ops m) (place_at (set (set here k p) n p) m)) (sym same)
           (subst (IsGood env t.slots (op_at ops k)) (sym there) good)
     ];
     shared = λ j m less e is. elim (more.back j e) [
       | inl d ↦ (elsewhere j (not_k j d) (not_named j d) ∙ h.shared j m less d is
           ∙ sym (elsewhere m (names_no_def j m less is) (λ same. not_k j d (sound_ops.apart j k n less lt (is ∙ ap Reuse same) reuses))))
       | inr same ↦ (let one : m ≡ n = same_reuse m n (sym is ∙ ap (λ (x : ℕ). (op_at ops x).constraint) same ∙ reuses) in
-          ap (at_place (set (set here k p) n p)) same ∙ there ∙ sym there_n ∙ ap (at_place (set (set here k p) n p)) (sym one))
+          ap (place_at (set (set here k p) n p)) same ∙ there ∙ sym there_n ∙ ap (place_at (set (set here k p) n p)) (sym one))
     ];
     waits = λ j less not_e.
         let ne : j ≢ k = λ same. not_e (subst E (sym same) more.at_it) in
         elim (cases_eq j n) [
           | inl same ↦ inr (
-            subst (λ (m : ℕ). IsGood env t.slots (op_at ops m) (at_place (set (set here k p) n p) m)) (sym same)
+            subst (λ (m : ℕ). IsGood env t.slots (op_at ops m) (place_at (set (set here k p) n p) m)) (sym same)
                 (subst (IsGood env t.slots (op_at ops n)) (sym there_n) good_n),
-            subst (λ (m : ℕ). IsInRegister (at_place (set (set here k p) n p) m)) (sym same) (subst IsInRegister (sym there_n) register),
+            subst (λ (m : ℕ). IsInRegister (place_at (set (set here k p) n p) m)) (sym same) (subst IsInRegister (sym there_n) register),
           )
           | inr other ↦ subst (λ (x : Place). (x ≡ NoPlace) ⊎ (IsGood env t.slots (op_at ops j) x × IsInRegister x)) (sym (elsewhere j ne other))
               (h.waits j less (λ d. not_e (more.forth j d)))
@@ -307,13 +304,13 @@ module _ (filling : FillingContext) where
       names_no_def j m less is same = both_ways (is_late (op_at ops k).position)
           (ap (λ (x : ℕ). is_late (op_at ops x).position) (sym same) ∙ (sound_ops.named j m less is).1) (sound_ops.late_reuse k n lt reuses).1
 
-      there : at_place (set (set here k p) n p) k ≡ p
+      there : place_at (set (set here k p) n p) k ≡ p
       there = get_or-set_other (set here k p) n k p NoPlace (λ e. apart_k (sym e)) ∙ get_or-set_same here k p NoPlace (let l = h.long in omega (arith, l, lt))
 
-      there_n : at_place (set (set here k p) n p) n ≡ p
+      there_n : place_at (set (set here k p) n p) n ≡ p
       there_n = get_or-set_same (set here k p) n p NoPlace (let l = h.long in let q = length-set here k p in let w = n_within in omega (arith, l, q, w))
 
-      elsewhere : (j : ℕ) → j ≢ k → j ≢ n → at_place (set (set here k p) n p) j ≡ at_place here j
+      elsewhere : (j : ℕ) → j ≢ k → j ≢ n → place_at (set (set here k p) n p) j ≡ place_at here j
       elsewhere j ne other = get_or-set_other (set here k p) n j p NoPlace other ∙ get_or-set_other here k j p NoPlace ne
 
       not_k : (j : ℕ) → D j → j ≢ k

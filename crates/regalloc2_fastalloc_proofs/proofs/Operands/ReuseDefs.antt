@@ -16,7 +16,7 @@ use Rattle.regalloc2_carry.proofs.AllowedPlaces.{clear_free, clear_reuse, reuse_
 use Rattle.regalloc2_fastalloc_state.specs.declared.inst_regs.InstRegs.{InstRegs}
 use Rattle.regalloc2_fastalloc_state.specs.declared.positions.Positions.{Positions}
 use Rattle.regalloc2_fastalloc_state.specs.declared.request.Requirement.{Requirement}
-use Rattle.regalloc2_fastalloc_state.specs.declared.request.Requirement.TheVariants.{AnyPlace, AnyReg, InMemory, InPReg}
+use Rattle.regalloc2_fastalloc_state.specs.declared.request.Requirement.TheVariants.{AnyPlace, AnyReg, OnStack, InPReg}
 use Rattle.regalloc2_fastalloc_state.specs.declared.request.OperandRequest.{OperandRequest}
 use Rattle.regalloc2_function.specs.FunctionValue.{op_at}
 use Rattle.regalloc2_fastalloc_proofs.specs.InstSteps.{StateValue, MeetsRequirement, SelectsPlace, stays, fixed, slot, free, ClaimsPlace, in_slot}
@@ -75,8 +75,8 @@ selects_place_register t o p old new w (stays x su en) = elim w [
 ]
 selects_place_register t o p old new w (fixed r a e en) = (r, e)
 selects_place_register t o p old new w (slot h g e ed machine order) = absurd (elim w [
-  | inl a ↦ elim h [ inl b ↦ (let x : AnyReg ≡ AnyPlace = sym a ∙ b in cc) | inr b ↦ (let x : AnyReg ≡ InMemory = sym a ∙ b in cc) ]
-  | inr a ↦ elim h [ inl b ↦ (let x : InPReg a.0 ≡ AnyPlace = sym a.1 ∙ b in cc) | inr b ↦ (let x : InPReg a.0 ≡ InMemory = sym a.1 ∙ b in cc) ]
+  | inl a ↦ elim h [ inl b ↦ (let x : AnyReg ≡ AnyPlace = sym a ∙ b in cc) | inr b ↦ (let x : AnyReg ≡ OnStack = sym a ∙ b in cc) ]
+  | inr a ↦ elim h [ inl b ↦ (let x : InPReg a.0 ≡ AnyPlace = sym a.1 ∙ b in cc) | inr b ↦ (let x : InPReg a.0 ≡ OnStack = sym a.1 ∙ b in cc) ]
 ])
 selects_place_register t o p old new w (free r h away may fr first e en) = (r, e)
 
@@ -183,7 +183,7 @@ module _ (laying : LayingContext) (late : Bool) (k : ℕ) (list : List Place) (u
     named_clear r p middle at (fixed g w e en) = let x : AnyReg ≡ InPReg g = ap reuse_requirement_of (sym any) ∙ w in absurd cc
     named_clear r p middle at (slot h g e ed machine order) = absurd (elim h [
       | inl b ↦ (let x : AnyReg ≡ AnyPlace = ap reuse_requirement_of (sym any) ∙ b in cc)
-      | inr b ↦ (let x : AnyReg ≡ InMemory = ap reuse_requirement_of (sym any) ∙ b in cc)
+      | inr b ↦ (let x : AnyReg ≡ OnStack = ap reuse_requirement_of (sym any) ∙ b in cc)
     ])
     named_clear r p middle at (free g h away may fr first e en) =
         let x : InRegister g ≡ InRegister r = sym e ∙ at in let same : g ≡ r = cc in

@@ -9,7 +9,7 @@ use Rattle.regalloc2_semantics.proofs.Cells.{is_place-true, is_place-same}
 use Rattle.regalloc2_fastalloc_state.specs.declared.inst_regs.InstRegs.{InstRegs}
 use Rattle.regalloc2_fastalloc_state.specs.declared.positions.Positions.{Positions}
 use Rattle.regalloc2_fastalloc_state.specs.declared.request.Requirement.{Requirement}
-use Rattle.regalloc2_fastalloc_state.specs.declared.request.Requirement.TheVariants.{AnyPlace, AnyReg, InMemory, InPReg}
+use Rattle.regalloc2_fastalloc_state.specs.declared.request.Requirement.TheVariants.{AnyPlace, AnyReg, OnStack, InPReg}
 use Rattle.regalloc2_fastalloc_state.specs.declared.request.OperandRequest.{OperandRequest}
 use Rattle.regalloc2_fastalloc_state.specs.InstRegs.{SameAvailable, RemovesAvailable}
 use Rattle.regalloc2_fastalloc_proofs.specs.InstSteps.{StateValue, MeetsRequirement, is_stack_in, ClaimsPlace, in_slot, in_register}
@@ -34,7 +34,7 @@ meets_requirement_any t w p b e there same = rw e (by_place p b there same)
     by_place (InSlot n) b there same = (λ h. absurd (let f = not-true b h in cc), λ s. absurd (let f = s.1 in cc))
 
 -- a place meets the requirement of a stack place exactly if it is on the stack
-pub meets_requirement_memory : (t : StateValue) (w : Requirement) (p : Place) (b : Bool) → w ≡ InMemory → b ≡ is_stack_in t p →
+pub meets_requirement_memory : (t : StateValue) (w : Requirement) (p : Place) (b : Bool) → w ≡ OnStack → b ≡ is_stack_in t p →
     (IsTrue b → MeetsRequirement t w p)
     × (MeetsRequirement t w p → IsTrue b)
 unfolding MeetsRequirement
@@ -55,14 +55,14 @@ pub meets_requirement_is_place : (t : StateValue) (w : Requirement) (p : Place) 
 unfolding MeetsRequirement
 meets_requirement_is_place t AnyPlace p s = s
 meets_requirement_is_place t AnyReg p s = λ e. let f = sym s.1 ∙ e in cc
-meets_requirement_is_place t InMemory p s = λ e. let f = sym (ap (is_stack_in t) e) ∙ s in cc
+meets_requirement_is_place t OnStack p s = λ e. let f = sym (ap (is_stack_in t) e) ∙ s in cc
 meets_requirement_is_place t (InPReg r) p s = λ e. let f = sym s ∙ e in cc
 
 -- the remaining requirements, if it is neither a specific nor any register
-pub wanted_rest : (w : Requirement) → ((r : Register) → w ≡ InPReg r → ⊥) → (w ≡ AnyReg → ⊥) → (w ≡ AnyPlace) ⊎ (w ≡ InMemory)
+pub wanted_rest : (w : Requirement) → ((r : Register) → w ≡ InPReg r → ⊥) → (w ≡ AnyReg → ⊥) → (w ≡ AnyPlace) ⊎ (w ≡ OnStack)
 wanted_rest AnyPlace a b = inl refl
 wanted_rest AnyReg a b = absurd (b refl)
-wanted_rest InMemory a b = inr refl
+wanted_rest OnStack a b = inr refl
 wanted_rest (InPReg r) a b = absurd (a r refl)
 
 -- a place that is neither none nor a register is a spill slot

@@ -5,6 +5,7 @@ use Rattle.regalloc2_names.specs.Register.{Register, VirtualRegister}
 use Rattle.regalloc2_names.specs.Operand.{OperandValue, is_reading}
 use Rattle.regalloc2_names.specs.Place.{Place, NoPlace, is_place}
 use Rattle.regalloc2_semantics.proofs.Cells.{is_place-same}
+use Rattle.regalloc2_function.specs.OutputValue.{place_at}
 use Rattle.regalloc2_fastalloc_state.specs.declared.inst_regs.InstRegs.{InstRegs}
 use Rattle.regalloc2_fastalloc_state.specs.StateParts.{alloc_of}
 use Rattle.regalloc2_function.specs.FunctionValue.{op_at}
@@ -13,7 +14,7 @@ use Rattle.regalloc2_fastalloc_proofs.specs.Safety.{MayBeLocatedAt, IsEndOfMove,
 use Rattle.regalloc2_fastalloc_proofs.proofs.Safety.StepsKeepSafe.{StepKept, evicts_preg_kept, may_be_located_is_end, may_be_located_if_place, rules_of, safe_used}
 use Rattle.regalloc2_fastalloc_proofs.proofs.Slots.SlotsGrow.{end_grows, changes_stay}
 use Rattle.regalloc2_fastalloc_proofs.proofs.Slots.LocatedStaysLocated.{changes_last}
-use Rattle.regalloc2_fastalloc_proofs.proofs.Operands.AllocsSoFar.{at_place, AreSoundOperands, reads_allocated}
+use Rattle.regalloc2_fastalloc_proofs.proofs.Operands.AllocsSoFar.{AreSoundOperands, reads_allocated}
 use Rattle.regalloc2_fastalloc_proofs.proofs.Safety.InstKeepsSafe.{moves_uses_kept as all_kept_safe}
 use Rattle.regalloc2_fastalloc_proofs.specs.Pressure.EnoughRegs.{HasEnoughRegs, AllWrite, AllMay, AreSafe}
 use Rattle.regalloc2_fastalloc_proofs.proofs.Safety.StepsKeepMachine.{machine_stays}
@@ -63,7 +64,7 @@ module _ (demand : Demand) where
   -- the moves of uses
   module _ (ops : List OperandValue) (sound_ops : AreSoundOperands Known ops) (here : List Place) (t : InstRegs) (old : StateValue) (h : AreSafe env Known old)
       (all : HasAll env old) (ht : AreSafeRegs env t)
-      (good : (j : ℕ) → j < length ops → is_reading (op_at ops j) ≡ true → MayBeLocatedAt env old.slots (op_at ops j).vreg (at_place here j))
+      (good : (j : ℕ) → j < length ops → is_reading (op_at ops j) ≡ true → MayBeLocatedAt env old.slots (op_at ops j).vreg (place_at here j))
       (found : (j : ℕ) → j < length ops → is_reading (op_at ops j) ≡ true → alloc_of old.places (op_at ops j).vreg.number ≢ NoPlace)
       (a : HasEnoughRegs Named needed t old) where
     moves_uses_kept : (k : ℕ) (u : InstRegs) (m : StateValue) → MovesUses point ops here t old k u m → k ≤ length ops → StepKept env Known AllWrite AllMay u m
@@ -72,18 +73,18 @@ module _ (demand : Demand) where
     -- the ends of a use's move
     ends : (j k : ℕ) (m : StateValue) (u : InstRegs) → MovesUses point ops here t old k u m → k ≤ length ops → j < length ops →
         is_reading (op_at ops j) ≡ true →
-        not (is_place (alloc_of m.places (op_at ops j).vreg.number) (at_place here j)) ≡ true
+        not (is_place (alloc_of m.places (op_at ops j).vreg.number) (place_at here j)) ≡ true
         → IsEndOfMove env m.slots (op_at ops j).vreg (alloc_of m.places (op_at ops j).vreg.number)
-        × IsEndOfMove env m.slots (op_at ops j).vreg (at_place here j) × (alloc_of m.places (op_at ops j).vreg.number ≡ at_place here j → ⊥)
+        × IsEndOfMove env m.slots (op_at ops j).vreg (place_at here j) × (alloc_of m.places (op_at ops j).vreg.number ≡ place_at here j → ⊥)
     ends j k m u moves le less reads made =
         let v : VirtualRegister = (op_at ops j).vreg in
         let from : Place = alloc_of m.places v.number in (
           may_be_located_is_end env m.slots v from (may_be_located_if_place env m.slots v from
               (changes_last v.number (moves_uses_changes (λ q r. tt) (λ n lt is q. tt) moves) (found j less reads))
               ((moves_uses_kept k u m moves le).safe.places v (sound_ops.known j less (reads_allocated (op_at ops j) reads)))),
-          end_grows env old.slots m.slots v (at_place here j) (changes_stay (moves_uses_changes (λ q r. tt) (λ n lt is q. tt) moves))
-              (may_be_located_is_end env old.slots v (at_place here j) (good j less reads)),
-          not_is_place_differs from (at_place here j) made,
+          end_grows env old.slots m.slots v (place_at here j) (changes_stay (moves_uses_changes (λ q r. tt) (λ n lt is q. tt) moves))
+              (may_be_located_is_end env old.slots v (place_at here j) (good j less reads)),
+          not_is_place_differs from (place_at here j) made,
         )
 
     -- moving the uses among the first k operands leaves enough registers

@@ -14,16 +14,16 @@ use Rattle.regalloc2_names.specs.Operand.{OperandValue, is_fixed_nonallocatable}
 use Rattle.regalloc2_names.specs.Place.{Place, InRegister, InSlot}
 use Rattle.regalloc2_semantics.proofs.Cells.{is_register-same}
 use Rattle.regalloc2_function.specs.Machine.{MachineValue, IsStackPlace}
+use Rattle.regalloc2_function.specs.OutputValue.{place_at}
 use Rattle.regalloc2_fastalloc_state.specs.declared.inst_regs.InstRegs.{InstRegs}
 use Rattle.regalloc2_fastalloc_state.specs.declared.request.Requirement.{Requirement}
-use Rattle.regalloc2_fastalloc_state.specs.declared.request.Requirement.TheVariants.{AnyPlace, AnyReg, InMemory, InPReg}
+use Rattle.regalloc2_fastalloc_state.specs.declared.request.Requirement.TheVariants.{AnyPlace, AnyReg, OnStack, InPReg}
 use Rattle.regalloc2_fastalloc_state.specs.declared.request.OperandRequest.{OperandRequest}
 use Rattle.regalloc2_fastalloc_state.specs.InstRegs.{is_free, free_count, awaited_of, is_free_throughout}
 use Rattle.regalloc2_function.specs.FunctionValue.{op_at}
 use Rattle.regalloc2_fastalloc_proofs.specs.InstSteps.{StateValue, scratch_reserve_left, awaited_less, AllocsOperand, ClaimsPlace, in_slot, in_register}
 use Rattle.regalloc2_fastalloc_proofs.specs.Safety.{MayBeLocatedAt}
 use Rattle.regalloc2_fastalloc_proofs.proofs.Moves.ScratchRegTaken.{Less}
-use Rattle.regalloc2_fastalloc_proofs.proofs.Operands.AllocsSoFar.{at_place}
 use Rattle.regalloc2_fastalloc_proofs.proofs.Safety.OperandKeepsSafe.{AnswersRequirement}
 use Rattle.regalloc2_fastalloc_proofs.specs.Pressure.EnoughRegs.{HasEnoughRegs, waiting}
 use Rattle.regalloc2_fastalloc_proofs.proofs.Pressure.TablesHaveAllRegs.{HasAll}
@@ -35,9 +35,9 @@ use Rattle.regalloc2_fastalloc_proofs.proofs.Pressure.ClaimLeavesEnough.{IsPaid}
 pub record Paying (Named : RegClass → Type 0) (ops : List OperandValue) (done : ℕ → Type 0) (here : List Place) (u : InstRegs) (t : StateValue) : Type 0 where
   pub ample : HasEnoughRegs Named (waiting ops here) u t
   pub awaited : (c : RegClass) → awaited_of u c ≡ waiting ops here c
-  pub placed_unfree : (j : ℕ) (r : Register) → j < length ops → is_fixed_nonallocatable (op_at ops j) ≡ false → (at_place here j ≡ InRegister r)
+  pub placed_unfree : (j : ℕ) (r : Register) → j < length ops → is_fixed_nonallocatable (op_at ops j) ≡ false → (place_at here j ≡ InRegister r)
       ⊎ ((op_at ops j).constraint ≡ FixedReg r) → is_free t.allocatable u r ≡ false
-  pub named : (j : ℕ) (r : Register) → j < length ops → (done j → ⊥) → at_place here j ≡ InRegister r → (m : ℕ) × (m < length ops) × done m
+  pub named : (j : ℕ) (r : Register) → j < length ops → (done j → ⊥) → place_at here j ≡ InRegister r → (m : ℕ) × (m < length ops) × done m
       × ((op_at ops m).constraint ≡ Reuse j)
 
 -- what is held stays held
@@ -78,7 +78,7 @@ pub data Pays (ops : List OperandValue) (here there : List Place) (v : VirtualRe
   waited : w ≡ AnyReg → waiting ops here v.class ≡ waiting ops there v.class + 1 →
       ((c : RegClass) → (class_code c ≡ class_code v.class → ⊥) → waiting ops there c ≡ waiting ops here c) → Pays ops here there v w t old
   anywhere : w ≡ AnyPlace → ((c : RegClass) → waiting ops there c ≡ waiting ops here c) → Pays ops here there v w t old
-  memory : w ≡ InMemory → ((c : RegClass) → waiting ops there c ≡ waiting ops here c) → Pays ops here there v w t old
+  memory : w ≡ OnStack → ((c : RegClass) → waiting ops there c ≡ waiting ops here c) → Pays ops here there v w t old
   at_one : (r : Register) → w ≡ InPReg r → is_free old.allocatable t r ≡ false → ((c : RegClass) → waiting ops there c ≡ waiting ops here c) →
       Pays ops here there v w t old
 

@@ -12,6 +12,7 @@ use Rattle.regalloc2_names.specs.Operand.{OperandValue, is_def, is_late, is_read
 use Rattle.regalloc2_names.specs.Place.{Place, NoPlace, InRegister, InSlot}
 use Rattle.regalloc2_semantics.specs.Fits.{is_under_reg}
 use Rattle.regalloc2_function.specs.Machine.{MachineValue, IsPlainRegister}
+use Rattle.regalloc2_function.specs.OutputValue.{place_at}
 use Rattle.regalloc2_fastalloc_state.specs.declared.inst_regs.InstRegs.{InstRegs}
 use Rattle.regalloc2_fastalloc_state.specs.declared.request.Requirement.{Requirement}
 use Rattle.regalloc2_fastalloc_state.specs.declared.request.Requirement.TheVariants.{AnyReg, InPReg}
@@ -19,7 +20,7 @@ use Rattle.regalloc2_function.specs.FunctionValue.{op_at}
 use Rattle.regalloc2_fastalloc_proofs.specs.InstSteps.{StateValue, requirement_of, reuse_requirement_of, use_request}
 use Rattle.regalloc2_fastalloc_proofs.specs.Safety.{IsOfMachine, MayBeLocatedAt}
 use Rattle.regalloc2_fastalloc_proofs.proofs.Safety.OperandKeepsSafe.{AnswersRequirement}
-use Rattle.regalloc2_fastalloc_proofs.proofs.Operands.AllocsSoFar.{at_place, AreSoundOperands, Filled, FixedAreKnown, reads_allocated, requires_fixed_reg}
+use Rattle.regalloc2_fastalloc_proofs.proofs.Operands.AllocsSoFar.{AreSoundOperands, Filled, FixedAreKnown, reads_allocated, requires_fixed_reg}
 use Rattle.regalloc2_fastalloc_proofs.proofs.Operands.AllocsSoFar.{reuse_requires_fixed_reg, fixed_class}
 use Rattle.regalloc2_fastalloc_proofs.proofs.Safety.OperandPassesKeepSafe.{a_place_of}
 use Rattle.regalloc2_fastalloc_proofs.specs.Pressure.EnoughRegs.{waits, waiting, AllWrite, AllMay}
@@ -76,7 +77,7 @@ module _ (env : MachineValue) (Known : VirtualRegister → Type 0) (ops : List O
 
     -- an operand that has no place yet, and is no reuse
     module _ (allocated : is_fixed_nonallocatable (op_at ops k) ≡ false) (no_reuse : (n : ℕ) → (op_at ops k).constraint ≡ Reuse n → ⊥)
-        (none : at_place here k ≡ NoPlace) where
+        (none : place_at here k ≡ NoPlace) where
       by_constraint : (c : OperandConstraint) → (op_at ops k).constraint ≡ c → (q : Place) → AnswersRequirement env (requirement_of c) q →
           Pays ops here (set here k q) (op_at ops k).vreg (requirement_of c) t old
       by_constraint Any e q a = anywhere refl (waiting_unchanged here k q h.long (not_under (op_at ops k).constraint Any e refl))
@@ -104,7 +105,7 @@ module _ (env : MachineValue) (Known : VirtualRegister → Type 0) (ops : List O
       }
 
     -- a use for which a reuse has chosen a register
-    chosen_ready : (r : Register) → is_reading (op_at ops k) ≡ true → at_place here k ≡ InRegister r →
+    chosen_ready : (r : Register) → is_reading (op_at ops k) ≡ true → place_at here k ≡ InRegister r →
         MayBeLocatedAt env old.slots (op_at ops k).vreg (InRegister r) → Ready (op_at ops k).vreg (InPReg r) here (λ q. set here k q) t old
     chosen_ready r reads at stand = record {
       known = sound_ops.known k lt (reads_allocated (op_at ops k) reads);
@@ -117,22 +118,22 @@ module _ (env : MachineValue) (Known : VirtualRegister → Type 0) (ops : List O
     }
 
     -- a use
-    pub use_ready : is_reading (op_at ops k) ≡ true → Ready (use_request (op_at ops k) (at_place here k)).vreg
-        (use_request (op_at ops k) (at_place here k)).requirement here (λ q. set here k q) t old
+    pub use_ready : is_reading (op_at ops k) ≡ true → Ready (use_request (op_at ops k) (place_at here k)).vreg
+        (use_request (op_at ops k) (place_at here k)).requirement here (λ q. set here k q) t old
     use_ready reads = elim (h.waits k lt undone) [
       | inl none ↦ subst (λ x. Ready (use_request (op_at ops k) x).vreg (use_request (op_at ops k) x).requirement here (λ q. set here k q) t old) (sym none)
           (asked_ready (reads_allocated (op_at ops k) reads) (λ n e. both_ways (is_def (op_at ops k).kind)
           (reads_use (op_at ops k) reads) (sound_ops.late_reuse k n lt e).0) none)
-      | inr g ↦ (let r = a_place_of (at_place here k) g.1 in
+      | inr g ↦ (let r = a_place_of (place_at here k) g.1 in
           subst (λ x. Ready (use_request (op_at ops k) x).vreg (use_request (op_at ops k) x).requirement here (λ q. set here k q) t old) (sym r.1)
           (chosen_ready r.0 reads r.1 (subst (MayBeLocatedAt env old.slots (op_at ops k).vreg) r.1 (g.0.place (reads_allocated (op_at ops k) reads)))))
     ]
 
     -- a definition has no place yet
-    def_blank : is_def (op_at ops k).kind ≡ true → at_place here k ≡ NoPlace
+    def_blank : is_def (op_at ops k).kind ≡ true → place_at here k ≡ NoPlace
     def_blank def = elim (h.waits k lt undone) [
       | inl none ↦ none
-      | inr g ↦ (let r = a_place_of (at_place here k) g.1 in let m = p.named k r.0 lt undone r.1 in
+      | inr g ↦ (let r = a_place_of (place_at here k) g.1 in let m = p.named k r.0 lt undone r.1 in
           absurd (both_ways (is_def (op_at ops k).kind) (reads_use (op_at ops k) (sound_ops.named m.0 k m.1 m.3).2) def))
     ]
 
@@ -143,10 +144,10 @@ module _ (env : MachineValue) (Known : VirtualRegister → Type 0) (ops : List O
 
     -- a reuse, and the use that it names
     module _ (n : ℕ) (def : is_def (op_at ops k).kind ≡ true) (reuses : (op_at ops k).constraint ≡ Reuse n) (not_n : D n → ⊥) where
-      named_blank : at_place here n ≡ NoPlace
+      named_blank : place_at here n ≡ NoPlace
       named_blank = elim (h.waits n (sound_ops.named k n lt reuses).0 not_n) [
         | inl none ↦ none
-        | inr g ↦ (let r = a_place_of (at_place here n) g.1 in let m = p.named n r.0 (sound_ops.named k n lt reuses).0 not_n r.1 in
+        | inr g ↦ (let r = a_place_of (place_at here n) g.1 in let m = p.named n r.0 (sound_ops.named k n lt reuses).0 not_n r.1 in
             absurd (undone (subst D (sound_ops.apart m.0 k n m.1 lt m.3 reuses) m.2)))
       ]
 
@@ -186,11 +187,11 @@ module _ (env : MachineValue) (Known : VirtualRegister → Type 0) (ops : List O
           (λ x. waiting_unchanged (set here k q) n q (long_too q) (not_under (op_at ops n).constraint (FixedReg f.0) (e ∙ f.1) refl) x
           ∙ waiting_unchanged here k q h.long no_reg x)
 
-      asks_some : (c : OperandConstraint) → (op_at ops n).constraint ≡ c → (c ≡ Reg) ⊎ ((r : Register) × (c ≡ FixedReg r)) → reuse_requirement_of c ≡ AnyReg →
+      needs_at_some_position : (c : OperandConstraint) → (op_at ops n).constraint ≡ c → (c ≡ Reg) ⊎ ((r : Register) × (c ≡ FixedReg r)) → reuse_requirement_of c ≡ AnyReg →
           0 < waiting ops here (op_at ops k).vreg.class
-      asks_some c e (inl reg) any = subst (λ (x : RegClass). 0 < waiting ops here x) same_class
+      needs_at_some_position c e (inl reg) any = subst (λ (x : RegClass). 0 < waiting ops here x) same_class
           (some_wait ops here (op_at ops n).vreg.class n (sound_ops.named k n lt reuses).0 (waits_here ops here n (ap is_under_reg (e ∙ reg)) named_blank))
-      asks_some c e (inr f) any = (let x : InPReg f.0 ≡ AnyReg = ap reuse_requirement_of (sym f.1) ∙ any in absurd cc)
+      needs_at_some_position c e (inr f) any = (let x : InPReg f.0 ≡ AnyReg = ap reuse_requirement_of (sym f.1) ∙ any in absurd cc)
 
       -- a reuse meets this before it gets a place, which its use gets too
       pub reuse_ready : Ready (op_at ops k).vreg (reuse_requirement_of (op_at ops n).constraint) here (λ q. set (set here k q) n q) t old
@@ -200,6 +201,6 @@ module _ (env : MachineValue) (Known : VirtualRegister → Type 0) (ops : List O
           fixed n r (sound_ops.named k n lt reuses).0 (reads_allocated (op_at ops n) (sound_ops.named k n lt reuses).2) e,
           fixed_class (op_at ops n).vreg.class (op_at ops n).constraint r (sound_ops.constraint n (sound_ops.named k n lt reuses).0) e ∙ same_class,
         ));
-        some = asks_some (op_at ops n).constraint refl (sound_ops.named_as k n lt reuses);
+        some = needs_at_some_position (op_at ops n).constraint refl (sound_ops.named_as k n lt reuses);
         pays = λ q a. by_named (op_at ops n).constraint refl (sound_ops.named_as k n lt reuses) q a;
       }

@@ -13,6 +13,7 @@ use Rattle.regalloc2_names.specs.Operand.{OperandValue, is_def, is_reading, is_f
 use Rattle.regalloc2_names.specs.Place.{Place, NoPlace, InRegister, InSlot, after}
 use Rattle.regalloc2_semantics.specs.Fits.{is_under_reg}
 use Rattle.regalloc2_function.specs.Machine.{MachineValue}
+use Rattle.regalloc2_function.specs.OutputValue.{place_at}
 use Rattle.regalloc2_fastalloc_state.specs.declared.inst_regs.InstRegs.{InstRegs}
 use Rattle.regalloc2_fastalloc_state.specs.declared.request.Requirement.{Requirement}
 use Rattle.regalloc2_fastalloc_state.specs.declared.request.OperandRequest.{OperandRequest}
@@ -27,7 +28,7 @@ use Rattle.regalloc2_fastalloc_proofs.proofs.Evictions.EvictKeepsRecord.{evictio
 use Rattle.regalloc2_fastalloc_proofs.proofs.Changes.Evictions.{but_evicts}
 use Rattle.regalloc2_fastalloc_proofs.proofs.Operands.ReuseDefs.{frees_alloc_less}
 use Rattle.regalloc2_fastalloc_proofs.proofs.Safety.OperandKeepsSafe.{PlaceKept, allocs_operand_kept}
-use Rattle.regalloc2_fastalloc_proofs.proofs.Operands.AllocsSoFar.{at_place, AreSoundOperands, Filled, FixedAreKnown}
+use Rattle.regalloc2_fastalloc_proofs.proofs.Operands.AllocsSoFar.{AreSoundOperands, Filled, FixedAreKnown}
 use Rattle.regalloc2_fastalloc_proofs.specs.Pressure.EnoughRegs.{HasEnoughRegs, waiting, AllWrite, AllMay}
 use Rattle.regalloc2_fastalloc_proofs.proofs.Safety.StepsKeepMachine.{KeepsMachine, keeps_machine_trans, machine_stays}
 use Rattle.regalloc2_fastalloc_proofs.proofs.Changes.InstChanges.{allocs_operand_changes, locates_use_changes, frees_alloc_changes}
@@ -57,10 +58,10 @@ use_position o (InRegister r) = some_position o
 use_position o (InSlot n) = some_position o
 
 -- a place that is set in the list is there, and other places stay
-written_or : (here : List Place) (k : ℕ) (q : Place) → k < length here → (j : ℕ) → (at_place (set here k q) j ≡ at_place here j)
-    ⊎ (at_place (set here k q) j ≡ q)
+written_or : (here : List Place) (k : ℕ) (q : Place) → k < length here → (j : ℕ) → (place_at (set here k q) j ≡ place_at here j)
+    ⊎ (place_at (set here k q) j ≡ q)
 written_or here k q lt j = elim (cases_eq j k) [
-  | inl e ↦ inr (ap (at_place (set here k q)) e ∙ get_or-set_same here k q NoPlace lt)
+  | inl e ↦ inr (ap (place_at (set here k q)) e ∙ get_or-set_same here k q NoPlace lt)
   | inr ne ↦ inl (get_or-set_other here k j q NoPlace ne)
 ]
 
@@ -158,7 +159,7 @@ module _ (operands : NamedOperands) where
 
     -- an operand finds its place
     pub never_process_operand : ProcessOperand i ends_block ops k here t old no_register → ⊥
-    never_process_operand (at_use reads s) = never_place (use_request (op_at ops k) (at_place here k)) (λ q. set here k q)
+    never_process_operand (at_use reads s) = never_place (use_request (op_at ops k) (place_at here k)) (λ q. set here k q)
         (use_ready env Known ops sound_ops turn reads) s
     never_process_operand (at_def def no_reuse s) = never_alloc_def_op (def_request (op_at ops k)) (λ q. set here k q)
         (def_ready env Known ops sound_ops turn def no_reuse) s
@@ -169,9 +170,9 @@ module _ (operands : NamedOperands) where
       -- the accounting with one more place
       paid : (there : List Place) (q : Place) (u : InstRegs) (new : StateValue) → HasEnoughRegs Named (waiting ops there) u new →
           ((c : RegClass) → awaited_of u c ≡ waiting ops there c) → Less t u → KeepsMachine old new
-          → ((j : ℕ) → (at_place there j ≡ at_place here j) ⊎ (at_place there j ≡ q)) →
+          → ((j : ℕ) → (place_at there j ≡ place_at here j) ⊎ (place_at there j ≡ q)) →
           ((r : Register) → q ≡ InRegister r → is_free new.allocatable u r ≡ false)
-          → ((j : ℕ) (r : Register) → j < length ops → (E j → ⊥) → at_place there j ≡ InRegister r → (m : ℕ) × (m < length ops) × E m
+          → ((j : ℕ) (r : Register) → j < length ops → (E j → ⊥) → place_at there j ≡ InRegister r → (m : ℕ) × (m < length ops) × E m
           × ((op_at ops m).constraint ≡ Reuse j))
           → Paying Named ops E there u new
       paid there q u new ample counted less keeps places unfree names = record {
@@ -188,8 +189,8 @@ module _ (operands : NamedOperands) where
       }
 
       -- a reuse that is done names what has a register already
-      still_named : (there : List Place) → ((j : ℕ) → j ≢ k → at_place there j ≡ at_place here j) → (j : ℕ) (r : Register) → j < length ops → (E j → ⊥) →
-          at_place there j ≡ InRegister r
+      still_named : (there : List Place) → ((j : ℕ) → j ≢ k → place_at there j ≡ place_at here j) → (j : ℕ) (r : Register) → j < length ops → (E j → ⊥) →
+          place_at there j ≡ InRegister r
           → (m : ℕ) × (m < length ops) × E m × ((op_at ops m).constraint ≡ Reuse j)
       still_named there elsewhere j r within not_e at =
           let ne : j ≢ k = λ same. not_e (subst E (sym same) at_it) in
@@ -206,15 +207,15 @@ module _ (operands : NamedOperands) where
           (still_named (set here k q) (λ j ne. get_or-set_other here k j q NoPlace ne))
 
       allocs_use_pays : (q : Place) (u : InstRegs) (new : StateValue) → is_reading (op_at ops k) ≡ true →
-          AllocsUse (after i) (use_request (op_at ops k) (at_place here k)) q t u old new → Paying Named ops E (set here k q) u new
+          AllocsUse (after i) (use_request (op_at ops k) (place_at here k)) q t u old new → Paying Named ops E (set here k q) u new
       allocs_use_pays q u new reads d =
-          let o : OperandRequest = use_request (op_at ops k) (at_place here k) in
+          let o : OperandRequest = use_request (op_at ops k) (place_at here k) in
           let r = use_ready env Known ops sound_ops turn reads in
           let x = got o (λ z. set here k z) r q u d.middle d.gets in
           let then = machine_stays (locates_use_changes tt d.uses) in
           one_place q u new (ample_kept Named (waiting ops (set here k q)) u d.middle new then x.ample)
           (pays_awaited ops here (set here k q) o.vreg o.requirement t u old x.pays p.awaited d.awaited) x.less (keeps_machine_trans old d.middle new x.keeps then)
-          (λ s is. placed_register_is_not_free (after i) o q t u old d.middle d.gets (use_position (op_at ops k) (at_place here k)) new.allocatable s is)
+          (λ s is. placed_register_is_not_free (after i) o q t u old d.middle d.gets (use_position (op_at ops k) (place_at here k)) new.allocatable s is)
 
       -- a definition has its place, and its moves are made
       module _ (o : OperandRequest) (there : Place → List Place) (r : Ready env Known ops sound_ops o.vreg o.requirement here there t old)

@@ -12,7 +12,7 @@ use Rattle.regalloc2_names.specs.Place.{Place, NoPlace, InRegister, is_in_regist
 use Rattle.regalloc2_function.specs.FunctionValue.{InstValue, no_operand, op_at}
 use Rattle.regalloc2_function.specs.Machine.{MachineValue, is_allocatable, count_below, allocatable_count}
 use Rattle.regalloc2_semantics.specs.Fits.{is_under_reg, is_fixed_to, need_of, register_number}
-use Rattle.regalloc2_fastalloc_proofs.specs.InstSteps.{asks_reg_of_class, asking}
+use Rattle.regalloc2_fastalloc_proofs.specs.InstSteps.{needs_reg_of_class, needing_reg}
 use Rattle.regalloc2_fastalloc_state.proofs.CountingLaws.{count_union, count_more, count_same, some_count}
 use Rattle.regalloc2_fastalloc_proofs.specs.Pressure.EnoughRegs.{waits, waiting}
 
@@ -23,7 +23,7 @@ pub waits_no_more : (ops : List OperandValue) (here : List Place) (c : RegClass)
 waits_no_more ops here c k r lt long h = count_more (waits ops (slice_set here k (InRegister r)) c) (waits ops here c) k (length ops) lt
     (let e : slice_index_or (slice_set here k (InRegister r)) k NoPlace ≡ InRegister r = get_or-set_same here k (InRegister r) NoPlace
     (omega (arith, lt, long)) in
-    rw e (and_right (asks_reg_of_class c (op_at ops k)) false refl))
+    rw e (and_right (needs_reg_of_class c (op_at ops k)) false refl))
     h
     (λ j less ne. let e : slice_index_or (slice_set here k (InRegister r)) j NoPlace ≡ slice_index_or here j NoPlace = get_or-set_other here k j (InRegister r)
     NoPlace ne in rw e refl)
@@ -54,7 +54,7 @@ other_class_does_not_wait ops here c k ne =
 -- an operand that has its place already doesn't wait
 pub waits_placed : (ops : List OperandValue) (here : List Place) (c : RegClass) (k : ℕ) (r : Register) → slice_index_or here k NoPlace ≡ InRegister r →
     waits ops here c k ≡ false
-waits_placed ops here c k r e = rw e (and_right (asks_reg_of_class c (op_at ops k)) false refl)
+waits_placed ops here c k r e = rw e (and_right (needs_reg_of_class c (op_at ops k)) false refl)
 
 -- an operand without a place waits for a register of its class
 pub waits_here : (ops : List OperandValue) (here : List Place) (k : ℕ) → is_under_reg (op_at ops k).constraint ≡ true →
@@ -85,7 +85,7 @@ rest_is_free env class i is_left h = count_union (λ n. is_allocatable env class
 pub fits_enough : (env : MachineValue) (class : RegClass) (i : InstValue) (is_left : ℕ → Bool) (scratch_reserve : ℕ) →
     ((n : ℕ) → n < 64 → is_allocatable env class (register_number class n) ≡ true → is_taken_first env class i n ≡ false → is_left n ≡ true)
     → need_of env class i + scratch_reserve ≤ allocatable_count env class
-    → asking i.operands class + scratch_reserve ≤ count_below is_left 64
+    → needing_reg i.operands class + scratch_reserve ≤ count_below is_left 64
 unfolding need_of
 fits_enough env class i is_left scratch_reserve h fits =
     let all = rest_is_free env class i is_left h in
@@ -106,10 +106,10 @@ counted_by P ops (suc n) le =
 
 -- before any operand has a place, all that require a register wait
 pub all_wait : (ops : List OperandValue) (blank : List Place) (c : RegClass) → ((k : ℕ) → slice_index_or blank k NoPlace ≡ NoPlace) →
-    waiting ops blank c ≡ asking ops c
+    waiting ops blank c ≡ needing_reg ops c
 all_wait ops blank c none =
-    count_same (waits ops blank c) (λ k. asks_reg_of_class c (op_at ops k)) (length ops) (λ k lt. rw (none k) (and_true (asks_reg_of_class c (op_at ops k))))
-    ∙ counted_by (asks_reg_of_class c) ops (length ops) (omega arith) ∙ ap (count_by (asks_reg_of_class c)) (take_all (length ops) ops (omega arith))
+    count_same (waits ops blank c) (λ k. needs_reg_of_class c (op_at ops k)) (length ops) (λ k lt. rw (none k) (and_true (needs_reg_of_class c (op_at ops k))))
+    ∙ counted_by (needs_reg_of_class c) ops (length ops) (omega arith) ∙ ap (count_by (needs_reg_of_class c)) (take_all (length ops) ops (omega arith))
   where
     and_true : (b : Bool) → (b && not false) ≡ b
     and_true true = refl

@@ -10,12 +10,13 @@ use Rattle.regalloc2_function.specs.FunctionValue.{FunctionValue, block_at, inst
 use Rattle.regalloc2_function.specs.Machine.{MachineValue}
 use Rattle.regalloc2_names.specs.Operand.{is_def, is_reading}
 use Rattle.regalloc2_semantics.specs.Sound.{target_at}
+use Rattle.regalloc2_function.specs.OutputValue.{place_at}
 use Rattle.regalloc2_fastalloc_state.specs.StateParts.{SpillSlotsValue}
 use Rattle.regalloc2_fastalloc_proofs.specs.StoreSteps.{IsStoredAt}
 use Rattle.regalloc2_fastalloc_proofs.specs.InstSteps.{StateValue}
 use Rattle.regalloc2_fastalloc_proofs.specs.Safety.{IsSafe}
 use Rattle.regalloc2_fastalloc_proofs.specs.BlockSteps.{AllocsInstAt, offset_of}
-use Rattle.regalloc2_fastalloc_proofs.proofs.Operands.AllocsSoFar.{at_place, AreSoundOperands, IsGood, good_grows, DefsAreWritten, UsesAreWritten}
+use Rattle.regalloc2_fastalloc_proofs.proofs.Operands.AllocsSoFar.{AreSoundOperands, IsGood, good_grows, DefsAreWritten, UsesAreWritten}
 use Rattle.regalloc2_fastalloc_proofs.proofs.Safety.InstKeepsSafe.{InstKept}
 use Rattle.regalloc2_fastalloc_proofs.proofs.Slots.SlotsGrow.{SlotsStay, changes_stay}
 use Rattle.regalloc2_fastalloc_proofs.proofs.Changes.InstChanges.{free_operand, allocs_inst_changes}
@@ -35,7 +36,7 @@ offset_rises f i (suc n) le =
 
 -- the place of an operand, in the list of the places of all operands
 abbrev pub place_of : FunctionValue → List Place → ℕ → ℕ → Place
-place_of f places j k = at_place places (offset_of f j + k)
+place_of f places j k = place_at places (offset_of f j + k)
 
 -- the slots that the walk writes for operands: after an instruction the slots of the vregs that it defines, before it
 -- the slots in which it reads

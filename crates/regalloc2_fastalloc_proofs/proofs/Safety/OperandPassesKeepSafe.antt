@@ -9,6 +9,7 @@ use Rattle.regalloc2_names.specs.Register.{Register, VirtualRegister}
 use Rattle.regalloc2_names.specs.Operand.{OperandValue, is_def, is_late, is_reading, is_fixed_nonallocatable}
 use Rattle.regalloc2_names.specs.Place.{Place, NoPlace, InRegister, InSlot, after}
 use Rattle.regalloc2_function.specs.Machine.{MachineValue}
+use Rattle.regalloc2_function.specs.OutputValue.{place_at}
 use Rattle.regalloc2_fastalloc_state.specs.declared.inst_regs.InstRegs.{InstRegs}
 use Rattle.regalloc2_fastalloc_state.specs.declared.request.Requirement.TheVariants.{InPReg}
 use Rattle.regalloc2_fastalloc_state.specs.StateParts.{SpillSlotsValue}
@@ -21,7 +22,7 @@ use Rattle.regalloc2_fastalloc_proofs.proofs.Slots.SlotsGrow.{changes_stay}
 use Rattle.regalloc2_fastalloc_proofs.proofs.Slots.LocatedStaysLocated.{changes_last}
 use Rattle.regalloc2_fastalloc_proofs.proofs.Safety.StepsKeepSafe.{AreKindsApart, rules_of}
 use Rattle.regalloc2_fastalloc_proofs.proofs.Safety.OperandKeepsSafe.{allocs_def_op_kept, allocs_use_kept}
-use Rattle.regalloc2_fastalloc_proofs.proofs.Operands.AllocsSoFar.{at_place, IsInRegister, MeetsByItself, IsGood, FillingContext, reads_allocated}
+use Rattle.regalloc2_fastalloc_proofs.proofs.Operands.AllocsSoFar.{IsInRegister, MeetsByItself, IsGood, FillingContext, reads_allocated}
 use Rattle.regalloc2_fastalloc_proofs.proofs.Operands.AllocsSoFar.{answer_meets, answer_named, reuse_meets, fixed_meets, requires_fixed_reg, reuse_requires_fixed_reg}
 use Rattle.regalloc2_fastalloc_proofs.proofs.Operands.AllocsSoFar.{fixed_class, FixedAreKnown, Filled, DefsAreWritten, reuse_register, no_place_register}
 use Rattle.regalloc2_fastalloc_proofs.proofs.Operands.AllocsSoFar.{OneMore, filled_same, filled_on, written, written_twice}
@@ -78,7 +79,7 @@ module _ (passes : PassesContext) where
   -- a use that no reuse has chosen a register for
   use_kept : (D E : ℕ → Type 0) (k : ℕ) (p : Place) (here : List Place) (t u : InstRegs) (old new : StateValue) → k < length ops →
       OneMore filling D E k
-      → is_reading (op_at ops k) ≡ true → at_place here k ≡ NoPlace → AllocsUse (after i) (use_request (op_at ops k) NoPlace) p t u old new
+      → is_reading (op_at ops k) ≡ true → place_at here k ≡ NoPlace → AllocsUse (after i) (use_request (op_at ops k) NoPlace) p t u old new
       → Filled env Known Writes May ops D here t old → Filled env Known Writes May ops E (set here k p) u new
   use_kept D E k p here t u old new less more reads none places h =
       let o : OperandValue = op_at ops k in
@@ -97,14 +98,14 @@ module _ (passes : PassesContext) where
             (λ n e. both_ways (is_def o.kind) (reads_use o reads) (sound_ops.late_reuse k n less e).0) (λ n e. sound_ops.unlimited k n less e) w.given.answer;
       })
       (λ r. w.found)
-      (λ j within d names. absurd (no_place_register (at_place here j) (h.shared j k within d names ∙ none)
-      (reuse_register env (op_at ops j).constraint k (at_place here j) names (h.good j within d).meets)))
+      (λ j within d names. absurd (no_place_register (place_at here j) (h.shared j k within d names ∙ none)
+      (reuse_register env (op_at ops j).constraint k (place_at here j) names (h.good j within d).meets)))
       f
 
   -- a use for which a reuse has chosen a register
   chosen_kept : (D E : ℕ → Type 0) (k : ℕ) (p : Place) (r : Register) (here : List Place) (t u : InstRegs) (old new : StateValue) → k < length ops →
       OneMore filling D E k
-      → is_reading (op_at ops k) ≡ true → at_place here k ≡ InRegister r → IsGood env old.slots (op_at ops k) (at_place here k) →
+      → is_reading (op_at ops k) ≡ true → place_at here k ≡ InRegister r → IsGood env old.slots (op_at ops k) (place_at here k) →
       AllocsUse (after i) (use_request (op_at ops k) (InRegister r)) p t u old new
       → Filled env Known Writes May ops D here t old → Filled env Known Writes May ops E (set here k p) u new
   chosen_kept D E k p r here t u old new less more reads at_it good places h =
@@ -116,7 +117,7 @@ module _ (passes : PassesContext) where
       (λ q asks. subst (λ (x : Register). IsOfMachine env x × (x.class ≡ o.vreg.class)) (same_at r q asks) stand) h.safe h.inst_regs in
       let f = filled_on filling D here t u old new w.given.kept.safe w.given.kept.inst_regs (changes_stay (allocs_use_changes (λ q s. tt) tt tt places))
       (λ j within x there. changes_last (op_at ops j).vreg.number (allocs_use_changes (λ q s. tt) tt tt places) there) h in
-      let as_chosen : p ≡ at_place here k = w.given.answer ∙ sym at_it in
+      let as_chosen : p ≡ place_at here k = w.given.answer ∙ sym at_it in
       written filling D E k p here u new less more
       (λ n e. both_ways (is_def o.kind) (reads_use o reads) (sound_ops.late_reuse k n less e).0)
       (record { place = λ a. w.given.place; meets = subst (MeetsByItself env o.constraint) (sym as_chosen) good.meets })
@@ -183,7 +184,7 @@ module _ (passes : PassesContext) where
       subst (λ l. Filled env Known Writes May ops E l u new) (sym written_it) (elim (h.waits k less more.before_it) [
         | inl none ↦ use_kept D E k p here t u old new less more reads none
             (subst (λ x. AllocsUse (after i) (use_request (op_at ops k) x) p t u old new) none places) h
-        | inr g ↦ (let r = a_place_of (at_place here k) g.1 in
+        | inr g ↦ (let r = a_place_of (place_at here k) g.1 in
             chosen_kept D E k p r.0 here t u old new less more reads r.1 g.0
             (subst (λ x. AllocsUse (after i) (use_request (op_at ops k) x) p t u old new) r.1 places) h)
       ])

@@ -179,11 +179,11 @@ module _ (Known : VirtualRegister → Type 0) (Holds : OwnedSlot → Type 0) (br
     (some : 0 < units_of s class)
     (first_time : All (λ x. (k : ℕ) → OfBranch branch class k ≢ x.owner) made) (h : AreLaidOut Known s made)
     (holds : (k n : ℕ) → k < 2 → Holds (record { owner = OfBranch branch class k; name = n })) (all : All Holds made) where
-  abbrev temp_slots_at : ℕ → OwnedSlot
-  temp_slots_at k = record { owner = OfBranch branch class k; name = later_slot s class k }
+  abbrev temp_slot : ℕ → OwnedSlot
+  temp_slot k = record { owner = OfBranch branch class k; name = later_slot s class k }
 
-  one_holds : All Holds (temp_slots_at 0 ∷ made)
-  one_holds = All-cons Holds (temp_slots_at 0) made (holds 0 (later_slot s class 0) (omega arith)) all
+  one_holds : All Holds (temp_slot 0 ∷ made)
+  one_holds = All-cons Holds (temp_slot 0) made (holds 0 (later_slot s class 0) (omega arith)) all
 
   -- the slots with a given number of temporary ones
   abbrev with_lent : ℕ → ℕ → SpillSlotsValue
@@ -198,22 +198,22 @@ module _ (Known : VirtualRegister → Type 0) (Holds : OwnedSlot → Type 0) (br
   not_vreg : (k : ℕ) (v : VirtualRegister) → OfBranch branch class k ≡ OfVReg v → ⊥
   not_vreg k v e = cc
 
-  one_lent : (count num_temp_slots : ℕ) → later_end s class 0 ≤ count → AreLaidOut Known (with_lent count num_temp_slots) (temp_slots_at 0 ∷ made)
+  one_lent : (count num_temp_slots : ℕ) → later_end s class 0 ≤ count → AreLaidOut Known (with_lent count num_temp_slots) (temp_slot 0 ∷ made)
   one_lent count num_temp_slots upto =
       let start = later_start s (OfBranch branch class 0) 0 some in
-      one_more_laid Known s (with_lent count num_temp_slots) made refl refl (omega (arith, upto)) h (temp_slots_at 0) (omega (arith, start))
+      one_more_laid Known s (with_lent count num_temp_slots) made refl refl (omega (arith, upto)) h (temp_slot 0) (omega (arith, start))
       (later_laid s (OfBranch branch class 0) 0 count some upto)
-      (λ k d lt. first_time k d lt 0) (λ v is k there. contains_there (temp_slots_at 0) _ made (h.known v is k there)) (λ v e. absurd (not_vreg 0 v e)) h.own
+      (λ k d lt. first_time k d lt 0) (λ v is k there. contains_there (temp_slot 0) _ made (h.known v is k there)) (λ v e. absurd (not_vreg 0 v e)) h.own
 
   two_lent : (count num_temp_slots : ℕ) → later_end s class 1 ≤ count
-      → AreLaidOut Known (with_lent count num_temp_slots) (temp_slots_at 1 ∷ temp_slots_at 0 ∷ made)
+      → AreLaidOut Known (with_lent count num_temp_slots) (temp_slot 1 ∷ temp_slot 0 ∷ made)
   two_lent count num_temp_slots upto =
       let g = one_lent (later_end s class 0) num_temp_slots (omega arith) in
       let start = later_start s (OfBranch branch class 1) 1 some in
-      one_more_laid Known (with_lent (later_end s class 0) num_temp_slots) (with_lent count num_temp_slots) (temp_slots_at 0 ∷ made) refl refl
-      (omega (arith, upto)) g (temp_slots_at 1) (omega (arith, start)) (later_laid s (OfBranch branch class 1) 1 count some upto)
-      (All-cons (λ x. OfBranch branch class 1 ≢ x.owner) (temp_slots_at 0) made (temp_slot_owners_differ branch class 0) (λ k d lt. first_time k d lt 1))
-      (λ v is k there. contains_there (temp_slots_at 1) _ (temp_slots_at 0 ∷ made) (g.known v is k there)) (λ v e. absurd (not_vreg 1 v e)) g.own
+      one_more_laid Known (with_lent (later_end s class 0) num_temp_slots) (with_lent count num_temp_slots) (temp_slot 0 ∷ made) refl refl
+      (omega (arith, upto)) g (temp_slot 1) (omega (arith, start)) (later_laid s (OfBranch branch class 1) 1 count some upto)
+      (All-cons (λ x. OfBranch branch class 1 ≢ x.owner) (temp_slot 0) made (temp_slot_owners_differ branch class 0) (λ k d lt. first_time k d lt 1))
+      (λ v is k there. contains_there (temp_slot 1) _ (temp_slot 0 ∷ made) (g.known v is k there)) (λ v e. absurd (not_vreg 1 v e)) g.own
 
   -- adding temporary slots for a branch, two at most, leaves all slots disjoint, each with one owner
   pub lends_laid : (t : SpillSlotsValue) (taken : ℕ) → taken ≤ 2 → AddsTempSlots s t class taken → LaysOutTempSlots Known Holds branch class taken s t made
@@ -232,31 +232,31 @@ module _ (Known : VirtualRegister → Type 0) (Holds : OwnedSlot → Type 0) (br
       let g = one_lent t.count t.num_temp_slots (omega (arith, end)) in
       record {
         lays = record {
-          made = temp_slots_at 0 ∷ made;
-          laid = still_laid Known (with_lent t.count t.num_temp_slots) t (temp_slots_at 0 ∷ made) l.sizes l.by_last
+          made = temp_slot 0 ∷ made;
+          laid = still_laid Known (with_lent t.count t.num_temp_slots) t (temp_slot 0 ∷ made) l.sizes l.by_last
               (omega arith) g (λ n. ap (λ xs. slice_index_or xs n NoPlace) l.vreg_spillslots);
-          kept = λ x is. contains_there (temp_slots_at 0) x made is;
+          kept = λ x is. contains_there (temp_slot 0) x made is;
           all =
               one_holds;
         };
-        each = λ k lt. subst (λ n. Contains (temp_slots_at 0 ∷ made) (temp_slots_at n)) (let e : 0 ≡ k = omega (arith, lt) in e)
-            (contains_here (temp_slots_at 0) made);
+        each = λ k lt. subst (λ n. Contains (temp_slot 0 ∷ made) (temp_slot n)) (let e : 0 ≡ k = omega (arith, lt) in e)
+            (contains_here (temp_slot 0) made);
       }
   lends_laid t (suc (suc zero)) few l =
       let end = l.some 1 (omega arith) in
       let g = two_lent t.count t.num_temp_slots (omega (arith, end)) in
       record {
         lays = record {
-          made = temp_slots_at 1 ∷ temp_slots_at 0 ∷ made;
-          laid = still_laid Known (with_lent t.count t.num_temp_slots) t (temp_slots_at 1 ∷ temp_slots_at 0 ∷ made) l.sizes l.by_last (omega arith) g
+          made = temp_slot 1 ∷ temp_slot 0 ∷ made;
+          laid = still_laid Known (with_lent t.count t.num_temp_slots) t (temp_slot 1 ∷ temp_slot 0 ∷ made) l.sizes l.by_last (omega arith) g
               (λ n. ap (λ xs. slice_index_or xs n NoPlace) l.vreg_spillslots);
-          kept = λ x is. contains_there (temp_slots_at 1) x (temp_slots_at 0 ∷ made) (contains_there (temp_slots_at 0) x made is);
-          all = All-cons Holds (temp_slots_at 1) (temp_slots_at 0 ∷ made) (holds 1 (later_slot s class 1) (omega arith)) one_holds;
+          kept = λ x is. contains_there (temp_slot 1) x (temp_slot 0 ∷ made) (contains_there (temp_slot 0) x made is);
+          all = All-cons Holds (temp_slot 1) (temp_slot 0 ∷ made) (holds 1 (later_slot s class 1) (omega arith)) one_holds;
         };
-        each = λ k lt. ⊎_elim (λ (e : k ≡ 0). subst (λ n. Contains (temp_slots_at 1 ∷ temp_slots_at 0 ∷ made) (temp_slots_at n)) (sym e)
-            (contains_there (temp_slots_at 1) (temp_slots_at 0) (temp_slots_at 0 ∷ made) (contains_here (temp_slots_at 0) made)))
-            (λ (d : k ≢ 0). subst (λ n. Contains (temp_slots_at 1 ∷ temp_slots_at 0 ∷ made) (temp_slots_at n)) (let e : 1 ≡ k = omega (arith, d, lt) in e)
-            (contains_here (temp_slots_at 1) (temp_slots_at 0 ∷ made))) (cases_eq k 0);
+        each = λ k lt. ⊎_elim (λ (e : k ≡ 0). subst (λ n. Contains (temp_slot 1 ∷ temp_slot 0 ∷ made) (temp_slot n)) (sym e)
+            (contains_there (temp_slot 1) (temp_slot 0) (temp_slot 0 ∷ made) (contains_here (temp_slot 0) made)))
+            (λ (d : k ≢ 0). subst (λ n. Contains (temp_slot 1 ∷ temp_slot 0 ∷ made) (temp_slot n)) (let e : 1 ≡ k = omega (arith, d, lt) in e)
+            (contains_here (temp_slot 1) (temp_slot 0 ∷ made))) (cases_eq k 0);
       }
   lends_laid t (suc (suc (suc k))) few l = absurd (omega (arith, few))
 

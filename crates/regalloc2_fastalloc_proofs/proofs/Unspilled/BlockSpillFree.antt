@@ -22,6 +22,7 @@ use Rattle.regalloc2_analysis.specs.BranchDefs.BranchDefs.{IsEdgeInto, fixed_def
 use Rattle.regalloc2_carry.proofs.SingleDef.{IsDefOperand, MadeBefore, by_earlier, by_param, made_before, one_operand, reads_defined}
 use Rattle.regalloc2_semantics.proofs.Soundness.{well_formed_are_sound}
 use Rattle.regalloc2_analysis.proofs.BranchDefsLemmas.BlockEnds.{last_within}
+use Rattle.regalloc2_function.specs.OutputValue.{place_at}
 use Rattle.regalloc2_fastalloc_state.specs.declared.inst_regs.InstRegs.{InstRegs}
 use Rattle.regalloc2_fastalloc_state.specs.ScratchPool.{Moves}
 use Rattle.regalloc2_fastalloc_state.specs.StateParts.{IsLruOf, SpillSlotsValue, slot_name, alloc_of}
@@ -189,9 +190,9 @@ inst_done {names} {point} {operands} {places} {t2} {t3} {u2} {u3} plain h e move
     early_not_late k lt late x = (let same : x.0 ≡ k = (plain true).apart x.0 k x.1 lt x.3 x.4 in let wrong : true ≡ false = sym late
         ∙ ap (λ (j : ℕ). is_late (op_at operands j).position) (sym same) ∙ x.2 in cc)
 
-    at_place : (k : ℕ) → k < length operands → is_reading (op_at operands k) ≡ true →
+    place_at : (k : ℕ) → k < length operands → is_reading (op_at operands k) ≡ true →
         alloc_of t2.places (op_at operands k).vreg.number ≡ slice_index_or places k NoPlace
-    at_place k lt reading = elim (cases_Bool (is_late (op_at operands k).position)) [
+    place_at k lt reading = elim (cases_Bool (is_late (op_at operands k).position)) [
       | inl late ↦ (let was = h.uses k lt late reading in
           e.stand (op_at operands k).vreg.number (λ none. was.0 (sym was.1 ∙ none)) (λ x. early_not_late k lt late x) ∙ was.1
           ∙ sym (e.others k (λ early. absurd (let wrong : true ≡ false = sym late ∙ early in cc))))
@@ -199,7 +200,7 @@ inst_done {names} {point} {operands} {places} {t2} {t3} {u2} {u3} plain h e move
     ]
 
     same : t3 ≡ t2
-    same = moved_none point operands places u2 t2 (length operands) u3 t3 at_place moves
+    same = moved_none point operands places u2 t2 (length operands) u3 t3 place_at moves
 
 -- An instruction is allocated without moves and slots, and the ones before it may be.
 pub inst_spill_free : {names : List VirtualRegister} {gone : ℕ → Bool} {i : ℕ} (inst : InstValue) {blank places : List Place} {old new : StateValue}

@@ -17,7 +17,7 @@ use Rattle.regalloc2_semantics.specs.Fits.{register_number}
 use Rattle.regalloc2_function.specs.Machine.{count_below}
 use Rattle.regalloc2_fastalloc_state.specs.declared.request.OperandRequest.{OperandRequest}
 use Rattle.regalloc2_fastalloc_state.specs.declared.request.Requirement.{Requirement}
-use Rattle.regalloc2_fastalloc_state.specs.declared.request.Requirement.TheVariants.{AnyPlace, AnyReg, InMemory, InPReg}
+use Rattle.regalloc2_fastalloc_state.specs.declared.request.Requirement.TheVariants.{AnyPlace, AnyReg, OnStack, InPReg}
 use Rattle.regalloc2_fastalloc_state.specs.declared.positions.Positions.{Positions}
 use Rattle.regalloc2_fastalloc_state.specs.declared.inst_regs.InstRegs.{InstRegs}
 use Rattle.regalloc2_fastalloc_state.specs.StateParts.{IsLruOf, vreg_of_preg, alloc_of}
@@ -182,7 +182,7 @@ pub picked_same : (inst_regs : InstRegs) (o : OperandRequest) (p : Place) (old n
 picked_same inst_regs o p old new any (stays at suits same) = same
 picked_same inst_regs o p old new any (fixed r is at same) = same
 picked_same inst_regs o p old new any (slot asks gives places edits machine order) =
-    absurd (elim asks [ inl a ↦ (let wrong : AnyPlace ≡ AnyReg = sym a ∙ any in cc) | inr b ↦ (let wrong : InMemory ≡ AnyReg = sym b ∙ any in cc) ])
+    absurd (elim asks [ inl a ↦ (let wrong : AnyPlace ≡ AnyReg = sym a ∙ any in cc) | inr b ↦ (let wrong : OnStack ≡ AnyReg = sym b ∙ any in cc) ])
 picked_same inst_regs o p old new any (free r asks away may is_free first at same) = same
 
 -- The result: the operand has a register, only the order of use changes, and the vreg was there or nowhere, and no
@@ -361,7 +361,7 @@ operand_got {names} {gone} {point} {o} {p} {t} {u} {old} {new} any h few named t
         (stays_in_own_register names gone o r p t u old new h is at allocatable whole.0)
     by (fixed r asks is same) = absurd (let wrong : InPReg r ≡ AnyReg = sym asks ∙ any in cc)
     by (slot asks gives places edits machine order) =
-        absurd (elim asks [ inl a ↦ (let wrong : AnyPlace ≡ AnyReg = sym a ∙ any in cc) | inr b ↦ (let wrong : InMemory ≡ AnyReg = sym b ∙ any in cc) ])
+        absurd (elim asks [ inl a ↦ (let wrong : AnyPlace ≡ AnyReg = sym a ∙ any in cc) | inr b ↦ (let wrong : OnStack ≡ AnyReg = sym b ∙ any in cc) ])
     by (free r asks away may is_free first is same) =
         let nowhere : alloc_of old.places o.vreg.number ≡ NoPlace = none_held (away any) in
         let own_class = h.each o.vreg.class in

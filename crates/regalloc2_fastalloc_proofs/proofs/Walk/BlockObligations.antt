@@ -64,8 +64,8 @@ module _ (code : ProperCode) (once : DefinedOnce code.f) (reads : (i : ℕ) → 
   open code use {Known, f, placesf, proper}
 
   -- the block's first instruction
-  abbrev pub first_of : ℕ
-  first_of = (block_at f b).range.first
+  abbrev pub first_inst : ℕ
+  first_inst = (block_at f b).range.first
 
   -- each instruction leaves slots, made so far or later, to their own vregs
   abbrev pub EachLeaves : ℕ → StateValue → StateValue → Type 0
@@ -75,18 +75,18 @@ module _ (code : ProperCode) (once : DefinedOnce code.f) (reads : (i : ℕ) → 
   -- start new.
   pub record Walked (last : ℕ) (begin middle new : StateValue) : Type 0 where
     pub end : last + 1 ≡ (block_at f b).range.end
-    pub some : first_of ≤ last
+    pub some : first_inst ≤ last
     pub within : last < length f.insts
     pub start : IsBetweenInsts last begin
-    pub goes : Goes f placesf EachLeaves begin first_of last first_of middle
-    pub begins : ReloadsAtBegin (before first_of) (block_at f b).params middle new
-    pub returns : (i : ℕ) → first_of ≤ i → i < last → ends_block (inst_at f i) ≡ false
+    pub goes : Goes f placesf EachLeaves begin first_inst last first_inst middle
+    pub begins : ReloadsAtBegin (before first_inst) (block_at f b).params middle new
+    pub returns : (i : ℕ) → first_inst ≤ i → i < last → ends_block (inst_at f i) ≡ false
     pub stays : (x : ℕ) (p : Place) → slots_at new x ≡ Some p → F x ≡ Some p
 
   module _ (last : ℕ) (begin middle new : StateValue) (w : Walked last begin middle new) (v : VirtualRegister) (known : Known v) (E : Place → Type 0) where
     -- whether the block writes v
     abbrev pub written : Bool
-    written = defined_from f v.number first_of (suc (last - first_of))
+    written = defined_from f v.number first_inst (suc (last - first_inst))
 
     -- what the last instruction carries
     abbrev pub EndCarries : Type 0
@@ -95,16 +95,16 @@ module _ (code : ProperCode) (once : DefinedOnce code.f) (reads : (i : ℕ) → 
 
     -- if its last instruction carries what is needed after the block, the whole block carries v from its place on paths
     -- before it
-    pub block_owes : EndCarries → Carries v (walked (inst_at f) (at_point (listed new.edits)) placesf first_of (suc (last - first_of)))
+    pub block_owes : EndCarries → Carries v (walked (inst_at f) (at_point (listed new.edits)) placesf first_inst (suc (last - first_inst)))
         (StandsBefore f (λ u. F u.number) b v) E
     block_owes c =
-        let some : first_of ≤ last = w.some in
+        let some : first_inst ≤ last = w.some in
         let within : last < length f.insts = w.within in
-        let between : IsBetweenInsts first_of middle = goes_between code EachLeaves begin first_of last (omega (arith, within)) w.start
-        first_of middle w.goes in
-        let carried : Carries v (walked (inst_at f) (at_point (listed middle.edits)) placesf first_of (suc (last - first_of)))
+        let between : IsBetweenInsts first_inst middle = goes_between code EachLeaves begin first_inst last (omega (arith, within)) w.start
+        first_inst middle w.goes in
+        let carried : Carries v (walked (inst_at f) (at_point (listed middle.edits)) placesf first_inst (suc (last - first_inst)))
         (Relied written written (location_at middle v.number) (slots_at middle v.number) (F v.number)) E =
-        goes_carried code EachLeaves begin first_of last (omega (arith, within)) w.start (record {
+        goes_carried code EachLeaves begin first_inst last (omega (arith, within)) w.start (record {
           F = F;
           v = v;
           known = known;
@@ -112,16 +112,16 @@ module _ (code : ProperCode) (once : DefinedOnce code.f) (reads : (i : ℕ) → 
           m = 1;
           E = E;
           returns = w.returns;
-          writes = λ i ge lt none. defined_from-none f v.number first_of (suc (last - first_of)) none i ge (omega (arith, some));
+          writes = λ i ge lt none. defined_from-none f v.number first_inst (suc (last - first_inst)) none i ge (omega (arith, some));
           leaves = λ i t u ge lt l. l v known;
           unread = λ i n ge lt count d. unread_before f once v i n (omega (arith, within)) (omega (arith, within, count)) (reads i (omega (arith, within))) d;
-        }) c first_of middle w.goes (suc (last - first_of)) (omega (arith, some)) in
-        carries_weaken v (walked (inst_at f) (at_point (listed new.edits)) placesf first_of (suc (last - first_of)))
+        }) c first_inst middle w.goes (suc (last - first_inst)) (omega (arith, some)) in
+        carries_weaken v (walked (inst_at f) (at_point (listed new.edits)) placesf first_inst (suc (last - first_inst)))
         (λ p. (written ≡ false) × (F v.number ≡ Some p)) (StandsBefore f (λ u. F u.number) b v) E E
         (λ p h. (unwritten h.0, h.1)) (λ p h. h)
-        (entered_carried (inst_at f) placesf first_of (last - first_of) v E (block_at f b).params middle new w.begins between written (F v.number)
+        (entered_carried (inst_at f) placesf first_inst (last - first_inst) v E (block_at f b).params middle new w.begins between written (F v.number)
         (slot v.number) (w.stays v.number) carried)
       where
         unwritten : written ≡ false → IsUnwritten f b v
-        unwritten none i ge lt = (let some : first_of ≤ last = w.some in let end : last + 1 ≡ (block_at f b).range.end = w.end in
-            undefined_by f placesf F v i (defined_from-none f v.number first_of (suc (last - first_of)) none i ge (omega (arith, some, end, lt))))
+        unwritten none i ge lt = (let some : first_inst ≤ last = w.some in let end : last + 1 ≡ (block_at f b).range.end = w.end in
+            undefined_by f placesf F v i (defined_from-none f v.number first_inst (suc (last - first_inst)) none i ge (omega (arith, some, end, lt))))

@@ -8,7 +8,7 @@ use Rattle.regalloc2_function.specs.Machine.{count_below, MachineValue}
 use Rattle.regalloc2_function.specs.FunctionValue.{op_at}
 use Rattle.regalloc2_fastalloc_state.specs.declared.inst_regs.InstRegs.{InstRegs}
 use Rattle.regalloc2_fastalloc_state.specs.InstRegs.{free_count}
-use Rattle.regalloc2_fastalloc_proofs.specs.InstSteps.{StateValue, Outcome, next, no_register, scratch_reserve_left, asks_reg_of_class}
+use Rattle.regalloc2_fastalloc_proofs.specs.InstSteps.{StateValue, Outcome, next, no_register, scratch_reserve_left, needs_reg_of_class}
 use Rattle.regalloc2_fastalloc_proofs.specs.Safety.{IsSafe}
 
 -- of each class that is named, enough registers are free for what is needed and for the reserved scratch register
@@ -27,7 +27,7 @@ pub record TakesAtMost (by : Register) (t u : InstRegs) : Type 0 where
 
 -- whether the operand at an index requires any register of a class, and has no place yet
 abbrev pub waits : List OperandValue → List Place → RegClass → ℕ → Bool
-waits ops here c k = asks_reg_of_class c (op_at ops k) && not (is_in_register (slice_index_or here k NoPlace))
+waits ops here c k = needs_reg_of_class c (op_at ops k) && not (is_in_register (slice_index_or here k NoPlace))
 
 -- how many operands do
 abbrev pub waiting : List OperandValue → List Place → RegClass → ℕ

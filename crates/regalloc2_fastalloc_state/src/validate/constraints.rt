@@ -73,7 +73,7 @@ fn is_valid_reuse<B: Allocator>(env: &MachineEnv<B>, operands: &[Operand], opera
 }
 
 /// Whether all reuses among `operands` are valid.
-fn are_valid_reuses<B: Allocator>(env: &MachineEnv<B>, operands: &[Operand]) -> bool
+fn all_reuses_valid<B: Allocator>(env: &MachineEnv<B>, operands: &[Operand]) -> bool
     ensures { IsTrue result ↔ ((k : ℕ) → k < length operands.now → IsSoundReuse (machine_of env.now) operands.now (op_at operands.now k)) }
 {
     for k in 0..operands.len() {
@@ -92,7 +92,7 @@ fn is_no_reuse(operand: Operand) -> bool
 }
 
 /// Whether none of `operands` is a reuse.
-fn are_no_reuses(operands: &[Operand]) -> bool
+fn has_no_reuse(operands: &[Operand]) -> bool
     ensures { IsTrue result ↔ ((k : ℕ) → k < length operands.now → IsNoReuse (op_at operands.now k)) }
 {
     for k in 0..operands.len() {
@@ -145,7 +145,7 @@ fn has_valid_reuses<F: Function, B: Allocator>(f: &F, env: &MachineEnv<B>, inst:
     ensures { IsTrue result ↔ ReusesAreSound (machine_of env.now) (inst_at (F.function f.now) inst) }
 {
     let operands = f.inst_operands(inst);
-    are_valid_reuses(env, operands) && are_apart(operands)
+    all_reuses_valid(env, operands) && are_apart(operands)
 }
 
 /// Whether `inst` has no reuses, or valid ones.
@@ -153,7 +153,7 @@ fn passes_reuse_test<F: Function, B: Allocator>(f: &F, env: &MachineEnv<B>, inst
     requires { inst < length (F.function f.now).insts }
     ensures { IsTrue result ↔ ReusesAreSound (machine_of env.now) (inst_at (F.function f.now) inst) }
 {
-    are_no_reuses(f.inst_operands(inst)) || has_valid_reuses(f, env, inst)
+    has_no_reuse(f.inst_operands(inst)) || has_valid_reuses(f, env, inst)
 }
 
 /// Whether `operand` is fixed to none of `clobbers`, if it is a definition, a late use, or reused:
@@ -172,7 +172,7 @@ fn avoids_clobbers(clobbers: PRegSet, operand: Operand, is_reused: bool) -> bool
 }
 
 /// Whether no definition, late use or reused operand of `operands` is fixed to one of `clobbers`.
-fn avoid_clobbers(operands: &[Operand], clobbers: PRegSet) -> bool
+fn all_avoid_clobbers(operands: &[Operand], clobbers: PRegSet) -> bool
     ensures { IsTrue result ↔ ((k : ℕ) → k < length operands.now → OperandAvoidsClobbers clobbers operands.now k) }
 {
     let named = named_by_reuses(operands);
@@ -190,10 +190,10 @@ fn has_no_clash<F: Function>(f: &F, inst: Inst) -> bool
     requires { inst < length (F.function f.now).insts }
     ensures { IsTrue result ↔ FixedAvoidClobbers (inst_at (F.function f.now) inst) }
 {
-    avoid_clobbers(f.inst_operands(inst), f.inst_clobbers(inst))
+    all_avoid_clobbers(f.inst_operands(inst), f.inst_clobbers(inst))
 }
 
-/// Whether `inst` has no clobbers, or its operands pass `avoid_clobbers`.
+/// Whether `inst` has no clobbers, or its operands pass `all_avoid_clobbers`.
 fn passes_clobber_test<F: Function>(f: &F, inst: Inst) -> bool
     requires { inst < length (F.function f.now).insts }
     ensures { IsTrue result ↔ FixedAvoidClobbers (inst_at (F.function f.now) inst) }
@@ -212,7 +212,7 @@ pub fn is_unlimited(operand: Operand) -> bool
 /// Whether none of `operands` has `Limit`. Not inlined: the walk calls it only where an operand may
 /// have one.
 #[inline(never)]
-pub fn are_unlimited(operands: &[Operand]) -> bool
+pub fn all_unlimited(operands: &[Operand]) -> bool
     ensures unlimited { IsTrue result ↔ ((k : ℕ) → k < length operands.now → IsUnlimited (op_at operands.now k)) }
     ensures taken { IsTrue result ↔ All IsTakenOperand operands.now }
 {
@@ -230,7 +230,7 @@ fn has_no_limit<F: Function>(f: &F, inst: Inst) -> bool
     ensures unlimited { IsTrue result ↔ AreUnlimited (inst_at (F.function f.now) inst) }
     ensures taken { IsTrue result → All IsTakenOperand (inst_at (F.function f.now) inst).operands }
 {
-    are_unlimited(f.inst_operands(inst))
+    all_unlimited(f.inst_operands(inst))
 }
 
 /// Tests the reuses of `f` on the machine `env`. The error is `Unsupported` with the first
@@ -321,7 +321,7 @@ fn defines_in_place(operand: Operand) -> bool
 }
 
 /// Whether all `operands` pass `defines_in_place`.
-fn define_in_place(operands: &[Operand]) -> bool
+fn all_define_in_place(operands: &[Operand]) -> bool
     ensures { IsTrue result ↔ ((k : ℕ) → k < length operands.now → DefinesInPlace (op_at operands.now k)) }
 {
     for k in 0..operands.len() {
@@ -337,7 +337,7 @@ pub fn is_sound_branch<F: Function>(f: &F, inst: Inst) -> bool
     requires { inst < length (F.function f.now).insts }
     ensures { IsTrue result ↔ BranchDefinesInPlace (inst_at (F.function f.now) inst) }
 {
-    !f.is_branch(inst) || define_in_place(f.inst_operands(inst))
+    !f.is_branch(inst) || all_define_in_place(f.inst_operands(inst))
 }
 
 /// Tests that no branch of `f` has a definition in any register or in the place of another operand.

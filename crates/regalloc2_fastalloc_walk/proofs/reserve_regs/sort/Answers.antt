@@ -1,9 +1,6 @@
 use Rattle.std.proofs.Common.{ℕ, ◌≡◌, ◌+◌, ◌-◌, ◌<◌, List, length, ap, subst, arith}
-use Rattle.std.specs.Prelude.{if◌then◌else◌, not, slice_set}
-use Rattle.regalloc2_names.specs.declared.RegClass.{RegClass}
-use Rattle.regalloc2_names.specs.Register.{class_code}
+use Rattle.std.specs.Prelude.{not}
 use Rattle.regalloc2_names.specs.Operand.{OperandValue}
-use Rattle.regalloc2_fastalloc_state.specs.InstRegs.{awaited_of}
 use Rattle.regalloc2_fastalloc_state.proofs.ValidateLemmas.OperandReads.{read_operand}
 use Rattle.regalloc2_fastalloc_walk.proofs.OperandsSorted.{Sorting, none_limited, sorted_all, sorting_more, sorting_none}
 use Rattle.regalloc2_fastalloc_walk.proofs.reserve_regs.sort.Goals as goal
@@ -18,12 +15,10 @@ loop-k-preserved c =
     let k : ℕ = c.loop-k.k - 1 in
     let back : c.loop-k.k ≡ k + 1 = omega arith in
     let inside : k < length ops = (let i = c.loop-k.invariant.inside in omega (arith, i)) in
-    sorting_more ops k c.args.inst_regs.now c.loop-k.inst_regs c.add_any_reg_op.new.self c.loop-k.masks c.before-masks.result c.loop-k.union c.with-union.result
-    c.index-operands-k.result c.is_any_reg.result
+    sorting_more ops k c.args.inst_regs.now c.loop-k.inst_regs c.count_operand.new.self c.loop-k.masks c.before-masks.result c.loop-k.union c.with-union.result
+    c.index-operands-k.result
     (subst (λ (n : ℕ). Sorting ops n c.args.inst_regs.now c.loop-k.inst_regs c.loop-k.masks c.loop-k.union) back c.loop-k.invariant)
-    (read_operand ops k c.index-operands-k.result inside c.index-operands-k.is) c.add_any_reg_op.ensures.sets c.is_any_reg.ensures
-    (subst (λ (x : RegClass). c.add_any_reg_op.new.self.awaited ≡ slice_set c.loop-k.inst_regs.awaited (class_code x)
-    (awaited_of c.loop-k.inst_regs x + (if c.is_any_reg.result then 1 else 0))) c.class.ensures c.add_any_reg_op.ensures.awaited)
+    (read_operand ops k c.index-operands-k.result inside c.index-operands-k.is) c.count_operand.ensures.sets c.count_operand.ensures.awaited
     c.before-masks.ensures c.with-union.ensures
 
 pub returns-then-not-may_have_limit-clause-sorted : goal.returns-then-not-may_have_limit-clause-sorted
@@ -36,4 +31,4 @@ returns-then-not-may_have_limit-clause-sorted c =
 pub returns-else-not-may_have_limit-clause-sorted : goal.returns-else-not-may_have_limit-clause-sorted
 returns-else-not-may_have_limit-clause-sorted c =
     sorted_all c.args.operands.now c.loop-k.k c.args.inst_regs.now c.loop-k.inst_regs c.loop-k.masks c.loop-k.union c.any_fixed-any_fixed.result
-    c.are_unlimited-unlimited.result (omega arith) c.loop-k.invariant c.any_fixed-any_fixed.ensures c.are_unlimited-unlimited.ensures.taken
+    c.all_unlimited-unlimited.result (omega arith) c.loop-k.invariant c.any_fixed-any_fixed.ensures c.all_unlimited-unlimited.ensures.taken

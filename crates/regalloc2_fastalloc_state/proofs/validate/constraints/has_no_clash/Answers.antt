@@ -17,7 +17,7 @@ pub returns : goal.returns
 returns g c =
     let i : InstValue = inst_at (g.F.Function.function c.args.f.now) c.args.inst in
     let test : PRegSet → List OperandValue → Type 0 = λ clobbers operands.
-    IsTrue c.avoid_clobbers.result ↔ ((k : ℕ) → k < length operands → OperandAvoidsClobbers clobbers operands k) in
+    IsTrue c.all_avoid_clobbers.result ↔ ((k : ℕ) → k < length operands → OperandAvoidsClobbers clobbers operands k) in
     let e : test i.clobbers i.operands = subst (λ (cs : PRegSet). test cs i.operands) c.inst_clobbers.ensures
-    (subst (λ (os : List OperandValue). test c.inst_clobbers.result os) c.inst_operands.ensures c.avoid_clobbers.ensures) in
+    (subst (λ (os : List OperandValue). test c.inst_clobbers.result os) c.inst_operands.ensures c.all_avoid_clobbers.ensures) in
     (λ yes. (clear_each i).0 (e.0 yes), λ all. e.1 ((clear_each i).1 all))

@@ -14,7 +14,7 @@ process_reg_operand-requires g c =
     let o : c.index-operands-k.result ≡ op_at ops c.args.k = read_operand ops c.args.k c.index-operands-k.result c.requires.inside c.index-operands-k.is in
     let h : c.index-allocs-k.result ≡ slice_index_or c.args.allocs.now c.args.k NoPlace = get_or_read c.args.allocs.now c.args.k c.index-allocs-k.result
     (omega (arith, c.requires.inside, c.requires.allocs_long)) c.index-allocs-k.is NoPlace in
-    let asks = c.if-asks_any_reg.ensures.0 refl in (
+    let asks = c.if-needs_any_reg.ensures.0 refl in (
       search rules,
       (
         c.requires.inside,
@@ -38,11 +38,11 @@ returns-in-Some-slot_of_any_use-clause-outcome g c =
     let s = c.in-Some-slot_of_any_use.ensures.some in
     slot_use c.index-operands-k.result c.index-allocs-k.result c.in-Some-slot_of_any_use.slot o h s.0 s.1 c.in_default.ensures.none s.2 s.3
 
-pub returns-then-asks_any_reg-clause-outcome : goal.returns-then-asks_any_reg-clause-outcome
-returns-then-asks_any_reg-clause-outcome g c = c.process_reg_operand.ensures.outcome
+pub returns-then-needs_any_reg-clause-outcome : goal.returns-then-needs_any_reg-clause-outcome
+returns-then-needs_any_reg-clause-outcome g c = c.process_reg_operand.ensures.outcome
 
-pub returns-then-asks_any_reg-clause-step : goal.returns-then-asks_any_reg-clause-step
-returns-then-asks_any_reg-clause-step g c = c.process_reg_operand.ensures.step
+pub returns-then-needs_any_reg-clause-step : goal.returns-then-needs_any_reg-clause-step
+returns-then-needs_any_reg-clause-step g c = c.process_reg_operand.ensures.step
 
 pub returns-in-Some-clause-outcome : goal.returns-in-Some-clause-outcome
 returns-in-Some-clause-outcome g c = c.process_placed_use.ensures.outcome

@@ -12,7 +12,7 @@ use Rattle.regalloc2_fastalloc_walk.proofs.state.State.push_stores.Goals as goal
 pub loop-k-init : goal.loop-k-init
 loop-k-init g c = record {
   within = omega arith;
-  pushes = pushes_none c.args.point c.args.from_memory c.args.moves.now (tables_of c.args.self.now) (tables_of c.args.self.now) _ (drop-length c.args.moves.now)
+  pushes = pushes_none c.args.point c.args.from_stack c.args.moves.now (tables_of c.args.self.now) (tables_of c.args.self.now) _ (drop-length c.args.moves.now)
       refl;
   later = c.requires;
 }
@@ -29,13 +29,13 @@ loop-k-preserved-in-Continue-1 g c =
     let m : StoreMove = c.index-moves-k.result in
     let item : m ≡ slice_index_or ms k m = c.index-moves-k.is in
     let y = c.in_ok-push_store.ensures.outcome in
-    let P : ℕ → Type 0 = λ n. PushesStores c.args.point c.args.from_memory (drop n ms) t u in
+    let P : ℕ → Type 0 = λ n. PushesStores c.args.point c.args.from_stack (drop n ms) t u in
     record {
       within = omega (arith, next, c.loop-k.invariant.within);
-      pushes = pushes_one c.args.point c.args.from_memory ms t k m u (tables_of c.push_store.new.self) y.0 lt
-          (subst (λ (x : StoreMove). is_memory t.fixed_stack x.from ≡ c.args.from_memory) item
-          (kind_there c.args.point c.args.from_memory ms t _ u c.loop-k.invariant.pushes m.from c.is_stack.result c.is_stack.ensures
-          c.if-is_stack-from_memory.true))
+      pushes = pushes_one c.args.point c.args.from_stack ms t k m u (tables_of c.push_store.new.self) y.0 lt
+          (subst (λ (x : StoreMove). is_memory t.fixed_stack x.from ≡ c.args.from_stack) item
+          (kind_there c.args.point c.args.from_stack ms t _ u c.loop-k.invariant.pushes m.from c.is_stack.result c.is_stack.ensures
+          c.if-is_stack-from_stack.true))
           (subst P next c.loop-k.invariant.pushes) (subst (λ (x : StoreMove). IsMadeOf u x y.0) item y.1) y.2;
       later = c.in_ok-push_store.ensures.step.later;
     }
@@ -51,13 +51,13 @@ loop-k-preserved g c =
     let u : StateValue = tables_of c.loop-k.self in
     let m : StoreMove = c.index-moves-k.result in
     let item : m ≡ slice_index_or ms k m = c.index-moves-k.is in
-    let P : ℕ → Type 0 = λ n. PushesStores c.args.point c.args.from_memory (drop n ms) t u in
+    let P : ℕ → Type 0 = λ n. PushesStores c.args.point c.args.from_stack (drop n ms) t u in
     record {
       within = omega (arith, next, c.loop-k.invariant.within);
-      pushes = pushes_over c.args.point c.args.from_memory ms t k m u lt
-          (subst (λ (x : StoreMove). is_memory t.fixed_stack x.from ≡ not c.args.from_memory) item
-          (other_kind c.args.point c.args.from_memory ms t _ u c.loop-k.invariant.pushes m.from c.is_stack.result c.is_stack.ensures
-          c.if-is_stack-from_memory.false))
+      pushes = pushes_over c.args.point c.args.from_stack ms t k m u lt
+          (subst (λ (x : StoreMove). is_memory t.fixed_stack x.from ≡ not c.args.from_stack) item
+          (other_kind c.args.point c.args.from_stack ms t _ u c.loop-k.invariant.pushes m.from c.is_stack.result c.is_stack.ensures
+          c.if-is_stack-from_stack.false))
           (subst P next c.loop-k.invariant.pushes);
       later = c.loop-k.invariant.later;
     }

@@ -8,7 +8,7 @@ use Rattle.regalloc2_fastalloc_walk.proofs.state.State.push_stores.Given as goal
 abbrev pub invariant-loop-k : goal.invariant-loop-k
 invariant-loop-k g l = record {
   within : l.k ≤ length l.moves;
-  pushes : PushesStores l.point l.from_memory (drop l.k l.moves) (tables_of l.fn.self) (tables_of l.self);
+  pushes : PushesStores l.point l.from_stack (drop l.k l.moves) (tables_of l.fn.self) (tables_of l.self);
   later : AllAtOrAfter l.point l.self.edits;
 }
 

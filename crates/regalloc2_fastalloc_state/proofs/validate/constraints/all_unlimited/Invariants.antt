@@ -1,7 +1,7 @@
 use Rattle.std.proofs.Common.{ℕ, ◌<◌}
 use Rattle.regalloc2_function.specs.FunctionValue.{op_at}
 use Rattle.regalloc2_fastalloc_state.specs.Validate.NoLimits.{IsTakenOperand}
-use Rattle.regalloc2_fastalloc_state.proofs.validate.constraints.are_unlimited.Given as goal
+use Rattle.regalloc2_fastalloc_state.proofs.validate.constraints.all_unlimited.Given as goal
 
 abbrev pub invariant-loop-k : goal.invariant-loop-k
 invariant-loop-k l = record { so_far : (n : ℕ) → n < l.k → IsTakenOperand (op_at l.operands n) }

@@ -4,7 +4,7 @@ use Rattle.regalloc2_fastalloc_state.specs.StateParts.{AllAtOrAfter}
 use Rattle.regalloc2_fastalloc_proofs.specs.InstSteps.{SameMachine}
 use Rattle.regalloc2_fastalloc_walk.specs.StateView.{tables_of}
 use Rattle.regalloc2_fastalloc_walk.proofs.OperandsProcessed.{AreProcessed}
-use Rattle.regalloc2_fastalloc_walk.proofs.state.State.process_operands_at.Given as goal
+use Rattle.regalloc2_fastalloc_walk.proofs.state.State.process_masked_at.Given as goal
 
 -- the operands before an index are processed, and the selected operands from the index on are left
 abbrev pub invariant-loop-k : goal.invariant-loop-k

@@ -5,7 +5,7 @@ use Rattle.regalloc2_names.specs.Place.{NoPlace}
 use Rattle.regalloc2_fastalloc_proofs.proofs.Evictions.PushedAndRemoved.{same_machine_trans}
 use Rattle.regalloc2_fastalloc_walk.specs.StateView.{tables_of}
 use Rattle.regalloc2_fastalloc_walk.proofs.UsesInTurn.{none_moved_yet, use_moved, use_next, use_passed, use_stops, use_within, uses_all}
-use Rattle.regalloc2_fastalloc_walk.proofs.state.State.move_uses.Goals as goal
+use Rattle.regalloc2_fastalloc_walk.proofs.state.State.move_masked_uses.Goals as goal
 
 pub loop-k-init : goal.loop-k-init
 loop-k-init g c = record {

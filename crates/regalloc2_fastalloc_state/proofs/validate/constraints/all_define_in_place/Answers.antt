@@ -4,7 +4,7 @@ use Rattle.regalloc2_fastalloc_state.specs.Validate.Constraints.{DefinesInPlace}
 use Rattle.regalloc2_fastalloc_state.proofs.ValidateLemmas.OperandReads.{read_operand}
 use Rattle.regalloc2_function.specs.FunctionValue.{op_at}
 use Rattle.std.proofs.lemmas.Bool.{false≢true}
-use Rattle.regalloc2_fastalloc_state.proofs.validate.constraints.define_in_place.Goals as goal
+use Rattle.regalloc2_fastalloc_state.proofs.validate.constraints.all_define_in_place.Goals as goal
 
 pub returns-then-not-defines_in_place : goal.returns-then-not-defines_in_place
 returns-then-not-defines_in_place c =

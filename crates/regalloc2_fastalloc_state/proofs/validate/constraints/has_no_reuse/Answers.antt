@@ -4,7 +4,7 @@ use Rattle.regalloc2_fastalloc_state.specs.Validate.Constraints.{IsNoReuse}
 use Rattle.regalloc2_fastalloc_state.proofs.ValidateLemmas.OperandReads.{read_operand}
 use Rattle.regalloc2_function.specs.FunctionValue.{op_at}
 use Rattle.std.proofs.lemmas.Bool.{false≢true}
-use Rattle.regalloc2_fastalloc_state.proofs.validate.constraints.are_no_reuses.Goals as goal
+use Rattle.regalloc2_fastalloc_state.proofs.validate.constraints.has_no_reuse.Goals as goal
 
 pub returns-then-not-is_no_reuse : goal.returns-then-not-is_no_reuse
 returns-then-not-is_no_reuse c =

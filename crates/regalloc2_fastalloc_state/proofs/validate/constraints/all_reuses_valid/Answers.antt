@@ -6,7 +6,7 @@ use Rattle.regalloc2_function.specs.FunctionValue.{op_at}
 use Rattle.regalloc2_fastalloc_state.specs.Validate.Constraints.{IsSoundReuse}
 use Rattle.regalloc2_fastalloc_state.proofs.ValidateLemmas.OperandReads.{read_operand}
 use Rattle.std.proofs.lemmas.Bool.{false≢true}
-use Rattle.regalloc2_fastalloc_state.proofs.validate.constraints.are_valid_reuses.Goals as goal
+use Rattle.regalloc2_fastalloc_state.proofs.validate.constraints.all_reuses_valid.Goals as goal
 
 pub returns-then-not-is_valid_reuse : goal.returns-then-not-is_valid_reuse
 returns-then-not-is_valid_reuse g c =

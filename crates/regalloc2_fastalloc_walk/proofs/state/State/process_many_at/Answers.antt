@@ -4,7 +4,7 @@ use Rattle.regalloc2_fastalloc_proofs.proofs.Evictions.PushedAndRemoved.{same_ma
 use Rattle.regalloc2_fastalloc_walk.specs.StateView.{tables_of}
 use Rattle.regalloc2_fastalloc_walk.proofs.InstPlaced.{operands_stay_in_tables}
 use Rattle.regalloc2_fastalloc_walk.proofs.OperandsProcessed.{none_processed, processed_all, processed_more, processed_next, processed_stops}
-use Rattle.regalloc2_fastalloc_walk.proofs.state.State.process_each_at.Goals as goal
+use Rattle.regalloc2_fastalloc_walk.proofs.state.State.process_many_at.Goals as goal
 
 pub loop-k-init : goal.loop-k-init
 loop-k-init g c = record {

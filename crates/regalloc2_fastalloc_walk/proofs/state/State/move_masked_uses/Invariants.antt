@@ -3,7 +3,7 @@ use Rattle.regalloc2_fastalloc_state.specs.StateParts.{AllAtOrAfter}
 use Rattle.regalloc2_fastalloc_proofs.specs.InstSteps.{SameMachine}
 use Rattle.regalloc2_fastalloc_walk.specs.StateView.{tables_of}
 use Rattle.regalloc2_fastalloc_walk.proofs.UsesInTurn.{AreMoved}
-use Rattle.regalloc2_fastalloc_walk.proofs.state.State.move_uses.Given as goal
+use Rattle.regalloc2_fastalloc_walk.proofs.state.State.move_masked_uses.Given as goal
 
 -- the uses before an index are moved, and the uses from the index on are left
 abbrev pub invariant-loop-k : goal.invariant-loop-k

@@ -4,7 +4,7 @@ use Rattle.regalloc2_fastalloc_state.specs.Validate.Constraints.{OperandAvoidsCl
 use Rattle.regalloc2_fastalloc_state.proofs.ValidateLemmas.ConstraintTests.{clear_read}
 use Rattle.regalloc2_fastalloc_state.proofs.ValidateLemmas.OperandReads.{read_operand}
 use Rattle.std.proofs.lemmas.Bool.{false≢true}
-use Rattle.regalloc2_fastalloc_state.proofs.validate.constraints.avoid_clobbers.Goals as goal
+use Rattle.regalloc2_fastalloc_state.proofs.validate.constraints.all_avoid_clobbers.Goals as goal
 
 pub returns-then-not-avoids_clobbers : goal.returns-then-not-avoids_clobbers
 returns-then-not-avoids_clobbers c =

@@ -1,7 +1,7 @@
 use Rattle.std.proofs.Common.{ℕ, ◌<◌}
 use Rattle.regalloc2_fastalloc_state.specs.Validate.Constraints.{IsNoReuse}
 use Rattle.regalloc2_function.specs.FunctionValue.{op_at}
-use Rattle.regalloc2_fastalloc_state.proofs.validate.constraints.are_no_reuses.Given as goal
+use Rattle.regalloc2_fastalloc_state.proofs.validate.constraints.has_no_reuse.Given as goal
 
 abbrev pub invariant-loop-k : goal.invariant-loop-k
 invariant-loop-k l = record { so_far : (n : ℕ) → n < l.k → IsNoReuse (op_at l.operands n) }

@@ -6,7 +6,7 @@ use Rattle.regalloc2_fastalloc_state.specs.Validate.Constraints.{IsUnlimited}
 use Rattle.regalloc2_fastalloc_state.specs.Validate.NoLimits.{IsTakenOperand}
 use Rattle.regalloc2_fastalloc_state.proofs.ValidateLemmas.OperandReads.{read_operand}
 use Rattle.std.proofs.lemmas.Bool.{false≢true}
-use Rattle.regalloc2_fastalloc_state.proofs.validate.constraints.are_unlimited.Goals as goal
+use Rattle.regalloc2_fastalloc_state.proofs.validate.constraints.all_unlimited.Goals as goal
 
 pub returns-then-not-is_unlimited-clause-unlimited : goal.returns-then-not-is_unlimited-clause-unlimited
 returns-then-not-is_unlimited-clause-unlimited c =
