@@ -313,7 +313,7 @@ module _ (carrying : CarryingContext) where
               inr (inr (
                 b,
                 h.0,
-                (let e = ended in omega (arith, e, some), h.2),
+                (ended, h.2),
                 (j.0, inside, get_or_default (arguments_at f b h.0) j.0 v no_vreg inside ∙ j.3),
                 λ d.
                     let o : (op_at (branch_operands f b) d.0).vreg.number ≡ v.number = ap (λ (x : VirtualRegister). x.number) d.1.2 in
