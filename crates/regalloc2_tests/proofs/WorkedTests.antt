@@ -14,7 +14,6 @@ use Rattle.regalloc2_names.specs.Place.{after}
 use Rattle.regalloc2_function.specs.FunctionValue.{FunctionValue, InstValue, Label, EachOperand}
 use Rattle.regalloc2_function.specs.Machine.{MachineValue, empty_set, is_allocatable, IsFixedStackSlot, allocatable_count, count_below, scratch_of}
 use Rattle.regalloc2_semantics.specs.Debug.{UsesAt, IsLastUse, IsLastPoint, IsKept}
-use Rattle.regalloc2_semantics.specs.Runs.{Location}
 use Rattle.regalloc2_semantics.specs.Live.{ReadsAt, PassesAt}
 use Rattle.regalloc2_semantics.specs.Debug.IsFirstPoint.{of_definition as first_of_definition}
 use Rattle.regalloc2_semantics.specs.Debug.IsLastPoint.{of_late_use, of_early_use, of_argument, of_definition}
@@ -37,13 +36,13 @@ read_early = (0, (omega arith, omega arith, refl), refl, refl)
 unread_late : (i : ℕ) → ReadsAt read_once (v 0) Late i → ⊥
 unread_late i h = grind arith
 
-unpassed : (l : Location) → PassesAt read_once (v 0) l → ⊥
-unpassed l h = grind arith
+unpassed : (b i : ℕ) → PassesAt read_once (v 0) (record { block = b; inst = i }) → ⊥
+unpassed b i h = grind arith
 
 used_within : (i : ℕ) → UsesAt read_once (v 0) i → i ≤ 1
 used_within i (inl h) = omega (arith, h.1.0)
 used_within i (inr (inl h)) = omega (arith, h.1.0)
-used_within i (inr (inr h)) = absurd (unpassed (record { block = h.0; inst = i }) h.1)
+used_within i (inr (inr h)) = absurd (unpassed h.0 i h.1)
 
 last_use : IsLastUse read_once (v 0) 1
 last_use = (inl read_early, used_within)

@@ -142,7 +142,7 @@ passed_used : (f : FunctionValue) → MayHaveTables f → (sites : List (Option 
 passed_used f w sites are b k lt edge v has free =
     let i : ℕ = last_of (block_at f b) in
     let some = (w.1.follow b lt).0 in
-    (i, inr (inr (b, k, (omega (arith, some), edge), has, λ d. free (noted_there f w sites are v i (goes_on_by_branch f w b k lt edge) d))))
+    (i, inr (inr (b, (k, (omega (arith, some), edge), has, λ d. free (noted_there f w sites are v i (goes_on_by_branch f w b k lt edge) d)))))
 
 -- what a branch passes and doesn't define isn't noted as its definition
 not_noted : (f : FunctionValue) → MayHaveTables f → (sites : List (Option DefSite)) → AreDefSites f sites → (b k : ℕ) → b < length f.blocks →
@@ -233,5 +233,5 @@ used_made f w v u = by_use u.0 u.1
     by_use : (i : ℕ) → UsesAt f v i → Made f v
     by_use i (inl r) = by_read i Early r
     by_use i (inr (inl r)) = by_read i Late r
-    by_use i (inr (inr (b, k, way, has, other))) =
+    by_use i (inr (inr (b, (k, way, has, other)))) =
         passed_made f w.1.defined_once b k v w.1.follow w.1.uses_defined (edge_within f b k way.1) way.1 has

@@ -113,14 +113,14 @@ by_read f v h = (h.0, subst (λ (w : VirtualRegister). UsesAt f w h.0) h.2.2.1 (
 pub by_pass : (f : FunctionValue) (v : VirtualRegister) → ((b : ℕ) × (b < length f.blocks) × SomePasses f v b) → IsUsedElsewhere f v
 by_pass f v (b, lt, (some, (k, edge, (has, other)))) = (
   last_of (block_at f b),
-  inr (inr (b, k, (omega (arith, some), edge), has, λ d. other (defines_of f v (last_of (block_at f b)) d))),
+  inr (inr (b, (k, (omega (arith, some), edge), has, λ d. other (defines_of f v (last_of (block_at f b)) d)))),
 )
 
 some_use : (f : FunctionValue) (v : VirtualRegister) (i : ℕ) → UsesAt f v i →
     ((j : ℕ) × (j < length f.insts) × SomeReads f v j) ⊎ ((b : ℕ) × (b < length f.blocks) × SomePasses f v b)
 some_use f v i (inl r) = inl (i, r.1.0, reads_of f v Early i r)
 some_use f v i (inr (inl r)) = inl (i, r.1.0, reads_of f v Late i r)
-some_use f v i (inr (inr (b, k, (end, edge), has, other))) =
+some_use f v i (inr (inr (b, (k, (end, edge), has, other)))) =
     let at : i ≡ last_of (block_at f b) = omega (arith, end) in
     let some : 0 < (block_at f b).range.end = omega (arith, end) in
     inr (b, edge_within f b k edge, (some, (k, edge, (has, λ s. other (subst (DefinesAt f v) (sym at) (defines_at f v (last_of (block_at f b)) s))))))

@@ -68,7 +68,7 @@ first_small f limited ssa v (of_parameter b lt h) = let within = ends_within f s
 use_small : (f : FunctionValue) → IsSSA f → (v : VirtualRegister) (i : ℕ) → UsesAt f v i → i < length f.insts
 use_small f ssa v i (inl r) = r.1.0
 use_small f ssa v i (inr (inl r)) = r.1.0
-use_small f ssa v i (inr (inr (b, k, (end, edge), has, other))) = let within = ends_within f ssa.follow b (edge_within f b k edge) in
+use_small f ssa v i (inr (inr (b, (k, (end, edge), has, other)))) = let within = ends_within f ssa.follow b (edge_within f b k edge) in
     omega (arith, within, end)
 
 last_small : (f : FunctionValue) → IsLimited f → IsSSA f → (v : VirtualRegister) {p : ℕ} → IsLastPoint f v p → p < 2147483648

@@ -61,7 +61,7 @@ HasNumber-from_Contains vs v h = (h.0, h.1, h.1, ap (λ (w : VirtualRegister). w
 pub used_number : (f : FunctionValue) (v : VirtualRegister) (i : ℕ) → UsesAt f v i → UsesNumber f v.number i
 used_number f v i (inl r) = reads OperandPos.Early r.0 r.1.0 (read_number f v OperandPos.Early i r)
 used_number f v i (inr (inl r)) = reads OperandPos.Late r.0 r.1.0 (read_number f v OperandPos.Late i r)
-used_number f v i (inr (inr (b, k, (end, edge), has, other))) =
+used_number f v i (inr (inr (b, (k, (end, edge), has, other)))) =
     passes (b, edge_within f b k edge, omega (arith, end), (k, edge, HasNumber-from_Contains (slice_index_or (block_at f b).arguments k []) v has))
 
 -- a reader reads
@@ -131,7 +131,7 @@ module _ (f : FunctionValue) (ssa : IsSSA f) where
       let last : ℕ = last_of (block_at f p.0) in
       let here = is_made f w (last + 1) (made_behind f w last (omega (arith, within, some)) (argument_defined p.0 p.3.0 k p.1 p.3.1 p.3.2.2)) in
       let same : w ≡ v = one_made f ssa.once w v here made p.3.2.3 in
-      (p.0, p.3.0, (omega (arith, some, p.2), p.3.1), (k, p.3.2.2, get_or_default vs k v no_vreg p.3.2.2 ∙ same), other)
+      (p.0, (p.3.0, (omega (arith, some, p.2), p.3.1), (k, p.3.2.2, get_or_default vs k v no_vreg p.3.2.2 ∙ same), other))
 
   -- a use comes after the definition
   pub use_after : (v : VirtualRegister) (i j : ℕ) → DefinesAt f v i → UsesAt f v j → i < j
@@ -141,7 +141,7 @@ module _ (f : FunctionValue) (ssa : IsSSA f) where
   use_after v i j d (inr (inl r)) = let n = read_number f v OperandPos.Late j r in
       reads_later f ssa.once v.number i d.0 j r.0 (IsDefOperand-from_DefinesAt f v i d) r.1.0 (reads_defined f ssa.some ssa.follow ssa.uses j r.1.0) n.within n.reading
       n.number
-  use_after v i j d (inr (inr (b, k, (end, edge), has, other))) =
+  use_after v i j d (inr (inr (b, (k, (end, edge), has, other)))) =
       let h = passes_later f ssa.once v.number i d.0 b k v (IsDefOperand-from_DefinesAt f v i d) ssa.follow ssa.uses (edge_within f b k edge) edge has refl in
       elim (cases_lt i j) [ inl less ↦ less | inr late ↦ absurd (other (subst (DefinesAt f v) (omega (arith, h, late, end)) d)) ]
 
@@ -162,7 +162,7 @@ module _ (f : FunctionValue) (ssa : IsSSA f) where
       read_defined : (at : OperandPos) (r : ReadsAt f v at j) → IsDefinedUpTo f v (after j)
       read_defined at r = later_point v (before j) (after j) (omega arith) (subst (λ (w : VirtualRegister). IsDefinedUpTo f w (before j)) r.1.2
           (reads_defined f ssa.some ssa.follow ssa.uses j r.1.0 r.0 r.1.1 r.2))
-  used_defined v j (inr (inr (b, k, (end, edge), has, other))) =
+  used_defined v j (inr (inr (b, (k, (end, edge), has, other)))) =
       let vs : List VirtualRegister = slice_index_or (block_at f b).arguments k [] in
       let at : slice_index_or vs has.0 no_vreg ≡ v = get_or_default vs has.0 no_vreg v has.1 ∙ has.2 in
       let last : j ≡ last_of (block_at f b) = omega (arith, end) in
@@ -191,5 +191,5 @@ module _ (f : FunctionValue) (ssa : IsSSA f) where
           inside : (v : VirtualRegister) (j : ℕ) → UsesAt f v j → j < length f.insts
           inside v j (inl r) = r.1.0
           inside v j (inr (inl r)) = r.1.0
-          inside v j (inr (inr (b, k, (end, edge), has, other))) = let within = ends_within f ssa.follow b (edge_within f b k edge) in
+          inside v j (inr (inr (b, (k, (end, edge), has, other)))) = let within = ends_within f ssa.follow b (edge_within f b k edge) in
               omega (arith, within, end)

@@ -126,7 +126,7 @@ module _ (walk : WholeWalk) (m : IsOutputOfWalk walk.f walk.env (Made walk.f) (M
               let has : Contains xs w = (j, inside, get_or_default xs j w no_vreg inside) in
               let same : w ≡ v = one_made f ok.defined_once w v (used_made f ok.defined_once ok.follow ok.uses_defined w b lb (inr (k, edge, has))) known e in
               let some : (block_at f b).range.first < (block_at f b).range.end = (ok.follow b lb).0 in
-              let most = greatest (last_of (block_at f b)) (inr (inr (b, k, (omega (arith, some), edge), subst (Contains xs) same has, other b behind))) in
+              let most = greatest (last_of (block_at f b)) (inr (inr (b, (k, (omega (arith, some), edge), subst (Contains xs) same has, other b behind)))) in
               omega (arith, most, behind),
         );
         params = λ b lb k few e. not_both f ok.defined_once v.number id d b k at (record { block = lb; param = few; number = e });

@@ -312,13 +312,15 @@ module _ (carrying : CarryingContext) where
               last,
               inr (inr (
                 b,
-                h.0,
-                (ended, h.2),
-                (j.0, inside, get_or_default (arguments_at f b h.0) j.0 v no_vreg inside ∙ j.3),
-                λ d.
-                    let o : (op_at (branch_operands f b) d.0).vreg.number ≡ v.number = ap (λ (x : VirtualRegister). x.number) d.1.2 in
-                    let is : defined_by (branch_operands f b) v.number ≡ true = defined_by-number (branch_operands f b) v.number d.0
-                    (record { operand = d.1.1; definition = d.2; number = o }) in cc,
+                (
+                  h.0,
+                  (ended, h.2),
+                  (j.0, inside, get_or_default (arguments_at f b h.0) j.0 v no_vreg inside ∙ j.3),
+                  λ d.
+                      let o : (op_at (branch_operands f b) d.0).vreg.number ≡ v.number = ap (λ (x : VirtualRegister). x.number) d.1.2 in
+                      let is : defined_by (branch_operands f b) v.number ≡ true = defined_by-number (branch_operands f b) v.number d.0
+                      (record { operand = d.1.1; definition = d.2; number = o }) in cc,
+                ),
               )),
             )
 
