@@ -62,6 +62,14 @@ numbers_append n (suc i) k =
     let o : n + suc i ≡ (n + 1) + i = omega arith in
     rw (e, o) (ap (λ l. n ∷ l) (numbers_append (n + 1) i k))
 
+-- a list flattened over parts is that of the first items, then the list of the next item, then that of the items after it
+pub flat_parts : {X Y : Type 0} (h : X → List Y) (all xs ys : List X) (x : X) → xs ++ x ∷ ys ≡ all → flat_map h all ≡ (flat_map h xs ++ h x) ++ flat_map h ys
+flat_parts h all xs ys x e = ap (flat_map h) (sym e) ∙ flat_map-append h xs (x ∷ ys) ∙ sym (append_assoc (flat_map h xs) (h x) (flat_map h ys))
+
+-- a list flattened over one more item is that of the items before, then the list of the item
+pub flat_next : {X Y : Type 0} (h : X → List Y) (xs : List X) (x : X) → flat_map h (xs ++ x ∷ []) ≡ flat_map h xs ++ h x
+flat_next h xs x = flat_map-append h xs (x ∷ []) ∙ ap (λ l. flat_map h xs ++ l) (append-nil (h x))
+
 -- a list flattened over a range is that of the first i numbers, then the list of the next one, then that of the numbers after it
 pub numbers_split : {Y : Type 0} (h : ℕ → List Y) (n k i : ℕ) → i < k → flat_map h (numbers_from n k) ≡ (flat_map h (numbers_from n i) ++ h (n + i))
     ++ flat_map h (numbers_from (n + i + 1) (k - i - 1))

@@ -73,11 +73,19 @@ pub struct OutputIter<'a> {
     inst_range: InstRange,
 }
 
+/// Returns the number of the point before `inst`, in 64 bits: a block's range may pass the last
+/// instruction that has points.
+fn number_before(inst: Inst) -> u64
+    ensures { result ≡ before inst }
+{
+    2 * u64::from(inst.0)
+}
+
 /// Returns `true` if `point` is at or before the point before `inst`.
 fn is_listed_by(point: ProgPoint, inst: Inst) -> bool
     ensures { IsTrue result ↔ (point ≤ before inst) }
 {
-    u64::from(point.to_index()) <= 2 * u64::from(inst.0)
+    u64::from(point.to_index()) <= number_before(inst)
 }
 
 impl<'a> Iterator for OutputIter<'a> {
@@ -166,7 +174,7 @@ impl<A: Allocator> Output<A> {
             (rest_of result) }
     {
         let inst_range = func.block_insns(block);
-        let first = 2 * u64::from(inst_range.first().0);
+        let first = number_before(inst_range.first());
         let edits = self.edits.as_slice();
         let begin = edits.partition_point(
             |e: &(ProgPoint, Edit)| -> bool

@@ -101,9 +101,7 @@ fn note_insts<F: Function>(
     ensures ok { OnOk result (NotesDefinitions defined.old (flat_map (inst_definitions (F.function f.now)) (numbers_of range)) defined.new) }
     ensures err { IfErr result (NamesTaken defined.old (flat_map (inst_definitions (F.function f.now)) (numbers_of range))) }
 {
-    let first = range.end().index() - range.len();
-    for i in 0..range.len() {
-        let inst = Inst::new(first + i);
+    for inst in range.iter() {
         note_operands(defined, f.inst_operands(inst), inst)?;
     }
     Ok(())
@@ -200,9 +198,7 @@ fn test_reads<F: Function>(
     ensures ok { OnOk result (All (IsUsable defined.now) (flat_map (inst_reads (F.function f.now)) (numbers_of range))) }
     ensures err { IfErr result (NamesUnusable defined.now (flat_map (inst_reads (F.function f.now)) (numbers_of range))) }
 {
-    let first = range.end().index() - range.len();
-    for i in 0..range.len() {
-        let inst = Inst::new(first + i);
+    for inst in range.iter() {
         test_operands(defined, f.inst_operands(inst), inst)?;
     }
     Ok(())
@@ -246,7 +242,7 @@ fn test_block<F: Function>(
 }
 
 /// Tests what all blocks read and pass.
-fn test_blocks<F: Function>(defined: &[Option<Definition>], f: &F) -> Result<(), RegAllocError>
+fn test_uses<F: Function>(defined: &[Option<Definition>], f: &F) -> Result<(), RegAllocError>
     requires { BlocksFollow (F.function f.now) }
     ensures ok { OnOk result (All (IsUsable defined.now) (uses_in (F.function f.now))) }
     ensures err { IfErr result (NamesUnusable defined.now (uses_in (F.function f.now))) }
@@ -270,7 +266,7 @@ fn test_over<F: Function>(defined: &mut [Option<Definition>], f: &F) -> Result<(
     ensures refused { IfErr result (IsDefinitionFault (F.function f.now)) }
 {
     note_blocks(defined, f)?;
-    test_blocks(defined, f)
+    test_uses(defined, f)
 }
 
 /// Tests the definitions of a function whose blocks follow one another, and then its uses.

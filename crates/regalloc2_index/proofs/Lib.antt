@@ -1,5 +1,6 @@
--- Lemmas on Booleans, numbers and lists that proofs of many crates share.
+-- Lemmas on Booleans, numbers, lists and walks over ranges that proofs of many crates share.
 -- Read first: `Bools`; each lemma is one that std's `lemmas.Bool`, `lemmas.List` and `lemmas.Nat` lack.
 -- Depends on std alone.
 pub mod Bools
 pub mod Numbers
+pub mod RangeWalks

@@ -19,8 +19,8 @@ returns-clause-once g c =
     let n : ℕ = length c.args.defined.now in
     let noted : NotesDefinitions (replicate n None) (definitions_in f) c.note_blocks.new.defined =
     subst (λ (t : Table). NotesDefinitions t (definitions_in f) c.note_blocks.new.defined) c.requires.blank c.in_ok-note_blocks.ensures.ok in
-    on_ok_weaker c.test_blocks.result (λ h. noted_once f c.requires.follow c.requires.some c.note_blocks.new.defined n c.requires.few noted)
-    c.test_blocks.ensures.ok
+    on_ok_weaker c.test_uses.result (λ h. noted_once f c.requires.follow c.requires.some c.note_blocks.new.defined n c.requires.few noted)
+    c.test_uses.ensures.ok
 
 pub returns-clause-uses : goal.returns-clause-uses
 returns-clause-uses g c =
@@ -28,7 +28,7 @@ returns-clause-uses g c =
     let n : ℕ = length c.args.defined.now in
     let noted : NotesDefinitions (replicate n None) (definitions_in f) c.note_blocks.new.defined =
     subst (λ (t : Table). NotesDefinitions t (definitions_in f) c.note_blocks.new.defined) c.requires.blank c.in_ok-note_blocks.ensures.ok in
-    on_ok_weaker c.test_blocks.result (λ h. usable_uses f c.requires.follow c.requires.some c.note_blocks.new.defined n noted h) c.test_blocks.ensures.ok
+    on_ok_weaker c.test_uses.result (λ h. usable_uses f c.requires.follow c.requires.some c.note_blocks.new.defined n noted h) c.test_uses.ensures.ok
 
 pub returns-clause-refused : goal.returns-clause-refused
 returns-clause-refused g c =
@@ -36,5 +36,5 @@ returns-clause-refused g c =
     let n : ℕ = length c.args.defined.now in
     let noted : NotesDefinitions (replicate n None) (definitions_in f) c.note_blocks.new.defined =
     subst (λ (t : Table). NotesDefinitions t (definitions_in f) c.note_blocks.new.defined) c.requires.blank c.in_ok-note_blocks.ensures.ok in
-    IfErr-weaker c.test_blocks.result _ (IsDefinitionFault f)
-    (λ e h. unusable_fault f c.requires.follow c.requires.some c.note_blocks.new.defined n c.requires.few noted e h) c.test_blocks.ensures.err
+    IfErr-weaker c.test_uses.result _ (IsDefinitionFault f)
+    (λ e h. unusable_fault f c.requires.follow c.requires.some c.note_blocks.new.defined n c.requires.few noted e h) c.test_uses.ensures.err

@@ -10,13 +10,13 @@ pub returns-clause-items : goal.returns-clause-items
 returns-clause-items g c =
     let o = output_of c.args.self.now in
     let range = c.block_insns-inst_range.result in
-    let t : ℕ = 2 * c.from-2.result in
+    let t : ℕ = c.number_before-first.result in
     let sorted = sorted_items c.args.self.now.edits.items c.requires.in_order.points_never_fall in
     let same = c.as_slice-edits.ensures.value in
     let point = c.partition_point-begin.ensures.partitioned (λ e. nat_lt e.0 t) (always_returns_same _ _ _ (λ a r f k. search (rules, of_calls)))
     (rw same (IsPartitionedBy-ltb (λ e. e.0) c.args.self.now.edits.items t sorted)) in
     let seen : o.edits ≡ map edit_of c.as_slice-edits.result.now = rw same in
-    let at_first : t ≡ before range.first = omega arith in
+    let at_first : t ≡ before range.first = rw c.first.ensures at c.number_before-first.ensures in
     rw (← c.block_insns-inst_range.ensures) (listing_of_items o c.as_slice-edits.result.now range.first (range.end - range.first) c.partition_point-begin.result
     t seen c.requires.in_order.points_never_fall at_first c.partition_point-begin.ensures.bound point)
 

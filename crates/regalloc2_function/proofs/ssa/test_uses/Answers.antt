@@ -9,7 +9,7 @@ use Rattle.regalloc2_function.proofs.ListsInParts.{flat_split, flat_more, flat_t
 use Rattle.regalloc2_function.proofs.Following.{end_within}
 use Rattle.regalloc2_function.proofs.BlockRanges.{block_is}
 use Rattle.regalloc2_function.proofs.NotedInParts.{unusable_in_part}
-use Rattle.regalloc2_function.proofs.ssa.test_blocks.Goals as goal
+use Rattle.regalloc2_function.proofs.ssa.test_uses.Goals as goal
 
 pub test_block-requires-clause-within : goal.test_block-requires-clause-within
 test_block-requires-clause-within g c = end_within (g.F.Function.function c.args.f.now) c.requires c.new.result
