@@ -7,7 +7,7 @@ use Rattle.regalloc2_names.specs.declared.RegAllocError.TheVariants.{SSA, TooMan
 use Rattle.regalloc2_function.specs.FunctionValue.{FunctionValue, inst_at, no_inst, no_operand, operand_count}
 use Rattle.regalloc2_function.specs.Machine.{MachineValue}
 use Rattle.regalloc2_function.specs.WellFormed.{FixedAvoidClobbers, IsWellFormed, ReusesAreSound, AreUnlimited}
-use Rattle.regalloc2_function.specs.Reasons.{HasShape, IsShapeFault, HasSoundness, IsSoundnessFault, IsFunctionFault}
+use Rattle.regalloc2_function.specs.Reasons.{HasShape, IsShapeFault, IsSoundnessFault, IsFunctionFault}
 use Rattle.regalloc2_function.specs.Reasons.IsShapeFault.{apart, critical, operands, outside, unlisted}
 use Rattle.regalloc2_function.specs.Reasons.IsSoundnessFault.{arguments, elsewhere, livein, open_end, repeated, undefined}
 use Rattle.regalloc2_function.proofs.ErrorOnlyOutOfMemory.{shape_refused}

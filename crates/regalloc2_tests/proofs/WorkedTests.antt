@@ -83,10 +83,10 @@ fixed_to_p0i n k q = record { vreg = v n; constraint = FixedReg p0i; kind = k; p
 
 -- two early uses that are fixed to one register don't fit
 two_uses_fixed : Fits read_once two_registers (op (fixed_to_p0i 0 Use Early ∷ fixed_to_p0i 1 Use Early ∷ [])) → ⊥
-two_uses_fixed fits = (fits.apart 0 1 (use_reg 0) (use_reg 0) p0i (omega arith) (omega arith) refl refl refl refl).0 (early, early)
+two_uses_fixed fits = (fits.apart 0 1 (use_reg 0) (use_reg 0) p0i (omega arith) (omega arith) refl refl refl refl).0 (early 0, early 1)
   where
-    early : {n : ℕ} → TakesEarly (fixed_to_p0i n Use Early)
-    early e = absurd (let no : false ≡ true = e in cc)
+    early : (n : ℕ) → TakesEarly (fixed_to_p0i n Use Early)
+    early n e = absurd (let no : false ≡ true = e in cc)
 
 -- one more register where the class has fixed stack slots and no dedicated scratch register
 abbrev spare_of : MachineValue → RegClass → ℕ
