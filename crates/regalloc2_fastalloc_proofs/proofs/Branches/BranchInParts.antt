@@ -18,19 +18,19 @@ use Rattle.regalloc2_fastalloc_proofs.specs.BranchSteps.{ClassMove, GathersMoves
 use Rattle.regalloc2_fastalloc_proofs.proofs.Operands.RecordOverState.{location_at, slots_at}
 use Rattle.regalloc2_fastalloc_proofs.proofs.Inst.OneInstCarries.{IsBetweenInsts}
 use Rattle.regalloc2_fastalloc_proofs.proofs.BlockBegin.ReloadAtBegin.{SpareHere}
-use Rattle.regalloc2_fastalloc_proofs.proofs.BlockBegin.CarriesFromSlot.{is_there, at_location-true, at_location-same, at_location-none}
+use Rattle.regalloc2_fastalloc_proofs.proofs.BlockBegin.CarriesFromSlot.{at_location, at_location-true, at_location-same, at_location-none}
 use Rattle.regalloc2_fastalloc_proofs.proofs.Branches.ArgsSpilled.{Stage}
 use Rattle.regalloc2_fastalloc_proofs.proofs.Branches.EdgeArgsGathered.{MovesByClass, arguments_gathered}
 use Rattle.regalloc2_fastalloc_proofs.proofs.Operands.BlockTail.{tail_of}
 
 -- a slot that is made later is needed, if the block doesn't write its vreg
 abbrev pub is_kept : Bool → ℕ → Option Place → Place → ℕ → Bool
-is_kept block v F p x = nat_eq x v && (not block && is_there F p)
+is_kept block v F p x = nat_eq x v && (not block && at_location F p)
 
 kept-clear : (block : Bool) (v : ℕ) (F : Option Place) → ((r : Register) → F ≡ Some (InRegister r) → ⊥) → (r : Register) (x : ℕ) →
     is_kept block v F (InRegister r) x ≡ false
-kept-clear block v F only r x = and_right (nat_eq x v) (not block && is_there F (InRegister r))
-    (and_right (not block) (is_there F (InRegister r)) (at_location-none F (InRegister r) (only r)))
+kept-clear block v F only r x = and_right (nat_eq x v) (not block && at_location F (InRegister r))
+    (and_right (not block) (at_location F (InRegister r)) (at_location-none F (InRegister r) (only r)))
 
 module _ (insts : ℕ → InstValue) (placesf : ℕ → List Place) (last : ℕ) (v : VirtualRegister) (block : Bool) (F : Option Place)
     (only : (r : Register) → F ≡ Some (InRegister r) → ⊥) (E : Place → Type 0) where
@@ -62,8 +62,8 @@ module _ (insts : ℕ → InstValue) (placesf : ℕ → List Place) (last : ℕ)
             (λ p h. elim h.1 [
               | inl at ↦ located refl at
               | inr (inl at) ↦ in_slot refl at
-              | inr (inr at) ↦ made (and_from (nat_eq v.number v.number) (not block && is_there F p) (eq-eqb v.number v.number refl)
-                  (and_from (not block) (is_there F p) (ap not at.0) (at_location-same F p at.1)))
+              | inr (inr at) ↦ made (and_from (nat_eq v.number v.number) (not block && at_location F p) (eq-eqb v.number v.number refl)
+                  (and_from (not block) (at_location F p) (ap not at.0) (at_location-same F p at.1)))
             ])
             (λ p h. h) here);
         fit = b.fit;
@@ -79,7 +79,7 @@ module _ (insts : ℕ → InstValue) (placesf : ℕ → List Place) (last : ℕ)
       (λ p h. elim h [
         | located l at ↦ (refl, inl at)
         | in_slot o at ↦ (refl, inr (inl at))
-        | made x ↦ (let y = and_parts (nat_eq v.number v.number) (not block && is_there F p) x in let z = and_parts (not block) (is_there F p) y.1 in
+        | made x ↦ (let y = and_parts (nat_eq v.number v.number) (not block && at_location F p) x in let z = and_parts (not block) (at_location F p) y.1 in
             (refl, inr (inr (not-true block z.0, at_location-true F p z.1))))
       ])
       (λ p h. h) (s.brings v refl))
