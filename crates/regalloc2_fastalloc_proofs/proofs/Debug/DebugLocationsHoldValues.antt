@@ -13,6 +13,7 @@ use Rattle.regalloc2_names.specs.Operand.{is_fixed_nonallocatable}
 use Rattle.regalloc2_semantics.specs.Debug.{ShowsValue}
 use Rattle.regalloc2_function.specs.WellFormed.{IsWellFormed}
 use Rattle.regalloc2_semantics.specs.Laws.{ReadsAgreeOnPaths}
+use Rattle.regalloc2_semantics.proofs.Soundness.{edge_within}
 use Rattle.regalloc2_carry.proofs.SingleDef.{Made, by_operand}
 use Rattle.regalloc2_analysis.specs.declared.live_ranges.InstOperand.{InstOperand}
 use Rattle.regalloc2_analysis.specs.declared.live_ranges.LiveRange.{LiveRange}
@@ -40,7 +41,11 @@ module _ (env : MachineValue) (f : FunctionValue) (limited : IsLimited f) (ok : 
       (((all_proper env f limited ok).knows o.inst r.reader.inst).reading o.index r.reader.index r.reader.reading)
   shown_made v (by_argument i most never nor) = elim most.0 [
     | inl a ↦ absurd (nor a)
-    | inr rest ↦ elim rest [ inl b ↦ absurd (never b) | inr p ↦ used_made f ok.defined_once ok.follow ok.uses_defined v p.0 p.2 (inr (p.1, p.4, p.5)) ]
+    | inr rest ↦ elim rest [
+      | inl b ↦ absurd (never b)
+      | inr p ↦ (let edge = p.1.1.1 in
+          used_made f ok.defined_once ok.follow ok.uses_defined v p.0 (edge_within f p.0 p.1.0 edge) (inr (p.1.0, edge, p.1.2)))
+    ]
   ]
   shown_made v (by_definition o never d) =
       by_operand o.inst o.index (record { inst = d.inst; operand = d.index; definition = d.definition; number = ap (λ (w : VirtualRegister). w.number) d.vreg })
@@ -68,7 +73,7 @@ module _ (walk : WholeWalk) (m : IsOutputOfWalk walk.f walk.env (Made walk.f) (M
     | inl a ↦ nor a
     | inr rest ↦ elim rest [
       | inl b ↦ never b
-      | inr p ↦ passed_slots walk (processes_branch_between f) v i p none
+      | inr p ↦ passed_slots walk (processes_branch_between f) v (record { block = p.0; inst = i }) p.1 none
     ]
   ])
   by_proper written v (by_definition o never d) none = operand_proper v o d.inst d.index
