@@ -4,7 +4,7 @@ use Rattle.std.proofs.Common.{◌∙◌, subst, arith, lt-ltb, ltb-true, eqb-tru
 use Rattle.std.proofs.Math.Seq.{get_or-append_seam}
 use Rattle.std.specs.Prelude.{slice_index_or, nat_lt, Contains, All}
 use Rattle.std.specs.List.{list_all}
-use Rattle.std.proofs.lemmas.List.{length-map}
+use Rattle.std.proofs.lemmas.List.{length-map, get_or_default}
 use Rattle.std.proofs.lemmas.List.Recursion.{max_bounds}
 use Rattle.std.proofs.lemmas.Bool.{and_parts}
 use Rattle.regalloc2_names.specs.Register.{Register, VirtualRegister}
@@ -12,7 +12,7 @@ use Rattle.regalloc2_names.specs.declared.RegClass.{RegClass}
 use Rattle.regalloc2_names.specs.declared.OperandConstraint.TheVariants.{Any, Reg, Reuse}
 use Rattle.regalloc2_names.specs.Operand.{OperandValue, is_fixed_nonallocatable}
 use Rattle.regalloc2_names.specs.Place.{Place, NoPlace, InRegister, InSlot}
-use Rattle.regalloc2_function.specs.FunctionValue.{FunctionValue, block_at, inst_at}
+use Rattle.regalloc2_function.specs.FunctionValue.{FunctionValue, block_at, inst_at, no_operand}
 use Rattle.regalloc2_function.specs.Machine.{MachineValue, IsPlainRegister, scratch_of}
 use Rattle.regalloc2_function.specs.OutputValue.{OutputValue, allocs_of, place_at}
 use Rattle.regalloc2_semantics.specs.Faithful.{Meets, IsStackToStack}
@@ -319,7 +319,12 @@ module _ (p : Procedure) (env : MachineValue) (out : OutputValue) (t : IsTarget 
 
   placed : (i : ℕ) → i < length f.insts → IsPlaced (frame_slots out.num_spillslots) (op i) (allocs_of out i)
   placed i less =
-      let all : AreFor env out t (inst_at f i).operands (allocs_of out i) = record { proper = a.proper.operands i less; meets = a.constraints i less } in
+      let os : List OperandValue = (inst_at f i).operands in
+      let all : AreFor env out t os (allocs_of out i) = record {
+        proper = a.proper.operands i less;
+        meets = λ k d within. subst (λ (o : OperandValue). Meets env (length os) (allocs_of out i) o.constraint (place_at (allocs_of out i) k))
+            (get_or_default os k no_operand d within) (a.constraints i less k within);
+      } in
       is_placed env out t (op i) (allocs_of out i) (is_read p.num_vregs (op i) p.few_vregs (registers_known p i less))
       (subst (λ (os : List OperandValue). AreFor env out t os (allocs_of out i)) (insts_are p i less).operands all)
 

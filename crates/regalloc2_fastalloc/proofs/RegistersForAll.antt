@@ -62,7 +62,7 @@ pub are_few : (f : FunctionValue) (env : MachineValue) (allocatable : PRegSet) �
 unfolding allocatable_count
 are_few f env allocatable h all class vs distinct named =
     let most : length vs ≤ allocatable_count env class = h.enough class vs distinct
-    (λ k d lt. (let n = named k d lt in (n.0, from_names f.insts (slice_index_or vs k d) n.1))) in
+    (λ k d lt. (let n = named k d lt in let at = from_names f.insts (slice_index_or vs k d) n.1 in (n.0, (at.0, at.1, (at.2, at.3, at.4))))) in
     let more : count_below (λ n. is_allocatable env class (register_number class n)) 64 ≤ count_below (λ n. has_register allocatable (register_number class n))
     64 =
     count_le (λ n. is_allocatable env class (register_number class n)) (λ n. has_register allocatable (register_number class n)) 64

@@ -34,10 +34,15 @@ read_early : ReadsAt read_once (v 0) Early 1
 read_early = (0, (omega arith, omega arith, refl), refl, refl)
 
 unread_late : (i : ℕ) → ReadsAt read_once (v 0) Late i → ⊥
-unread_late i h = grind arith
+unread_late zero (zero, names, reads, late) = (let e : false ≡ true = reads in cc)
+unread_late zero (suc k, names, reads, late) = (let less = names.1 in omega (arith, less))
+unread_late (suc zero) (zero, names, reads, late) = (let e : Early ≡ Late = late in cc)
+unread_late (suc zero) (suc k, names, reads, late) = (let less = names.1 in omega (arith, less))
+unread_late (suc (suc i)) (k, names, reads, late) = (let lt = names.0 in omega (arith, lt))
 
 unpassed : (b i : ℕ) → PassesAt read_once (v 0) (record { block = b; inst = i }) → ⊥
-unpassed b i h = grind arith
+unpassed zero i h = (let edge = h.1.1 in omega (arith, edge))
+unpassed (suc b) i h = (let edge = h.1.1 in omega (arith, edge))
 
 used_within : (i : ℕ) → UsesAt read_once (v 0) i → i ≤ 1
 used_within i (inl h) = omega (arith, h.1.0)
