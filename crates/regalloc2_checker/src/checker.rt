@@ -12,7 +12,7 @@ ghost use Rattle.regalloc2_checker.specs.FramedIsProp.{framed-once};
 
 use crate::errors::{CheckerError, CheckerErrors};
 use crate::find_errors::find_errors;
-use crate::handle::handle_output;
+use crate::output::copied;
 use regalloc2_function::{Function, MachineEnv, Output};
 use std::alloc::{Allocator, Global};
 
@@ -110,7 +110,7 @@ impl<'a, F: Function, A: Allocator + Copy, B: Allocator> Checker<'a, F, A, B> {
         if !out.is_in_order(self.f) {
             return Err(CheckerError::MalformedOutput);
         }
-        match handle_output(self.alloc, out) {
+        match copied(self.alloc, out) {
             Ok(copy) => {
                 self.prepared = Some(copy);
                 Ok(())

@@ -18,8 +18,8 @@ use crate::analyze::analyze;
 use crate::check::{Judging, check_inst};
 use crate::constraints::stack_slots;
 use crate::errors::CheckerError;
-use crate::handle::handle_listing;
 use crate::listing::Listing;
+use crate::output::moves_by_inst;
 use crate::sweep::is_clean;
 use regalloc2_function::{Function, MachineEnv, Output};
 use regalloc2_index::{Block, Inst};
@@ -72,6 +72,7 @@ fn check_all<F: Function, A: Allocator + Copy>(
     requires solved { IsSolved (F.function f.now) o (views values.old reached.now) }
     ensures { IfOk result (λ r. (env : MachineValue) → AreStackSlots env slots → IsReport (F.function f.now) env o r.items) }
 {
+    // A lemma, which does nothing at run time: each write that a run finds was made at an earlier step.
     finds_earlier_writes();
     let by = Judging {
         alloc,
@@ -121,7 +122,7 @@ pub fn find_errors<F: Function, A: Allocator + Copy, B: Allocator, C: Allocator>
     requires in_order { IsInOrder (F.function f.now) (output_of out.now) }
     ensures { IfOk result (λ r. IsReport (F.function f.now) (machine_of env.now) o r.items) }
 {
-    let listed = handle_listing(alloc, f, out)?;
+    let listed = moves_by_inst(alloc, f, out)?;
     let listing = Listing {
         edits: &out.edits,
         listed: &listed,

@@ -36,7 +36,7 @@ pub fn vreg_position<A: Allocator + Copy>(values: &PassingTables<A>, vreg: VReg)
     values.vreg(vreg.bits() as u32)
 }
 
-/// The bits of a vreg.
+/// Returns the bits of `vreg`.
 pub fn bits_of(vreg: VReg) -> u32
     ensures bits { result ≡ bits_of_vreg vreg }
     ensures packed { is_packed_vreg vreg ≡ true }

@@ -414,7 +414,7 @@ fn meet_entries<A: Allocator + Copy>(
 {
     let mut is_less = false;
     let mut from = 0;
-    'chunks: while let Some(chunk) = entries.next_chunk(table, from) {
+    while let Some(chunk) = entries.next_chunk(table, from) {
         is_less = meet_chunk(entries, sets, table, chunk, bound, is_less)?;
         from = chunk + 1;
     }

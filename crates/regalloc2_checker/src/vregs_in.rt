@@ -4,20 +4,12 @@ ghost use Rattle.std.specs.Prelude.{◌≡◌, ◌≢◌, ◌<◌, true, IfOk, M
 ghost use Rattle.regalloc2_names.specs.Register.{VirtualRegister};
 ghost use Rattle.regalloc2_names.specs.RegisterBits.{bits_of_vreg};
 ghost use Rattle.regalloc2_checker.specs.Report.{AreVRegsInValue};
-ghost use Rattle.regalloc2_checker.specs.TableFacts.{is_packed_vreg, facts_now};
+ghost use Rattle.regalloc2_checker.specs.TableFacts.{facts_now};
 
 use crate::PassingTables;
-use crate::lookup::position;
+use crate::lookup::{bits_of, position};
 use regalloc2_names::{Allocation, VReg};
 use std::alloc::{AllocError, Allocator};
-
-/// Returns the bits of `vreg`.
-fn bits_of(vreg: VReg) -> u32
-    ensures bits { result ≡ bits_of_vreg vreg }
-    ensures packed { is_packed_vreg vreg ≡ true }
-{
-    vreg.bits() as u32
-}
 
 /// Returns whether `place` holds `vreg`.
 #[inline(always)]

@@ -1,9 +1,8 @@
-//! An array of numbers, and saved copies of it, for many copies that each differ little from
-//! another.
+//! An array of numbers, and saved copies of it, for many copies that each differ little from another.
 //!
-//! An array is kept in chunks of 64 numbers. The chunks of all saved copies are in one list of
-//! words that grows until copies are dropped. Where the chunks of each copy begin is an array of
-//! numbers itself, with saved copies, so neither saving nor loading a copy goes over all chunks.
+//! An array is kept in chunks of 64 numbers. The chunks of all saved copies are in one list of words that grows until
+//! copies are dropped. Where the chunks of each copy begin is an array of numbers itself, with saved copies. Saving or
+//! loading a copy therefore doesn't visit all chunks.
 
 ghost use Rattle.std.specs.Prelude.{◌≡◌, ◌≢◌, ℕ, ◌+◌, ◌*◌, ◌/◌, ◌-◌, ◌^◌, ◌<◌, ◌≤◌, length, get_or, slice_set};
 ghost use Rattle.std.specs.Prelude.{◌⊎◌, IfOk, IfSome, OnOk, OnErr, None, Some, [], true, false, Contains};
@@ -18,7 +17,7 @@ use crate::versions::{Versions, begins_with_zeros, copy_chunk, is_same_chunk, ma
 use std::alloc::{AllocError, Allocator};
 use std::marker::Model;
 
-/// Where a chunk that was written since is stored.
+/// The base of a chunk that was written since it was last stored.
 const UNSAVED: u32 = u32::MAX;
 
 /// An array of numbers, and saved copies of it, by number. `last` is the copy that was last loaded or saved.
@@ -40,7 +39,7 @@ impl<A: Allocator> Model for Entries<A> {
     ghost invariant = { λ v. AreChunksKept v.words.items v.cells.items v.bases };
 }
 
-/// Copies to the array the chunks of the saved `copy` in which it differs.
+/// Copies to the array the chunks in which the saved `copy` differs from it.
 fn load_chunks<A: Allocator + Copy>(
     words: &[u32],
     bases: &Versions<A>,
@@ -52,7 +51,7 @@ fn load_chunks<A: Allocator + Copy>(
     ensures { AreLoaded words.now cells.new bases.now copy (length bases.now.cells) }
 {
     let mut from = 0;
-    'chunks: while let Some(chunk) = bases.next_difference(copy, from) {
+    while let Some(chunk) = bases.next_difference(copy, from) {
         let base = bases.saved(copy, chunk) as usize;
         copy_chunk(words, base, cells, 64 * chunk);
         from = chunk + 1;
@@ -111,7 +110,7 @@ fn save_chunks<A: Allocator + Copy>(
     ensures saved { OnOk result (AreSaved bases.new (length bases.old.cells)) }
 {
     let mut from = 0;
-    'chunks: while let Some(chunk) = bases.next_difference(near, from) {
+    while let Some(chunk) = bases.next_difference(near, from) {
         save_chunk(words, bases, copy, cells, chunk)?;
         from = chunk + 1;
     }
@@ -219,7 +218,7 @@ impl<A: Allocator + Copy> Entries<A> {
         ensures written { (i : ℕ) → i < length self.now.cells → number_now to.new i ≡ saved_number self.now copy i }
     {
         let mut from = 0;
-        'chunks: while let Some(chunk) = self.next_chunk(copy, from) {
+        while let Some(chunk) = self.next_chunk(copy, from) {
             let base = self.base(copy, chunk);
             to.write_all(64 * chunk, &self.words[base..base + 64]);
             from = chunk + 1;

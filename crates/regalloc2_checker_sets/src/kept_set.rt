@@ -9,6 +9,15 @@ use regalloc2_function::indexset::IndexSet;
 use std::alloc::{AllocError, Allocator};
 use std::marker::Model;
 
+/// How many words of 32 bits a set of two numbers takes.
+const PAIR_WORDS: usize = 8;
+
+/// How many words of 32 bits another set takes, without its members.
+const SET_WORDS: usize = 64;
+
+/// How many words of 32 bits 64 members of a set take that share a word of its bits.
+const ENTRY_WORDS: usize = 6;
+
 /// A set of bits: `first` and `second`, unless `many` holds another set.
 ///
 /// `many` holds at most one set. A vector keeps the room of an `IndexSet` out of a set of two.
@@ -153,19 +162,19 @@ impl<A: Allocator + Copy> Kept<A> {
         is_part(set, many)
     }
 
-    /// Returns how many words of 32 bits it takes, or more.
+    /// Returns how many words of 32 bits the set takes, at most.
     pub fn word_count(&self) -> usize {
         if self.many.is_empty() {
-            return 8;
+            return PAIR_WORDS;
         }
-        let mut count: usize = 64;
+        let mut count: usize = SET_WORDS;
         let mut last = usize::MAX;
         for member in self.many[0].iter() {
             if member / 64 == last {
                 continue;
             }
             last = member / 64;
-            count = count.saturating_add(6);
+            count = count.saturating_add(ENTRY_WORDS);
         }
         count
     }

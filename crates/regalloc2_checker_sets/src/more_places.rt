@@ -256,7 +256,7 @@ impl<A: Allocator + Copy> MoreList<A> {
         }
     }
 
-    /// Returns how many there are.
+    /// Returns how many entries there are.
     pub fn len(&self) -> usize
         ensures { result ≡ length self.now }
     {
@@ -274,7 +274,7 @@ impl<A: Allocator + Copy> MoreList<A> {
         None
     }
 
-    /// Adds no places at the end.
+    /// Adds an entry without places.
     pub fn push(&mut self) -> Result<(), AllocError>
         ensures more { AreMorePlaces self.old self.new }
         ensures long { OnOk result (length self.new ≡ length self.old + 1) }

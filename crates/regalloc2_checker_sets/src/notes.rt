@@ -17,8 +17,8 @@ pub struct Noted {
     pub number: u32,
 }
 
-/// Sets that were made of others, each at a place that `from` and `other` determine. The last set that was noted there
-/// stays.
+/// Sets that were made of others, each at an index that `from` and `other` determine. Of the sets noted at an index, the
+/// last one stays.
 #[derive(Drop)]
 pub struct Notes<A: Allocator> {
     entries: Vec<Option<Noted>, A>,
@@ -33,9 +33,9 @@ impl<A: Allocator> Model for Notes<A> {
     ghost view = { λ n. n.entries.items };
 }
 
-/// Returns the place of a set that is made of `from` and `other`.
+/// Returns the index of a set that is made of `from` and `other`.
 #[inline(always)]
-fn place_of(from: u32, other: u32) -> usize {
+fn index_of(from: u32, other: u32) -> usize {
     let mixed = from
         .wrapping_mul(0x9e37_79b1)
         .wrapping_add(other.wrapping_mul(0x85eb_ca6b));
@@ -65,11 +65,11 @@ impl<A: Allocator + Copy> Notes<A> {
     pub fn find(&self, from: u32, other: u32) -> Option<u32>
         ensures { (n : ℕ) → result ≡ Some n → (i : ℕ) × (get_or self.now i None ≡ Some (record { from = from; other = other; number = n })) }
     {
-        let place = place_of(from, other);
-        if place >= self.entries.len() {
+        let index = index_of(from, other);
+        if index >= self.entries.len() {
             return None;
         }
-        let noted = self.entries[place]?;
+        let noted = self.entries[index]?;
         if noted.from == from && noted.other == other {
             return Some(noted.number);
         }
@@ -81,12 +81,12 @@ impl<A: Allocator + Copy> Notes<A> {
         ensures { (i : ℕ) (e : Noted) → get_or self.new i None ≡ Some e
             → (get_or self.old i None ≡ Some e) ⊎ (e ≡ record { from = from; other = other; number = number }) }
     {
-        let place = place_of(from, other);
-        if place >= self.entries.len() {
+        let index = index_of(from, other);
+        if index >= self.entries.len() {
             self.entries = empty_entries(alloc)?;
         }
-        if place < self.entries.len() {
-            self.entries[place] = Some(Noted {
+        if index < self.entries.len() {
+            self.entries[index] = Some(Noted {
                 from,
                 other,
                 number,

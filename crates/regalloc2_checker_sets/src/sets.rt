@@ -81,8 +81,8 @@ fn spread(number: usize) -> usize {
     mixed ^ (mixed >> 29)
 }
 
-/// Returns the place in `known` of a set with the members of `set`.
-fn place_of<A: Allocator + Copy>(set: &IndexSet<A>) -> usize {
+/// Returns the index in `known` of a set with the members of `set`.
+fn known_index<A: Allocator + Copy>(set: &IndexSet<A>) -> usize {
     let mut sum: usize = 0;
     for member in set.iter() {
         sum = sum.wrapping_add(spread(member));
@@ -150,7 +150,7 @@ impl<A: Allocator + Copy> Sets<A> {
         requires { set < length self.now }
         ensures { (b : ℕ) → result ≡ Some b → IsSetOf self.now set (λ y. nat_eq y b) }
     {
-        // Reading a field shows the prover the invariant of `self`, here and in the functions below.
+        // Reading a field shows the check the invariant of `self`, here and in the functions below. It does nothing at run time.
         let _ = &self.kept;
         if set >= FIRST {
             return None;
@@ -216,14 +216,14 @@ impl<A: Allocator + Copy> Sets<A> {
         Ok(FIRST + index)
     }
 
-    /// Returns the number of the kept set that was last put at `place` in `known`.
-    fn known_at(&self, place: usize) -> Option<u32>
+    /// Returns the number of the kept set that was last put at `index` in `known`.
+    fn known_at(&self, index: usize) -> Option<u32>
         ensures { (n : ℕ) → result ≡ Some n → (2147483648 ≤ n) × (n < length self.now) }
     {
-        if place >= self.known.len() {
+        if index >= self.known.len() {
             return None;
         }
-        let number = self.known[place];
+        let number = self.known[index];
         if number < FIRST {
             return None;
         }
@@ -233,34 +233,34 @@ impl<A: Allocator + Copy> Sets<A> {
         Some(number)
     }
 
-    /// Puts `number` at `place` in `known`.
-    fn know(&mut self, place: usize, number: u32) -> Result<(), AllocError>
+    /// Puts `number` at `index` in `known`.
+    fn know(&mut self, index: usize, number: u32) -> Result<(), AllocError>
         ensures { self.new ≡ self.old }
     {
-        if place >= self.known.len() {
+        if index >= self.known.len() {
             self.known = Vec::from_elem(self.alloc, 0, KNOWN)?;
         }
-        if place < self.known.len() {
-            self.known[place] = number;
+        if index < self.known.len() {
+            self.known[index] = number;
         }
         Ok(())
     }
 
-    /// Keeps `set`, puts it at `place` in `known`, and returns its number.
-    fn keep_at(&mut self, set: Kept<A>, place: usize) -> Result<u32, AllocError>
+    /// Keeps `set`, puts it at `index` in `known`, and returns its number.
+    fn keep_at(&mut self, set: Kept<A>, index: usize) -> Result<u32, AllocError>
         ensures more { AreMore self.old self.new }
         ensures found { IfOk result (λ n. IsSetOf self.new n (has_bits set)) }
     {
         let number = self.keep(set)?;
-        self.know(place, number)?;
+        self.know(index, number)?;
         Ok(number)
     }
 
-    /// Returns the number of a kept set with the members of `set`, if it is at `place` in `known`.
-    fn find_set(&self, set: &IndexSet<A>, place: usize) -> Option<u32>
+    /// Returns the number of a kept set with the members of `set`, if it is at `index` in `known`.
+    fn find_set(&self, set: &IndexSet<A>, index: usize) -> Option<u32>
         ensures { (n : ℕ) → result ≡ Some n → IsSetOf self.now n (has_bits set.now) }
     {
-        let Some(number) = self.known_at(place) else {
+        let Some(number) = self.known_at(index) else {
             return None;
         };
         if self.kept(number).is_same(set) {
@@ -274,12 +274,12 @@ impl<A: Allocator + Copy> Sets<A> {
         ensures more { AreMore self.old self.new }
         ensures found { IfOk result (λ n. IsSetOf self.new n (has_bits set)) }
     {
-        let place = place_of(&set);
-        if let Some(number) = self.find_set(&set, place) {
+        let index = known_index(&set);
+        if let Some(number) = self.find_set(&set, index) {
             return Ok(number);
         }
         let kept = Kept::many(self.alloc, set)?;
-        self.keep_at(kept, place)
+        self.keep_at(kept, index)
     }
 
     /// Adds the set of `first` and `second`, and returns its number.

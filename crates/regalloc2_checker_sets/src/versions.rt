@@ -85,7 +85,7 @@ fn equal_groups(words: &[u32], base: usize, cells: &[u32], first: usize, from: u
     ensures same { (t : ℕ) → from ≤ t → t < result → get_or cells.now (first + t) 0 ≡ get_or words.now (base + t) 0 }
 {
     let mut t = from;
-    'groups: while t <= 48 {
+    while t <= 48 {
         if &cells[first + t..first + t + 16] != &words[base + t..base + t + 16] {
             return t;
         }

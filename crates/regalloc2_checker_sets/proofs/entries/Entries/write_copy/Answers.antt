@@ -4,9 +4,9 @@ use Rattle.regalloc2_checker_sets.specs.SavedNumbers.{number_now, saved_number}
 use Rattle.regalloc2_checker_sets.proofs.Written.{chunk-written}
 use Rattle.regalloc2_checker_sets.proofs.entries.Entries.write_copy.Goals as goal
 
-pub chunks-preserved : goal.chunks-preserved
-chunks-preserved g c =
-    let inv = c.chunks.invariant in
+pub loop-chunk-preserved : goal.loop-chunk-preserved
+loop-chunk-preserved g c =
+    let inv = c.loop-chunk.invariant in
     let found = c.in-Some.ensures.some c.in-Some.chunk refl in
     let w = c.write_all.ensures in
     record {
@@ -14,7 +14,7 @@ chunks-preserved g c =
       saved = λ k i. w.saved k i ∙ inv.saved k i;
       long = w.long ∙ inv.long;
       written = λ i low less. elim (cases_lt i (64 * c.in-Some.chunk)) [
-        | inl l ↦ w.before i l ∙ elim (cases_lt i (64 * c.chunks.from)) [
+        | inl l ↦ w.before i l ∙ elim (cases_lt i (64 * c.loop-chunk.from)) [
           | inl e ↦ inv.written i e less
           | inr e ↦ inv.rest i e less ∙ found.3 i e l
         ]
@@ -23,8 +23,8 @@ chunks-preserved g c =
       rest = λ i high less. w.after i (search rules) ∙ inv.rest i (omega (arith, high, found.0)) less;
     }
 
-pub chunks-init : goal.chunks-init
-chunks-init g c = record {
+pub loop-chunk-init : goal.loop-chunk-init
+loop-chunk-init g c = record {
   count = refl;
   saved = λ k i. refl;
   long = refl;
@@ -41,18 +41,18 @@ base-base-requires g c =
     record { copy = c.requires.copy; chunk = found.1 }
 
 pub returns-clause-count : goal.returns-clause-count
-returns-clause-count g c = c.chunks.invariant.count
+returns-clause-count g c = c.loop-chunk.invariant.count
 
 pub returns-clause-saved : goal.returns-clause-saved
-returns-clause-saved g c = c.chunks.invariant.saved
+returns-clause-saved g c = c.loop-chunk.invariant.saved
 
 pub returns-clause-long : goal.returns-clause-long
-returns-clause-long g c = c.chunks.invariant.long
+returns-clause-long g c = c.loop-chunk.invariant.long
 
 pub returns-clause-written : goal.returns-clause-written
 returns-clause-written g c i less =
-    let inv = c.chunks.invariant in
-    elim (cases_lt i (64 * c.chunks.from)) [
+    let inv = c.loop-chunk.invariant in
+    elim (cases_lt i (64 * c.loop-chunk.from)) [
       | inl l ↦ inv.written i l less
       | inr h ↦ inv.rest i h less ∙ c.in_default.ensures.none refl i h less
     ]
@@ -60,5 +60,5 @@ returns-clause-written g c i less =
 pub write_all-requires-clause-small : goal.write_all-requires-clause-small
 write_all-requires-clause-small g c = let found = c.in-Some.ensures.some c.in-Some.chunk refl in omega (arith, found.2)
 
-pub chunks-smaller : goal.chunks-smaller
-chunks-smaller g c = let found = c.in-Some.ensures.some c.in-Some.chunk refl in omega (arith, found.0, found.1)
+pub loop-chunk-smaller : goal.loop-chunk-smaller
+loop-chunk-smaller g c = let found = c.in-Some.ensures.some c.in-Some.chunk refl in omega (arith, found.0, found.1)

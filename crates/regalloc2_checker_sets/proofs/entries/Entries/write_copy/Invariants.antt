@@ -3,8 +3,8 @@ use Rattle.regalloc2_checker_sets.specs.SavedNumbers.{copy_count, saved_number, 
 use Rattle.regalloc2_checker_sets.proofs.entries.Entries.write_copy.Given as goal
 
 -- below a chunk the array has what the saved copy has
-abbrev pub invariant-chunks : goal.invariant-chunks
-invariant-chunks g l = record {
+abbrev pub invariant-loop-chunk : goal.invariant-loop-chunk
+invariant-loop-chunk g l = record {
   count : copy_count l.to ≡ copy_count l.fn.to;
   saved : (k i : ℕ) → saved_number l.to k i ≡ saved_number l.fn.to k i;
   long : length l.to.cells ≡ length l.fn.to.cells;
@@ -12,5 +12,5 @@ invariant-chunks g l = record {
   rest : (i : ℕ) → 64 * l.from ≤ i → i < length l.self.cells → number_now l.to i ≡ number_now l.self i;
 }
 
-abbrev pub decreases-chunks : goal.decreases-chunks
-decreases-chunks g l = length l.self.cells - l.from
+abbrev pub decreases-loop-chunk : goal.decreases-loop-chunk
+decreases-loop-chunk g l = length l.self.cells - l.from

@@ -1,6 +1,6 @@
 use Rattle.std.proofs.Common.{◌≡◌, ◌≤◌, length}
 use Rattle.regalloc2_checker.specs.ListingCopied.{AreBeforePoint}
-use Rattle.regalloc2_checker.proofs.handle.first_from.Given as goal
+use Rattle.regalloc2_checker.proofs.output.first_from.Given as goal
 
 -- the first k edits are before the point
 abbrev pub invariant-loop-k : goal.invariant-loop-k

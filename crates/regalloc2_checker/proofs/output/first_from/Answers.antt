@@ -2,7 +2,7 @@ use Rattle.std.proofs.Common.{◌≡◌, ℕ, length, ap, refl, subst, arith}
 use Rattle.regalloc2_function.specs.declared.listing.Edit.{Edit}
 use Rattle.regalloc2_checker.specs.ListingCopied.{AreBeforePoint}
 use Rattle.regalloc2_checker.proofs.CopiedListing.{passed_more, split_here, split_end}
-use Rattle.regalloc2_checker.proofs.handle.first_from.Goals as goal
+use Rattle.regalloc2_checker.proofs.output.first_from.Goals as goal
 
 pub loop-k-init : goal.loop-k-init
 loop-k-init c = record { end = refl; low = omega arith; high = c.requires.from; passed = c.requires.passed }

@@ -2,7 +2,7 @@ use Rattle.std.proofs.Common.{◌≡◌, ◌≤◌, length}
 use Rattle.regalloc2_function.specs.FunctionValue.{block_at}
 use Rattle.regalloc2_function.specs.Views.{output_of}
 use Rattle.regalloc2_checker.proofs.CopiedListing.{BeginsAt, IsCopying}
-use Rattle.regalloc2_checker.proofs.handle.handle_block.Given as goal
+use Rattle.regalloc2_checker.proofs.output.list_block.Given as goal
 
 -- the instructions so far are listed, and the edits before the next one begin where it is said
 abbrev pub invariant-loop-i : goal.invariant-loop-i

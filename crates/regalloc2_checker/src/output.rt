@@ -32,7 +32,7 @@ fn first_from(edits: &[(ProgPoint, Edit)], from: usize, point: u64) -> usize
 }
 
 /// Lists the next instruction, whose moves are the edits from `from` up to `end`.
-fn handle_inst<A: Allocator>(
+fn list_inst<A: Allocator>(
     from: usize,
     end: usize,
     listing: &mut Vec<Listed, A>,
@@ -45,7 +45,7 @@ fn handle_inst<A: Allocator>(
 
 /// Lists the instructions of `block`, of whose moves the first `passed` edits are none. Returns the number of edits up to
 /// the end of `block`.
-fn handle_block<F: Function, A: Allocator, B: Allocator>(
+fn list_block<F: Function, A: Allocator, B: Allocator>(
     f: &F,
     out: &Output<B>,
     block: Block,
@@ -69,14 +69,14 @@ fn handle_block<F: Function, A: Allocator, B: Allocator>(
     for i in first.index()..range.end().index() {
         let inst = Inst::new(i);
         let end = first_from(edits, from, 2 * u64::from(inst.0) + 1);
-        handle_inst(from, end, listing)?;
+        list_inst(from, end, listing)?;
         from = end;
     }
     Ok(from)
 }
 
 /// Returns, for each instruction, the range of the moves before it.
-pub fn handle_listing<F: Function, A: Allocator + Copy, B: Allocator>(
+pub fn moves_by_inst<F: Function, A: Allocator + Copy, B: Allocator>(
     alloc: A,
     f: &F,
     out: &Output<B>,
@@ -88,13 +88,13 @@ pub fn handle_listing<F: Function, A: Allocator + Copy, B: Allocator>(
     let mut listing = Vec::with_capacity(alloc, f.num_insts())?;
     let mut passed = 0;
     for b in 0..f.num_blocks() {
-        passed = handle_block(f, out, Block::new(b), passed, &mut listing)?;
+        passed = list_block(f, out, Block::new(b), passed, &mut listing)?;
     }
     Ok(listing)
 }
 
 /// Returns a copy of `out`.
-pub fn handle_output<A: Allocator + Copy, B: Allocator>(
+pub fn copied<A: Allocator + Copy, B: Allocator>(
     alloc: A,
     out: &Output<B>,
 ) -> Result<Output<A>, AllocError>

@@ -3,7 +3,7 @@ use Rattle.regalloc2_function.specs.FunctionValue.{FunctionValue}
 use Rattle.regalloc2_function.specs.Views.{output_of}
 use Rattle.regalloc2_checker.specs.ListingCopied.{IsListedBefore}
 use Rattle.regalloc2_checker.proofs.CopiedListing.{listed_none, listed_all}
-use Rattle.regalloc2_checker.proofs.handle.handle_listing.Goals as goal
+use Rattle.regalloc2_checker.proofs.output.moves_by_inst.Goals as goal
 
 pub loop-b-init : goal.loop-b-init
 loop-b-init g c = record {
@@ -23,8 +23,8 @@ loop-b-preserved g c = record {
   listed = rw c.new.ensures at c.in_ok-passed.ensures.listed;
 }
 
-pub handle_block-requires : goal.handle_block-requires
-handle_block-requires g c = record {
+pub list_block-requires : goal.list_block-requires
+list_block-requires g c = record {
   framed = c.requires.framed;
   in_order = c.requires.in_order;
   block = omega (arith, c.new.ensures, c.loop-b-test.true, c.loop-b.invariant.within);

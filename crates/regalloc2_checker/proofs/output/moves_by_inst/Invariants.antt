@@ -2,7 +2,7 @@ use Rattle.std.proofs.Common.{◌≡◌, ◌≤◌, length}
 use Rattle.regalloc2_names.specs.Place.{before}
 use Rattle.regalloc2_function.specs.Views.{output_of}
 use Rattle.regalloc2_checker.specs.ListingCopied.{AreBeforePoint, IsListedBefore}
-use Rattle.regalloc2_checker.proofs.handle.handle_listing.Given as goal
+use Rattle.regalloc2_checker.proofs.output.moves_by_inst.Given as goal
 
 abbrev pub invariant-loop-b : goal.invariant-loop-b
 invariant-loop-b g l = record {

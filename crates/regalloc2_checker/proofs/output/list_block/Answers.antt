@@ -13,7 +13,7 @@ use Rattle.regalloc2_checker.specs.ListingCopied.{IsSplit}
 use Rattle.regalloc2_checker.specs.Listing.{listed_move}
 use Rattle.std.specs.List.{slice_range}
 use Rattle.std.proofs.lemmas.List.{length_push}
-use Rattle.regalloc2_checker.proofs.handle.handle_block.Goals as goal
+use Rattle.regalloc2_checker.proofs.output.list_block.Goals as goal
 
 pub first_from-from-requires : goal.first_from-from-requires
 first_from-from-requires g c =
@@ -70,15 +70,15 @@ loop-i-preserved g c =
       long = omega (
         arith,
         c.loop-i.invariant.long,
-        ap length c.in_ok-handle_inst.ensures.whole,
+        ap length c.in_ok-list_inst.ensures.whole,
         length_push c.loop-i.listing.items
-            c.in_ok-handle_inst.ensures.last,
+            c.in_ok-list_inst.ensures.last,
       );
       begins = begins_next c.as_slice-edits.result.now _ c.loop-i.i c.first_from-end.result _ c.loop-i.invariant.low (omega (arith, c.new-inst.ensures))
           c.first_from-end.ensures.split;
       copying = copying_inst f o c.args.out.now.edits.items c.args.block c.new-inst.result c.loop-i.from c.first_from-end.result c.loop-i.listing.items
-          c.handle_inst.new.listing.items c.loop-i.invariant.copying
-          (c.new-inst.ensures ∙ c.loop-i.invariant.long) c.in_ok-handle_inst.ensures c.first_from-end.ensures.from
+          c.list_inst.new.listing.items c.loop-i.invariant.copying
+          (c.new-inst.ensures ∙ c.loop-i.invariant.long) c.in_ok-list_inst.ensures c.first_from-end.ensures.from
           (rw (← c.as_slice-edits.ensures.value) split.within)
           (subst (λ (xs : List (ℕ × Edit)). map listed_move (slice_range xs c.loop-i.from c.first_from-end.result)
           ≡ moves_before o (block_at f c.args.block).range.first c.new-inst.result) c.as_slice-edits.ensures.value

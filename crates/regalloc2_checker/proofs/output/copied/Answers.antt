@@ -3,7 +3,7 @@ use Rattle.std.proofs.lemmas.List.{map-append}
 use Rattle.regalloc2_names.specs.Place.{Place}
 use Rattle.regalloc2_function.specs.OutputValue.{OutputValue}
 use Rattle.regalloc2_function.specs.Views.{edit_of}
-use Rattle.regalloc2_checker.proofs.handle.handle_output.Goals as goal
+use Rattle.regalloc2_checker.proofs.output.copied.Goals as goal
 
 -- what is put behind nothing, as it is seen
 behind : {X Y : Type 0} (h : X → Y) (old more new all : List X) → map h old ≡ [] → new ≡ old ++ more → more ≡ all → map h new ≡ map h all
