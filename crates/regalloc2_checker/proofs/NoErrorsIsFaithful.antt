@@ -73,7 +73,9 @@ unmet env inst op count places (InSlot s) c e (IsConstraintFault.reuses_no_regis
 unmet env inst op count places p c e (IsConstraintFault.reuses_no_operand n q le) m = (let l : n < count = m.1 in omega arith)
 unmet env inst op count places p c e (IsConstraintFault.not_reused n q l h) m = h m.2
 unmet env inst op count places p c e (IsConstraintFault.limits_no_register n h) m = h m.0
-unmet env inst op count places p c e (IsConstraintFault.past_limit n plain h) m = h m.1
+unmet env inst op count places NoPlace c e (IsConstraintFault.past_limit n plain h) m = m.1
+unmet env inst op count places (InRegister r) c e (IsConstraintFault.past_limit n plain h) m = h m.1
+unmet env inst op count places (InSlot s) c e (IsConstraintFault.past_limit n plain h) m = m.1
 
 no_value_fault : {A : Type 0} (inst : ℕ) (op : OperandValue) (p : Place) (Has : VirtualRegister → Type 0) (e : CheckerError A) → IsValueFault inst op p Has e →
     Has op.vreg → ⊥
