@@ -13,7 +13,7 @@ ghost use Rattle.regalloc2_analysis.specs.Liveness.Search.{LeadsBack};
 
 use crate::marks::{is_marked, mark};
 use regalloc2_function::Function;
-use regalloc2_index::{Block, Inst};
+use regalloc2_index::Block;
 use regalloc2_names::{Operand, OperandPos, VReg};
 use std::alloc::{AllocError, Allocator};
 
@@ -59,9 +59,8 @@ fn is_unwritten<F: Function>(f: &F, block: Block, vreg: VReg) -> bool
     requires block { block < length (F.function f.now).blocks }
     ensures { result ≡ true → IsUnwritten (F.function f.now) block vreg }
 {
-    let range = f.block_insns(block);
-    for i in range.first().index()..range.end().index() {
-        if is_defined(f.inst_operands(Inst::new(i)), vreg) {
+    for inst in f.block_insns(block).iter() {
+        if is_defined(f.inst_operands(inst), vreg) {
             return false;
         }
     }
@@ -89,9 +88,8 @@ fn is_asked<F: Function>(f: &F, block: Block, vreg: VReg) -> bool
     requires block { block < length (F.function f.now).blocks }
     ensures { result ≡ true → IsNeeded (F.function f.now) vreg (first_of (F.function f.now) block) }
 {
-    let range = f.block_insns(block);
-    for i in range.first().index()..range.end().index() {
-        let operands = f.inst_operands(Inst::new(i));
+    for inst in f.block_insns(block).iter() {
+        let operands = f.inst_operands(inst);
         if is_read(operands, OperandPos::Early, vreg) {
             return true;
         }

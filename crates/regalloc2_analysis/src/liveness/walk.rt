@@ -13,7 +13,7 @@ ghost use Rattle.regalloc2_analysis.specs.Liveness.BlockWalk.{reads, asks_for_vr
 use super::needs::Needs;
 use super::sets::BlockVRegs;
 use regalloc2_function::Function;
-use regalloc2_index::{Block, Inst};
+use regalloc2_index::Block;
 use regalloc2_names::{Operand, OperandPos, VReg};
 use std::alloc::{AllocError, Allocator};
 
@@ -79,9 +79,8 @@ fn walk_insts<A: Allocator + Copy, F: Function>(
     requires fresh { (v : VirtualRegister) → holds written.old (block, v) ≡ false }
     ensures { OnOk result (IsBlockWalkedTo (F.function f.now) block (block_at (F.function f.now) block).range.end written.old needs.old written.new needs.new) }
 {
-    let range = f.block_insns(block);
-    for i in range.first().index()..range.end().index() {
-        walk_inst(f.inst_operands(Inst::new(i)), block, written, needs)?;
+    for inst in f.block_insns(block).iter() {
+        walk_inst(f.inst_operands(inst), block, written, needs)?;
     }
     Ok(())
 }

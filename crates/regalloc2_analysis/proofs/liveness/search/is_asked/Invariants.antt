@@ -1,12 +1,12 @@
-use Rattle.std.proofs.Common.{◌≡◌, ◌≤◌}
+use Rattle.std.proofs.Common.{◌≡◌, ◌+◌, ◌++◌, length}
+use Rattle.regalloc2_index.specs.Range.{numbers_of}
 use Rattle.regalloc2_function.specs.FunctionValue.{block_at}
 use Rattle.regalloc2_analysis.specs.Liveness.LiveIn.{IsUnwrittenTo}
 use Rattle.regalloc2_analysis.proofs.liveness.search.is_asked.Given as goal
 
 -- the instructions so far don't define the vreg
-abbrev pub invariant-loop-i : goal.invariant-loop-i
-invariant-loop-i g l = record {
-  end : l.i-end ≡ (block_at (g.F.Function.function l.f) l.block).range.end;
-  begun : (block_at (g.F.Function.function l.f) l.block).range.first ≤ l.i;
-  so_far : IsUnwrittenTo (g.F.Function.function l.f) l.block l.i l.vreg;
+abbrev pub invariant-loop-inst : goal.invariant-loop-inst
+invariant-loop-inst g l = record {
+  left : l.yielded ++ l.inst-iterator ≡ numbers_of (block_at (g.F.Function.function l.f) l.block).range;
+  so_far : IsUnwrittenTo (g.F.Function.function l.f) l.block ((block_at (g.F.Function.function l.f) l.block).range.first + length l.yielded) l.vreg;
 }
