@@ -7,7 +7,7 @@ use Rattle.regalloc2_names.specs.declared.RegAllocError.TheVariants.{SSA, TooMan
 use Rattle.regalloc2_function.specs.FunctionValue.{FunctionValue, inst_at, no_inst, no_operand, operand_count}
 use Rattle.regalloc2_function.specs.Machine.{MachineValue}
 use Rattle.regalloc2_function.specs.WellFormed.{FixedAvoidClobbers, IsWellFormed, ReusesAreSound, AreUnlimited}
-use Rattle.regalloc2_function.specs.Reasons.{HasShape, IsShapeFault, IsSoundnessFault, IsFunctionFault}
+use Rattle.regalloc2_function.specs.Reasons.{HasShape, IsFirstRepeat, IsShapeFault, IsSoundnessFault, IsFunctionFault}
 use Rattle.regalloc2_function.specs.Reasons.IsShapeFault.{apart, critical, operands, outside, unlisted}
 use Rattle.regalloc2_function.specs.Reasons.IsSoundnessFault.{arguments, elsewhere, livein, open_end, repeated, undefined}
 use Rattle.regalloc2_function.proofs.ErrorOnlyOutOfMemory.{shape_refused}
@@ -36,8 +36,19 @@ no_soundness_fault f env w (elsewhere h) = h w.entry.0
 no_soundness_fault f env w (livein z h) = h w.entry.1
 no_soundness_fault f env w (open_end b entry h) = h.1 (w.end b h.0)
 no_soundness_fault f env w (arguments b entry end h) = h.1 (w.classes b h.0)
-no_soundness_fault f env w (repeated v i entry end fit h) =
-    let e : SSA v i ≡ Memory = only_memory f w.follow (omega (arith, w.successors.0)) w.defined_once w.uses_defined (SSA v i) (inl h) in absurd cc
+no_soundness_fault f env w (repeated d earlier later entry end fit is single fails) =
+    let repeat : IsFirstRepeat f d.vreg d.inst = record {
+      site = d;
+      vreg = refl;
+      inst = refl;
+      earlier = earlier;
+      later = later;
+      is = is;
+      single = single;
+      fails = fails;
+    } in
+    let e : SSA d.vreg d.inst ≡ Memory = only_memory f w.follow (omega (arith, w.successors.0)) w.defined_once w.uses_defined (SSA d.vreg d.inst)
+    (inl repeat) in absurd cc
 no_soundness_fault f env w (undefined u entry end fit once h) =
     let e : SSA u.vreg u.inst ≡ Memory = only_memory f w.follow (omega (arith, w.successors.0)) w.defined_once w.uses_defined (SSA u.vreg u.inst)
     (inr (once, (u.point, h))) in absurd cc
@@ -62,7 +73,12 @@ soundness_reason f env asked p on shape h = soundness_cases h (λ w. no_soundnes
     soundness_cases (livein z ne) malformed = (p, on, malformed, unsound shape (livein z ne))
     soundness_cases (open_end b entry h) malformed = (p, on, malformed, unsound shape (open_end b entry h))
     soundness_cases (arguments b entry end h) malformed = (p, on, malformed, unsound shape (arguments b entry end h))
-    soundness_cases (repeated v i entry end fit h) malformed = (p, on, malformed, unsound shape (repeated v i entry end fit h))
+    soundness_cases (repeated d earlier later entry end fit is single fails) malformed = (
+      p,
+      on,
+      malformed,
+      unsound shape (repeated d earlier later entry end fit is single fails),
+    )
     soundness_cases (undefined u entry end fit once h) malformed = (p, on, malformed, unsound shape (undefined u entry end fit once h))
 
 -- an error is a reason, where its test is required

@@ -8,7 +8,7 @@ use Rattle.regalloc2_function.specs.FunctionValue.{FunctionValue, inst_at, opera
 use Rattle.regalloc2_semantics.specs.Fits.{Fits}
 use Rattle.regalloc2_function.specs.Machine.{MachineValue}
 use Rattle.regalloc2_function.specs.WellFormed.{IsWellFormed, AreUnlimited, BranchDefinesInPlace}
-use Rattle.regalloc2_function.specs.Reasons.{IsUnsupported, IsFunctionFault}
+use Rattle.regalloc2_function.specs.Reasons.{IsFirst, IsFunctionFault}
 use Rattle.regalloc2_semantics.specs.Places.{units_at_most}
 
 -- The tests that `run` makes, in this order. The first needs no memory; the second is made if `validate_ssa` is true.
@@ -38,6 +38,7 @@ IsReason f env validate_ssa TooManyLiveRegs =
 IsReason f env validate_ssa TooManyOperands = 2 ^ 32 ≤ operand_count f
 IsReason f env validate_ssa (Unsupported i) =
     FailsValidation f env validate_ssa (Unsupported i)
-    ⊎ ((operand_count f < 2 ^ 32) × (validate_ssa ≡ true → IsWellFormed env f) × IsUnsupported f i)
+    ⊎ ((operand_count f < 2 ^ 32) × (validate_ssa ≡ true → IsWellFormed env f) × (IsFirst (length f.insts) (λ j. AreUnlimited (inst_at f j)) i
+    ⊎ (((j : ℕ) → j < length f.insts → AreUnlimited (inst_at f j)) × IsFirst (length f.insts) (λ j. BranchDefinesInPlace (inst_at f j)) i)))
 IsReason f env validate_ssa TooManySpillSlots = PassesAllChecks f env validate_ssa × (2 ^ 24 < units_at_most f)
 IsReason f env validate_ssa Memory = operand_count f < 2 ^ 32

@@ -4,13 +4,13 @@ use Rattle.regalloc2_names.specs.declared.RegAllocError.{RegAllocError}
 use Rattle.regalloc2_names.specs.declared.RegAllocError.TheVariants.{TooManyOperands, Memory, Unsupported}
 use Rattle.regalloc2_function.specs.FunctionValue.{FunctionValue, inst_at, operand_count}
 use Rattle.regalloc2_function.specs.Machine.{MachineValue}
-use Rattle.regalloc2_function.specs.Reasons.{IsUnsupported}
 use Rattle.regalloc2_semantics.specs.Places.{units_at_most}
 use Rattle.regalloc2_analysis.specs.LiveRanges.LiveRanges.{AreLabelsMarked}
 use Rattle.regalloc2_fastalloc_state.specs.OutOfResources.{Lacks}
 use Rattle.regalloc2_fastalloc_proofs.specs.BlockSteps.{offset_of}
 use Rattle.regalloc2_fastalloc_walk.specs.Findings.{AllPassTests}
 use Rattle.regalloc2_semantics.specs.Fits.{Fits}
+use Rattle.regalloc2_fastalloc_state.specs.Validate.Constraints.{IsUnsupported}
 
 -- where each instruction's places begin, the number of operands, and the labelled vregs
 pub record IsSurvey (f : FunctionValue) (offsets : List ℕ) (total : ℕ) (wanted : List Bool) : Type 0 where

@@ -1,7 +1,7 @@
 -- Where the tests of a function fail first, as their errors report.
 use Rattle.std.specs.Prelude.{ℕ, ◌≡◌, ◌≢◌, ◌<◌, ◌≤◌, ◌⊎◌, Bool, List, [], ◌∷◌, ◌++◌, All, count_by, length, nat_eq}
-use Rattle.std.specs.Prelude.{None, Some, filter_map, flat_map, if◌then◌else◌, map, slice_index_or}
-use Rattle.regalloc2_index.specs.Range.{invalid_number, numbers_from, numbers_of}
+use Rattle.std.specs.Prelude.{◌-◌, None, Some, filter_map, flat_map, if◌then◌else◌, map, slice_index_or}
+use Rattle.regalloc2_index.specs.Range.{invalid_number, numbers_from}
 use Rattle.regalloc2_names.specs.declared.RegAllocError.{RegAllocError}
 use Rattle.regalloc2_names.specs.declared.RegAllocError.TheVariants.{BB, Branch, CritEdge, DisallowedBranchArg, EntryLivein, Memory, SSA, Unsupported}
 use Rattle.regalloc2_names.specs.Register.{VirtualRegister}
@@ -10,8 +10,8 @@ use Rattle.regalloc2_names.specs.Place.{before, after}
 use Rattle.regalloc2_function.specs.FunctionValue.{FunctionValue, block_at, inst_at, last_of, EachBlock}
 use Rattle.regalloc2_function.specs.WellFormed.{BlocksFollow, DefinedOnce, EndsAt, EntryIsFirst, FollowsAt}
 use Rattle.regalloc2_function.specs.WellFormed.{IsDefinedUpTo, SuccessorsAreBlocks, UsesAreDefined}
-use Rattle.regalloc2_function.specs.WellFormed.{ArgumentsFitAt, NoOperandsAt, NotCriticalAt, PredecessorsAt, ReusesAreSound, FixedAvoidClobbers, AreUnlimited}
-use Rattle.regalloc2_function.specs.WellFormed.{BranchDefinesInPlace, CountedAt}
+use Rattle.regalloc2_function.specs.WellFormed.{ArgumentsFitAt, NoOperandsAt, NotCriticalAt, PredecessorsAt, ReusesAreSound, FixedAvoidClobbers}
+use Rattle.regalloc2_function.specs.WellFormed.{CountedAt}
 use Rattle.regalloc2_function.specs.Machine.{MachineValue}
 
 -- the first number below `n` that fails a test
@@ -41,13 +41,13 @@ sites_of test f i point = filter_map (λ o. if test o then Some (record { vreg =
 abbrev pub definitions_in : FunctionValue → List Site
 definitions_in f = flat_map (λ b.
     map (λ v. record { vreg = v; inst = invalid_number; point = before b.range.first }) b.params
-    ++ flat_map (λ i. sites_of (λ o. is_def o.kind) f i (after i)) (numbers_of b.range)) f.blocks
+    ++ flat_map (λ i. sites_of (λ o. is_def o.kind) f i (after i)) (numbers_from b.range.first (b.range.end - b.range.first))) f.blocks
 
 -- all uses, block by block: what each instruction reads, before it, then what the last one passes to each successor in
 -- turn, after it
 abbrev pub uses_in : FunctionValue → List Site
 uses_in f = flat_map (λ b.
-    flat_map (λ i. sites_of is_reading f i (before i)) (numbers_of b.range)
+    flat_map (λ i. sites_of is_reading f i (before i)) (numbers_from b.range.first (b.range.end - b.range.first))
     ++ flat_map (λ k. map (λ v. record { vreg = v; inst = last_of b; point = after (last_of b) }) (slice_index_or b.arguments k []))
     (numbers_from 0 (length b.succs))) f.blocks
 
@@ -106,24 +106,19 @@ pub record HasSoundness (f : FunctionValue) : Type 0 where
   pub defined_once : DefinedOnce f
   pub uses_defined : UsesAreDefined f
 
--- why the tests of soundness reject a function: the first test that fails, and where it fails first
+-- Why the tests of soundness reject a function: the first test that fails, and where it fails first. The first
+-- definition that fails is the first whose number is too large or is defined by an earlier one.
 pub data IsSoundnessFault (f : FunctionValue) : RegAllocError → Type 0 where
   elsewhere : f.entry ≢ 0 → IsSoundnessFault f (BB f.entry)
   livein : f.entry ≡ 0 → (block_at f 0).params ≢ [] → IsSoundnessFault f EntryLivein
   open_end : (b : ℕ) → EntryIsFirst f → IsFirst (length f.blocks) (λ n. EndsAt f n (block_at f n)) b → IsSoundnessFault f (BB b)
   arguments : (b : ℕ) → EntryIsFirst f → EachBlock f (EndsAt f) → IsFirst (length f.blocks) (λ n. ArgumentsFitAt f n (block_at f n)) b →
       IsSoundnessFault f (Branch (last_of (block_at f b)))
-  repeated : (v : VirtualRegister) (i : ℕ) → EntryIsFirst f → EachBlock f (EndsAt f) → EachBlock f (ArgumentsFitAt f) → IsFirstRepeat f v i →
-      IsSoundnessFault f (SSA v i)
+  repeated : (d : Site) (earlier later : List Site) → EntryIsFirst f → EachBlock f (EndsAt f) → EachBlock f (ArgumentsFitAt f) →
+      definitions_in f ≡ earlier ++ d ∷ later → AreSingle f.num_vregs earlier → (AreSingle f.num_vregs (earlier ++ d ∷ []) → ⊥) →
+      IsSoundnessFault f (SSA d.vreg d.inst)
   undefined : (u : Site) → EntryIsFirst f → EachBlock f (EndsAt f) → EachBlock f (ArgumentsFitAt f) → DefinedOnce f →
       IsFirstIn (λ u. IsDefinedUpTo f u.vreg u.point) (uses_in f) u → IsSoundnessFault f (SSA u.vreg u.inst)
-
--- an instruction that the allocator rejects: the first that has a `Limit`, or if none has one, the first branch that
--- defines in any register or by a reuse
-abbrev pub IsUnsupported : FunctionValue → ℕ → Type 0
-IsUnsupported f i =
-    IsFirst (length f.insts) (λ j. AreUnlimited (inst_at f j)) i
-    ⊎ (((j : ℕ) → j < length f.insts → AreUnlimited (inst_at f j)) × IsFirst (length f.insts) (λ j. BranchDefinesInPlace (inst_at f j)) i)
 
 -- memory ran out, or a test failed: of blocks and edges; else of the entry, terminators, arguments, definitions and uses; else of
 -- reuses; else of fixed registers

@@ -11,7 +11,7 @@ use Rattle.regalloc2_names.specs.Register.{Register, has_register}
 use Rattle.regalloc2_names.specs.Operand.{OperandValue, is_def, is_reading}
 use Rattle.regalloc2_function.specs.FunctionValue.{FunctionValue, inst_at, op_at}
 use Rattle.regalloc2_function.specs.Machine.{MachineValue}
-use Rattle.regalloc2_function.specs.WellFormed.{FixedAvoidClobbers, IsInPlace, MayBeReused, ReusesAreSound}
+use Rattle.regalloc2_function.specs.WellFormed.{FixedAvoidClobbers, IsInPlace, MayBeReused, ReusesAreSound, AreUnlimited, BranchDefinesInPlace}
 use Rattle.regalloc2_function.specs.Reasons.{IsFirst}
 
 -- an operand that isn't a reuse
@@ -62,3 +62,10 @@ abbrev pub IsFixedFault : FunctionValue → MachineValue → RegAllocError → T
 IsFixedFault f env e = (i : ℕ) × (e ≡ Unsupported i) × (IsFirst (length f.insts) (λ j. ReusesAreSound env (inst_at f j)) i
     ⊎ (((j : ℕ) → j < length f.insts → ReusesAreSound env (inst_at f j))
     × IsFirst (length f.insts) (λ j. FixedAvoidClobbers (inst_at f j)) i))
+
+-- an instruction that the allocator rejects: the first that has a `Limit`, or if none has one, the first branch that
+-- defines in any register or by a reuse
+abbrev pub IsUnsupported : FunctionValue → ℕ → Type 0
+IsUnsupported f i =
+    IsFirst (length f.insts) (λ j. AreUnlimited (inst_at f j)) i
+    ⊎ (((j : ℕ) → j < length f.insts → AreUnlimited (inst_at f j)) × IsFirst (length f.insts) (λ j. BranchDefinesInPlace (inst_at f j)) i)

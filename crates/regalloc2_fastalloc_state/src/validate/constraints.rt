@@ -8,8 +8,8 @@ ghost use Rattle.regalloc2_names.specs.Packing.{IsConstraintOf};
 ghost use Rattle.regalloc2_names.specs.Register.{Register, has_register};
 ghost use Rattle.regalloc2_fastalloc_state.specs.Validate.NoLimits.{IsTakenOperand, AreTaken};
 ghost use Rattle.regalloc2_fastalloc_state.specs.Validate.Constraints.{IsNoReuse, IsReusedOperand, IsReuseTarget, IsSoundReuse, AreReusesApart};
-ghost use Rattle.regalloc2_fastalloc_state.specs.Validate.Constraints.{AvoidsClobbers, DefinesInPlace, IsFixedFault, IsUnlimited, OperandAvoidsClobbers};
-ghost use Rattle.regalloc2_function.specs.Reasons.{IsFirst, IsUnsupported};
+ghost use Rattle.regalloc2_fastalloc_state.specs.Validate.Constraints.{AvoidsClobbers, DefinesInPlace, IsFixedFault, IsUnlimited, OperandAvoidsClobbers, IsUnsupported};
+ghost use Rattle.regalloc2_function.specs.Reasons.{IsFirst};
 
 use regalloc2_function::{Function, MachineEnv};
 use regalloc2_index::Inst;
