@@ -9,7 +9,8 @@ use Rattle.regalloc2_function.specs.Machine.{MachineValue}
 use Rattle.regalloc2_function.specs.OutputValue.{OutputValue}
 use Rattle.regalloc2_semantics.specs.Runs.{Way, IsPath, last_inst, Stamp, source_read}
 use Rattle.regalloc2_semantics.specs.Faithful.{IsFaithful}
-use Rattle.regalloc2_semantics.specs.Values.{Meaning, numbers, reads_from, source_reads}
+use Rattle.regalloc2_semantics.specs.Values.{Meaning, numbers, reads_from}
+use Rattle.regalloc2_semantics.proofs.ValueLaws.{source_reads}
 
 if_read : (b : Bool) (x : Option Stamp) (xs : List (Option Stamp)) → (b ≡ true → IsSome x) → All IsSome xs → All IsSome (cond b (x ∷ xs) xs)
 if_read true x xs h rest = All-cons IsSome x xs (h refl) rest
@@ -40,12 +41,12 @@ step_reads f env out h ws p = each_reads (λ k o. source_read f ws o) 0 (last_in
 
 -- where an output is faithful, on every path each use of the function reads a number, whatever the instructions compute
 pub reads_numbers : (f : FunctionValue) (env : MachineValue) (out : OutputValue) → IsFaithful f env out → (meaning : Meaning) (ws : List Way) → IsPath f ws →
-    All (All IsSome) (numbers f meaning (source_reads f) ws).history
+    All (All IsSome) (numbers f meaning (λ vs k o. source_read f vs o) ws).history
 unfolding numbers
 reads_numbers f env out h meaning [] p = All-cons (All IsSome) (map (option_map (λ s. 0)) (source_reads f [])) []
     (all_is_some_mapped (λ s. 0) (source_reads f []) (step_reads f env out h [] p)) (All-nil (All IsSome))
 reads_numbers f env out h meaning (w ∷ ws) p =
-    All-cons (All IsSome) (map (option_map (numbers f meaning (source_reads f) (w ∷ ws)).written) (source_reads f (w ∷ ws)))
-    (numbers f meaning (source_reads f) ws).history
-    (all_is_some_mapped (numbers f meaning (source_reads f) (w ∷ ws)).written (source_reads f (w ∷ ws)) (step_reads f env out h (w ∷ ws) p))
+    All-cons (All IsSome) (map (option_map (numbers f meaning (λ vs k o. source_read f vs o) (w ∷ ws)).written) (source_reads f (w ∷ ws)))
+    (numbers f meaning (λ vs k o. source_read f vs o) ws).history
+    (all_is_some_mapped (numbers f meaning (λ vs k o. source_read f vs o) (w ∷ ws)).written (source_reads f (w ∷ ws)) (step_reads f env out h (w ∷ ws) p))
     (reads_numbers f env out h meaning ws p.0)

@@ -9,11 +9,11 @@ use Rattle.regalloc2_names.specs.declared.RegClass.{RegClass}
 use Rattle.regalloc2_function.specs.FunctionValue.{FunctionValue, block_at, inst_at, op_at}
 use Rattle.regalloc2_function.specs.Machine.{MachineValue, allocatable_count}
 use Rattle.regalloc2_function.specs.OutputValue.{OutputValue, IsInOrder, allocs_of, place_at}
-use Rattle.regalloc2_semantics.specs.Runs.{Way, first_of, end_of, IsPath, IsWrittenFirst, arguments_at, ToSuccessor, Location, source_before, cells_before}
+use Rattle.regalloc2_semantics.specs.Runs.{Way, end_of, IsPath, IsWrittenFirst, arguments_at, ToSuccessor, Location, source_before, cells_before, source_read}
 use Rattle.regalloc2_semantics.specs.Faithful.{ConstraintsMet, EditsAreListed, IsStackToStack, IsFaithful}
 use Rattle.regalloc2_semantics.specs.Debug.{ShowsValue, AreDebugLocations}
 use Rattle.regalloc2_semantics.specs.Places.{IsProperPlace, PlacesAreProper, Owner, OfVReg, OfBranch, IsSlotOf, AreSlotsOwned, units_at_most}
-use Rattle.regalloc2_semantics.specs.Values.{Meaning, SameNumbers, numbers, source_reads}
+use Rattle.regalloc2_semantics.specs.Values.{Meaning, SameNumbers, numbers}
 use Rattle.regalloc2_semantics.specs.Live.{NamesAt, DefinesAt, IsLive}
 
 -- The allocated program runs as the function does, along every path from the entry: at each step each use finds in its place the function's own
@@ -21,7 +21,7 @@ use Rattle.regalloc2_semantics.specs.Live.{NamesAt, DefinesAt, IsLive}
 -- compute, and there is one.
 pub record RunsAsTheFunction (f : FunctionValue) (env : MachineValue) (out : OutputValue) : Type 0 where
   pub faithful : IsFaithful f env out
-  pub reads_numbers : (meaning : Meaning) (ws : List Way) → IsPath f ws → All (All IsSome) (numbers f meaning (source_reads f) ws).history
+  pub reads_numbers : (meaning : Meaning) (ws : List Way) → IsPath f ws → All (All IsSome) (numbers f meaning (λ vs k o. source_read f vs o) ws).history
   pub same_numbers : SameNumbers f out
 
 -- the edge at position k out of a location passes u to the parameter v

@@ -10,15 +10,16 @@ use Rattle.regalloc2_function.specs.FunctionValue.{FunctionValue, op_at}
 use Rattle.regalloc2_function.specs.OutputValue.{OutputValue}
 use Rattle.regalloc2_semantics.specs.Runs.{Way, IsPath, last_inst, Stamp, source_read, allocated_read}
 use Rattle.regalloc2_semantics.specs.Laws.{NumbersGiveReads}
-use Rattle.regalloc2_semantics.specs.Values.{Meaning, reads_from, source_reads, allocated_reads, numbers, SameNumbers}
+use Rattle.regalloc2_semantics.specs.Values.{Meaning, reads_from, numbers, SameNumbers}
+use Rattle.regalloc2_semantics.proofs.ValueLaws.{source_reads, allocated_reads}
 
 -- the interpretation that gives one write the number 1, and all others 0
 abbrev marking : Stamp → Meaning
 marking t = λ inst step history k. cond (nat_eq step t.step && nat_eq k t.operand) 1 0
 
 -- the numbers of writes under it
-abbrev marked : FunctionValue → Stamp → (List Way → List (Option Stamp)) → List Way → Stamp → ℕ
-marked f t reads ws = (numbers f (marking t) reads ws).written
+abbrev marked : FunctionValue → Stamp → (List Way → ℕ → OperandValue → Option Stamp) → List Way → Stamp → ℕ
+marked f t read ws = (numbers f (marking t) read ws).written
 
 abbrev IsOne : ℕ → Type 0
 IsOne n = n ≡ 1
@@ -36,7 +37,7 @@ either true x y f g e = f refl e
 either false x y f g e = g e
 
 -- no other write has the number 1
-no_other_marked : (f : FunctionValue) (t : Stamp) (reads : List Way → List (Option Stamp)) (ws : List Way) (s : Stamp) → IsOne (marked f t reads ws s) → s ≡ t
+no_other_marked : (f : FunctionValue) (t : Stamp) (reads : List Way → ℕ → OperandValue → Option Stamp) (ws : List Way) (s : Stamp) → IsOne (marked f t reads ws s) → s ≡ t
 unfolding numbers
 no_other_marked f t reads [] s e = absurd cc
 no_other_marked f t reads (w ∷ ws) s e =
@@ -47,7 +48,7 @@ no_other_marked f t reads (w ∷ ws) s e =
     (λ one. no_other_marked f t reads ws s one) e
 
 -- the marked write has the number 1 once its step is past
-marked_here : (f : FunctionValue) (t : Stamp) (reads : List Way → List (Option Stamp)) (ws : List Way) → t.step < length ws → IsOne (marked f t reads ws t)
+marked_here : (f : FunctionValue) (t : Stamp) (reads : List Way → ℕ → OperandValue → Option Stamp) (ws : List Way) → t.step < length ws → IsOne (marked f t reads ws t)
 unfolding numbers
 marked_here f t reads [] lt = absurd (omega arith)
 marked_here f t reads (w ∷ ws) lt = elim (cases_eq t.step (length ws)) [
@@ -106,13 +107,13 @@ unfolding numbers
 agree f out same [] p k lt reads t e less = absurd (omega arith)
 agree f out same (w ∷ ws) p k lt reads t e less =
     let os : List OperandValue = (last_inst f (w ∷ ws)).operands in
-    let a : Stamp → ℕ = marked f t (allocated_reads f out) (w ∷ ws) in
-    let b : Stamp → ℕ = marked f t (source_reads f) (w ∷ ws) in
+    let a : Stamp → ℕ = marked f t (allocated_read f out) (w ∷ ws) in
+    let b : Stamp → ℕ = marked f t (λ vs j o. source_read f vs o) (w ∷ ws) in
     let h : map (option_map a) (allocated_reads f out (w ∷ ws)) ≡ map (option_map b) (source_reads f (w ∷ ws)) = heads _ _ _ _ (same (marking t) (w ∷ ws) p) in
     let z : k + 0 ≡ k = omega arith in
     let here : option_map a (allocated_read f out (w ∷ ws) k (op_at os k)) ≡ option_map b (source_read f (w ∷ ws) (op_at os k)) =
     rw z at (at_operand (option_map a) (option_map b) (allocated_read f out (w ∷ ws)) (λ j o. source_read f (w ∷ ws) o) 0 os h k lt reads) in
-    same_read a b _ _ t e (marked_here f t (source_reads f) (w ∷ ws) less) (no_other_marked f t (allocated_reads f out) (w ∷ ws)) here
+    same_read a b _ _ t e (marked_here f t (λ vs j o. source_read f vs o) (w ∷ ws) less) (no_other_marked f t (allocated_read f out) (w ∷ ws)) here
 
 -- reads agree if each use finds an earlier write and both runs read the same numbers, whatever the instructions compute
 pub numbers_give_reads : NumbersGiveReads

@@ -17,27 +17,20 @@ unfoldable pub reads_from : (ℕ → OperandValue → Option Stamp) → ℕ → 
 reads_from read k [] = []
 reads_from read k (o ∷ os) = if is_reading o then read k o ∷ reads_from read (k + 1) os else reads_from read (k + 1) os
 
--- what the last step of a path reads, in each of the two runs
-abbrev pub source_reads : FunctionValue → List Way → List (Option Stamp)
-source_reads f ws = reads_from (λ k o. source_read f ws o) 0 (last_inst f ws).operands
-
-abbrev pub allocated_reads : FunctionValue → OutputValue → List Way → List (Option Stamp)
-allocated_reads f out ws = reads_from (allocated_read f out ws) 0 (last_inst f ws).operands
-
 -- the numbers that were read at each step of a path, the last step first, and the number of each write of an earlier step
 pub record Numbers : Type 0 where
   pub history : List (List (Option ℕ))
   pub written : Stamp → ℕ
 
--- the numbers of a path whose steps read the given writes
-unfoldable pub numbers : FunctionValue → Meaning → (List Way → List (Option Stamp)) → List Way → Numbers
-numbers f meaning reads [] = record { history = map (option_map (λ s. 0)) (reads []) ∷ []; written = λ s. 0 }
-numbers f meaning reads (w ∷ ws) =
-    let before : Numbers = numbers f meaning reads ws in
+-- the numbers of a path on which the operand of an index reads the given write
+unfoldable pub numbers : FunctionValue → Meaning → (List Way → ℕ → OperandValue → Option Stamp) → List Way → Numbers
+numbers f meaning read [] = record { history = map (option_map (λ s. 0)) (reads_from (read []) 0 (last_inst f []).operands) ∷ []; written = λ s. 0 }
+numbers f meaning read (w ∷ ws) =
+    let before : Numbers = numbers f meaning read ws in
     let written : Stamp → ℕ = λ s. if nat_eq s.step (length ws) then meaning (end_of f ws).inst (length ws) before.history s.operand else before.written s in
-    record { history = map (option_map written) (reads (w ∷ ws)) ∷ before.history; written = written }
+    record { history = map (option_map written) (reads_from (read (w ∷ ws)) 0 (last_inst f (w ∷ ws)).operands) ∷ before.history; written = written }
 
 -- on every path, both runs read the same numbers at each step
 abbrev pub SameNumbers : FunctionValue → OutputValue → Type 0
 SameNumbers f out = (meaning : Meaning) (ws : List Way) → IsPath f ws →
-    (numbers f meaning (allocated_reads f out) ws).history ≡ (numbers f meaning (source_reads f) ws).history
+    (numbers f meaning (allocated_read f out) ws).history ≡ (numbers f meaning (λ vs k o. source_read f vs o) ws).history
