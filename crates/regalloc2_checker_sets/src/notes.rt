@@ -6,7 +6,10 @@ ghost use Rattle.regalloc2_checker_sets.specs.declared.notes.Noted.{Noted};
 use std::alloc::{AllocError, Allocator};
 use std::marker::Model;
 
-/// How many sets are noted at most.
+/// How many sets are noted at most until that many were: a small function fills no large table.
+const ROOM_AT_FIRST: usize = 64;
+
+/// How many sets are noted at most later.
 const ROOM: usize = 256;
 
 /// A set that was made of the set `from`, and of `other`: bits, or a third set.
@@ -22,6 +25,8 @@ pub struct Noted {
 #[derive(Drop)]
 pub struct Notes<A: Allocator> {
     entries: Vec<Option<Noted>, A>,
+    /// How often a set was noted.
+    count: usize,
 }
 
 impl<A: Allocator> Model for Notes<A> {
@@ -33,20 +38,23 @@ impl<A: Allocator> Model for Notes<A> {
     ghost view = { λ n. n.entries.items };
 }
 
-/// Returns the index of a set that is made of `from` and `other`.
+/// Returns a hash of `from` and `other`.
 #[inline(always)]
-fn index_of(from: u32, other: u32) -> usize {
+fn hash_of(from: u32, other: u32) -> usize {
     let mixed = from
         .wrapping_mul(0x9e37_79b1)
         .wrapping_add(other.wrapping_mul(0x85eb_ca6b));
-    (mixed >> 20) as usize % ROOM
+    (mixed >> 20) as usize
 }
 
-/// Returns room for notes.
-fn empty_entries<A: Allocator + Copy>(alloc: A) -> Result<Vec<Option<Noted>, A>, AllocError>
+/// Returns room for `room` notes.
+fn empty_entries<A: Allocator + Copy>(
+    alloc: A,
+    room: usize,
+) -> Result<Vec<Option<Noted>, A>, AllocError>
     ensures { IfOk result (λ entries. (i : ℕ) (e : Noted) → get_or entries.items i None ≡ Some e → ⊥) }
 {
-    let entries = Vec::from_elem(alloc, None, ROOM)?;
+    let entries = Vec::from_elem(alloc, None, room)?;
     Ok(entries)
 }
 
@@ -57,7 +65,14 @@ impl<A: Allocator + Copy> Notes<A> {
     {
         Notes {
             entries: Vec::new(alloc),
+            count: 0,
         }
+    }
+
+    /// Returns the index of a set with the hash `hash`.
+    #[inline(always)]
+    fn index_of(&self, hash: usize) -> usize {
+        hash & self.entries.len().wrapping_sub(1)
     }
 
     /// Returns the number of the set that was made of `from` and `other`, if it is noted.
@@ -65,7 +80,7 @@ impl<A: Allocator + Copy> Notes<A> {
     pub fn find(&self, from: u32, other: u32) -> Option<u32>
         ensures { (n : ℕ) → result ≡ Some n → (i : ℕ) × (get_or self.now i None ≡ Some (record { from = from; other = other; number = n })) }
     {
-        let index = index_of(from, other);
+        let index = self.index_of(hash_of(from, other));
         if index >= self.entries.len() {
             return None;
         }
@@ -81,10 +96,16 @@ impl<A: Allocator + Copy> Notes<A> {
         ensures { (i : ℕ) (e : Noted) → get_or self.new i None ≡ Some e
             → (get_or self.old i None ≡ Some e) ⊎ (e ≡ record { from = from; other = other; number = number }) }
     {
-        let index = index_of(from, other);
-        if index >= self.entries.len() {
-            self.entries = empty_entries(alloc)?;
+        if self.count >= self.entries.len() && self.entries.len() < ROOM {
+            let room = if self.entries.is_empty() {
+                ROOM_AT_FIRST
+            } else {
+                ROOM
+            };
+            self.entries = empty_entries(alloc, room)?;
         }
+        self.count = self.count.saturating_add(1);
+        let index = self.index_of(hash_of(from, other));
         if index < self.entries.len() {
             self.entries[index] = Some(Noted {
                 from,

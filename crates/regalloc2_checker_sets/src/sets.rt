@@ -32,7 +32,10 @@ pub struct Sets<A: Allocator> {
     alloc: A,
 }
 
-/// How many kept sets can be found by their members.
+/// How many kept sets can be found by their members while at most so many are kept: a small function fills no large table.
+const KNOWN_AT_FIRST: usize = 256;
+
+/// How many kept sets can be found by their members once more than `KNOWN_AT_FIRST` are kept.
 const KNOWN: usize = 1024;
 
 impl<A: Allocator> Model for Sets<A> {
@@ -81,13 +84,13 @@ fn spread(number: usize) -> usize {
     mixed ^ (mixed >> 29)
 }
 
-/// Returns the index in `known` of a set with the members of `set`.
-fn known_index<A: Allocator + Copy>(set: &IndexSet<A>) -> usize {
+/// Returns a hash of the members of `set`.
+fn hash_of<A: Allocator + Copy>(set: &IndexSet<A>) -> usize {
     let mut sum: usize = 0;
     for member in set.iter() {
         sum = sum.wrapping_add(spread(member));
     }
-    spread(sum) >> 20 & (KNOWN - 1)
+    spread(sum) >> 20
 }
 
 /// Returns how many words `kept` takes.
@@ -216,14 +219,16 @@ impl<A: Allocator + Copy> Sets<A> {
         Ok(FIRST + index)
     }
 
-    /// Returns the number of the kept set that was last put at `index` in `known`.
-    fn known_at(&self, index: usize) -> Option<u32>
+    /// Returns the index in `known` of a set with the hash `hash`.
+    fn index_of(&self, hash: usize) -> usize {
+        hash & self.known.len().wrapping_sub(1)
+    }
+
+    /// Returns the number of the kept set that was last put at the index of `hash` in `known`.
+    fn known_at(&self, hash: usize) -> Option<u32>
         ensures { (n : ℕ) → result ≡ Some n → (2147483648 ≤ n) × (n < length self.now) }
     {
-        if index >= self.known.len() {
-            return None;
-        }
-        let number = self.known[index];
+        let number = *self.known.get(self.index_of(hash))?;
         if number < FIRST {
             return None;
         }
@@ -233,34 +238,40 @@ impl<A: Allocator + Copy> Sets<A> {
         Some(number)
     }
 
-    /// Puts `number` at `index` in `known`.
-    fn know(&mut self, index: usize, number: u32) -> Result<(), AllocError>
+    /// Puts `number` at the index of `hash` in `known`.
+    fn know(&mut self, hash: usize, number: u32) -> Result<(), AllocError>
         ensures { self.new ≡ self.old }
     {
-        if index >= self.known.len() {
-            self.known = Vec::from_elem(self.alloc, 0, KNOWN)?;
+        let room = if self.kept.len() <= KNOWN_AT_FIRST {
+            KNOWN_AT_FIRST
+        } else {
+            KNOWN
+        };
+        if self.known.len() < room {
+            self.known = Vec::from_elem(self.alloc, 0, room)?;
         }
+        let index = self.index_of(hash);
         if index < self.known.len() {
             self.known[index] = number;
         }
         Ok(())
     }
 
-    /// Keeps `set`, puts it at `index` in `known`, and returns its number.
-    fn keep_at(&mut self, set: Kept<A>, index: usize) -> Result<u32, AllocError>
+    /// Keeps `set`, puts it at the index of `hash` in `known`, and returns its number.
+    fn keep_known(&mut self, set: Kept<A>, hash: usize) -> Result<u32, AllocError>
         ensures more { AreMore self.old self.new }
         ensures found { IfOk result (λ n. IsSetOf self.new n (has_bits set)) }
     {
         let number = self.keep(set)?;
-        self.know(index, number)?;
+        self.know(hash, number)?;
         Ok(number)
     }
 
-    /// Returns the number of a kept set with the members of `set`, if it is at `index` in `known`.
-    fn find_set(&self, set: &IndexSet<A>, index: usize) -> Option<u32>
+    /// Returns the number of a kept set with the members of `set`, if it is at the index of `hash` in `known`.
+    fn find_set(&self, set: &IndexSet<A>, hash: usize) -> Option<u32>
         ensures { (n : ℕ) → result ≡ Some n → IsSetOf self.now n (has_bits set.now) }
     {
-        let Some(number) = self.known_at(index) else {
+        let Some(number) = self.known_at(hash) else {
             return None;
         };
         if self.kept(number).is_same(set) {
@@ -274,12 +285,12 @@ impl<A: Allocator + Copy> Sets<A> {
         ensures more { AreMore self.old self.new }
         ensures found { IfOk result (λ n. IsSetOf self.new n (has_bits set)) }
     {
-        let index = known_index(&set);
-        if let Some(number) = self.find_set(&set, index) {
+        let hash = hash_of(&set);
+        if let Some(number) = self.find_set(&set, hash) {
             return Ok(number);
         }
         let kept = Kept::many(self.alloc, set)?;
-        self.keep_at(kept, index)
+        self.keep_known(kept, hash)
     }
 
     /// Adds the set of `first` and `second`, and returns its number.

@@ -7,5 +7,5 @@ use Rattle.regalloc2_checker_sets.proofs.notes.empty_entries.Goals as goal
 
 pub returns : goal.returns
 returns g c =
-    none-noted c.in_ok-entries.entries.items 256 (omega (arith, c.in_ok-entries.ensures.len, c.in_ok-entries.entries.ok.0)) (λ k l. ap (λ (xs : List (Option Noted)). get_or xs k None)
-    (c.in_ok-entries.ensures.items_if_clones_equal (only_none _ (λ x no. no))) ∙ get_or-replicate 256 k None None l)
+    none-noted c.in_ok-entries.entries.items c.args.room (omega (arith, c.in_ok-entries.ensures.len, c.in_ok-entries.entries.ok.0)) (λ k l. ap (λ (xs : List (Option Noted)). get_or xs k None)
+    (c.in_ok-entries.ensures.items_if_clones_equal (only_none _ (λ x no. no))) ∙ get_or-replicate c.args.room k None None l)

@@ -7,4 +7,4 @@ pub returns : goal.returns
 returns g c n e =
     let a = all-long c.args.self.now c.self.inside.kept.items c.self.view_is in
     let q = same-some _ n e in
-    (omega arith, omega (arith, a, q, c.len-2.ensures, c.self.inside.kept.ok.0))
+    (omega arith, omega (arith, a, q, c.len.ensures, c.self.inside.kept.ok.0))
