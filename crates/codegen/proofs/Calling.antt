@@ -13,10 +13,9 @@ use Rattle.regalloc2_names.specs.Operand.{OperandValue, is_reading}
 use Rattle.regalloc2_names.specs.Place.{Place, NoPlace, InRegister, InSlot}
 use Rattle.regalloc2_function.specs.FunctionValue.{FunctionValue, block_at, inst_at}
 use Rattle.regalloc2_function.specs.OutputValue.{OutputValue, allocs_of, place_at}
-use Rattle.regalloc2_semantics.specs.Runs.{Location, Way, Onward, next_of, moves_at}
+use Rattle.regalloc2_semantics.specs.Runs.{Location, Way, Onward, next_of, moves_at, after_clobbers, after_defs, after_moves, after_writes, assigned, over_edge, stored}
 use Rattle.regalloc2_function.specs.Listing.{ListedInst, listing_from}
-use Rattle.regalloc2_semantics.specs.Interpreters.{State, edge_to, read_by, is_late_use, number_set, numbers_defined, passed_over, way_on, place_set}
-use Rattle.regalloc2_semantics.specs.Interpreters.{numbers_moved, written_to, numbers_clobbered}
+use Rattle.regalloc2_semantics.specs.Interpreters.{State, edge_to, read_by, is_late_use, way_on}
 use Rattle.codegen_operation.specs.Numbers.{put}
 use Rattle.codegen_operation.specs.Operands.{argument_registers, arguments_in, call_operands, is_lost_in, is_lost_in_call, operands_of, passed_in, passed_on_stack}
 use Rattle.codegen_machine.specs.Meaning.{ProcedureState}
@@ -34,7 +33,7 @@ use Rattle.codegen.proofs.Runs.{Comes}
 use Rattle.codegen.proofs.Stands.{StandAt}
 use Rattle.codegen.proofs.Places.{Agree, Moved, holds_number, number_in, register_place}
 use Rattle.codegen.proofs.Divisions.{place_is}
-use Rattle.codegen.proofs.Simulation.{after_moves, behind, found, inside, places_of, reads, stands_there, succs_of, through}
+use Rattle.codegen.proofs.Simulation.{numbers_after_moves, behind, found, inside, places_of, reads, stands_there, succs_of, through}
 use Rattle.codegen.proofs.Source.{seen}
 use Rattle.codegen.proofs.Steps.{reads_at}
 use Rattle.codegen.proofs.Joined.{AreJoined}
@@ -92,8 +91,8 @@ given_back false is_result lost v l s f allocated e = absurd cc
 -- after a return, registers and slots agree with the caller's places, if slots kept their numbers up to the call
 back_agrees : (set : PRegSet) → ((r : Register) → has_register set r ≡ is_lost_in_call r) → (saved left frame : ℕ → ℕ) (v : ℕ) (numbers : Place → ℕ) →
     ((k : ℕ) → number_in saved frame (slot_place k) ≡ numbers (InSlot k)) →
-    Agree (registers_returned saved (put left 0 v)) frame (numbers_clobbered set (left_in (put left 0 v)) (place_set numbers (register_place 0) v))
-unfolding numbers_clobbered place_set
+    Agree (registers_returned saved (put left 0 v)) frame (after_clobbers set (left_in (put left 0 v)) (stored numbers (register_place 0) v))
+unfolding after_clobbers stored
 back_agrees set has saved left frame v numbers slots = record {
   in_registers = λ n allocated.
       given_back (is_caller_saved n) (nat_eq 0 n) (has_register set (record { number = n; class = Int })) v (left n) (saved n) (numbers (register_place n))
@@ -102,28 +101,28 @@ back_agrees set has saved left frame v numbers slots = record {
 }
 
 -- uses define nothing
-none_defined : (w : ℕ → ℕ) (k : ℕ) (rs : List ℕ) (vs : List VirtualRegister) (m : VirtualRegister → ℕ) → numbers_defined w k (arguments_in rs vs) m ≡ m
-unfolding numbers_defined arguments_in
+none_defined : (w : ℕ → ℕ) (k : ℕ) (rs : List ℕ) (vs : List VirtualRegister) (m : VirtualRegister → ℕ) → after_defs w k (arguments_in rs vs) m ≡ m
+unfolding after_defs arguments_in
 none_defined w k rs [] m = refl
 none_defined w k [] (v ∷ vs) m = none_defined w (k + 1) [] vs m
 none_defined w k (r ∷ rs) (v ∷ vs) m = none_defined w (k + 1) rs vs m
 
-none_written : (w : ℕ → ℕ) (ps : List Place) (k : ℕ) (rs : List ℕ) (vs : List VirtualRegister) (m : Place → ℕ) → written_to w ps k (arguments_in rs vs) m ≡ m
-unfolding written_to arguments_in
+none_written : (w : ℕ → ℕ) (ps : List Place) (k : ℕ) (rs : List ℕ) (vs : List VirtualRegister) (m : Place → ℕ) → after_writes w ps k (arguments_in rs vs) m ≡ m
+unfolding after_writes arguments_in
 none_written w ps k rs [] m = refl
 none_written w ps k [] (v ∷ vs) m = none_written w ps (k + 1) [] vs m
 none_written w ps k (r ∷ rs) (v ∷ vs) m = none_written w ps (k + 1) rs vs m
 
 -- a call defines the vreg of its result, and writes register 0
 result_defined : (n : ℕ) (to : VirtualRegister) (vs : List VirtualRegister) (m : VirtualRegister → ℕ) →
-    numbers_defined (λ k. n) 0 (call_operands to vs) m ≡ number_set m to n
-unfolding numbers_defined
-result_defined n to vs m = none_defined (λ k. n) 1 argument_registers vs (number_set m to n)
+    after_defs (λ k. n) 0 (call_operands to vs) m ≡ assigned m to n
+unfolding after_defs
+result_defined n to vs m = none_defined (λ k. n) 1 argument_registers vs (assigned m to n)
 
 result_written : (w : ℕ → ℕ) (to : VirtualRegister) (vs : List VirtualRegister) (ps : List Place) (m : Place → ℕ) →
-    written_to w ps 0 (call_operands to vs) m ≡ place_set m (place_at ps 0) (w 0)
-unfolding written_to
-result_written w to vs ps m = none_written w ps 1 argument_registers vs (place_set m (place_at ps 0) (w 0))
+    after_writes w ps 0 (call_operands to vs) m ≡ stored m (place_at ps 0) (w 0)
+unfolding after_writes
+result_written w to vs ps m = none_written w ps 1 argument_registers vs (stored m (place_at ps 0) (w 0))
 
 -- what a call reads
 abbrev passed : (ℕ → OperandValue → ℕ) → ℕ → List ℕ → List VirtualRegister → List ℕ
@@ -210,8 +209,8 @@ unfolding read_by
 call_late m numbers ps to vs h = h
 
 -- clobbered registers may keep what they hold
-left_alone : (set : PRegSet) (m : Place → ℕ) (p : Place) → numbers_clobbered set m m p ≡ m p
-unfolding numbers_clobbered
+left_alone : (set : PRegSet) (m : Place → ℕ) (p : Place) → after_clobbers set m m p ≡ m p
+unfolding after_clobbers
 left_alone set m NoPlace = refl
 left_alone set m (InRegister r) = same (has_register set r)
   where
@@ -239,7 +238,7 @@ module _ (f : FunctionValue) (ops : Operations) (out : OutputValue) (start : ℕ
     pub ends : d.at.inst + suc (suc left) ≡ (block_at f d.at.block).range.end
     pub stands : StandAt start code.instructions pc
         (items_code ops out (block_at f d.at.block).succs (d.at.block + 1) (listing_from out (block_at f d.at.block).range.first (d.at.inst + 1) (suc left)))
-    pub slots : (k : ℕ) → number_in registers frame (slot_place k) ≡ numbers_moved (moves_at f out d.at) d.numbers (InSlot k)
+    pub slots : (k : ℕ) → number_in registers frame (slot_place k) ≡ after_moves (moves_at f out d.at) d.numbers (InSlot k)
 
   -- inside a block, an interpreter goes on at the next instruction
   goes_onward : (l : Location) → l.inst + 1 < (block_at f l.block).range.end → way_on f l None ≡ Some Onward
@@ -267,7 +266,7 @@ module _ (f : FunctionValue) (ops : Operations) (out : OutputValue) (start : ℕ
       source_on = record {
         at = next_of f c.at Onward;
         history = (c.at.inst, source_reads f out c) ∷ c.history;
-        numbers = passed_over f c.at Onward (source_after f out x c);
+        numbers = over_edge f c.at Onward (source_after f out x c);
       }
 
       abbrev place_on : State Place
@@ -299,19 +298,19 @@ module _ (f : FunctionValue) (ops : Operations) (out : OutputValue) (start : ℕ
           (subst (λ (w : Option Way). StepsOn f out virtual places (x ∷ p.choices) (option_map (λ w. record {
             at = next_of f c.at w;
             history = (c.at.inst, source_reads f out c) ∷ c.history;
-            numbers = passed_over f c.at w (source_after f out x c);
+            numbers = over_edge f c.at w (source_after f out x c);
           }) w) (place_next f out stir x d))
           (goes_onward c.at (subst (λ (l : Location). l.inst + 1 < (block_at f l.block).range.end) same_at more))
           (alike.on p.choices c d p.together x))
 
       -- the result is defined
-      numbers_on : source_on.numbers ≡ number_set numbers to n
-      unfolding passed_over
+      numbers_on : source_on.numbers ≡ assigned numbers to n
+      unfolding over_edge
       numbers_on =
-          ap (λ (l : Location). numbers_defined (λ k. n) 0 (inst_at f l.inst).operands c.numbers) (sym same_at)
-          ∙ ap (λ (os : List OperandValue). numbers_defined (λ k. n) 0 os c.numbers) operands
+          ap (λ (l : Location). after_defs (λ k. n) 0 (inst_at f l.inst).operands c.numbers) (sym same_at)
+          ∙ ap (λ (os : List OperandValue). after_defs (λ k. n) 0 os c.numbers) operands
           ∙ result_defined n to p.arguments.items c.numbers
-          ∙ ap (λ (m : VirtualRegister → ℕ). number_set m to n) (sym p.is_numbers)
+          ∙ ap (λ (m : VirtualRegister → ℕ). assigned m to n) (sym p.is_numbers)
 
       -- the result is written to its place
       placed : IsPlaced code.slots (Calling p.callee to p.arguments) (allocs_of out d.at.inst)
@@ -321,18 +320,18 @@ module _ (f : FunctionValue) (ops : Operations) (out : OutputValue) (start : ℕ
       has r = ok.clobbers d.at.inst within r ∙ ap (λ (o : Operation). is_lost_in o r) p.is_call
 
       abbrev moved : Place → ℕ
-      moved = numbers_moved (moves_at f out d.at) d.numbers
+      moved = after_moves (moves_at f out d.at) d.numbers
 
-      places_on : numbers_clobbered (inst_at f d.at.inst).clobbers (left_in (put left 0 n)) (place_set moved (register_place 0) n) ≡ place_on.numbers
+      places_on : after_clobbers (inst_at f d.at.inst).clobbers (left_in (put left 0 n)) (stored moved (register_place 0) n) ≡ place_on.numbers
       places_on = sym (
-          ap (λ (m : Place → ℕ). numbers_clobbered (inst_at f d.at.inst).clobbers (left_in (put left 0 n))
-          (written_to (λ k. n) (allocs_of out d.at.inst) 0 (inst_at f d.at.inst).operands m))
+          ap (λ (m : Place → ℕ). after_clobbers (inst_at f d.at.inst).clobbers (left_in (put left 0 n))
+          (after_writes (λ k. n) (allocs_of out d.at.inst) 0 (inst_at f d.at.inst).operands m))
           (found f ops out start code (λ k. 0) memory stir ok sized d within)
-          ∙ ap (λ (os : List OperandValue). numbers_clobbered (inst_at f d.at.inst).clobbers (left_in (put left 0 n))
-          (written_to (λ k. n) (allocs_of out d.at.inst) 0 os moved)) operands
-          ∙ ap (λ (m : Place → ℕ). numbers_clobbered (inst_at f d.at.inst).clobbers (left_in (put left 0 n)) m)
+          ∙ ap (λ (os : List OperandValue). after_clobbers (inst_at f d.at.inst).clobbers (left_in (put left 0 n))
+          (after_writes (λ k. n) (allocs_of out d.at.inst) 0 os moved)) operands
+          ∙ ap (λ (m : Place → ℕ). after_clobbers (inst_at f d.at.inst).clobbers (left_in (put left 0 n)) m)
           (result_written (λ k. n) to p.arguments.items (allocs_of out d.at.inst) moved)
-          ∙ ap (λ (q : Place). numbers_clobbered (inst_at f d.at.inst).clobbers (left_in (put left 0 n)) (place_set moved q n))
+          ∙ ap (λ (q : Place). after_clobbers (inst_at f d.at.inst).clobbers (left_in (put left 0 n)) (stored moved q n))
           (place_is (place_at (allocs_of out d.at.inst) 0) 0 placed.0.0 placed.0.1))
 
       abbrev machine_on : MachineState
@@ -340,14 +339,14 @@ module _ (f : FunctionValue) (ops : Operations) (out : OutputValue) (start : ℕ
 
       -- after the return, procedure and machine are related
       pub resumes : AreJoined f ops out start code virtual places
-          (record { at = record { block = at.block; inst = at.inst + 1 }; numbers = number_set numbers to n; memory = memory }) machine_on
+          (record { at = record { block = at.block; inst = at.inst + 1 }; numbers = assigned numbers to n; memory = memory }) machine_on
       resumes = record {
         choices = x ∷ p.choices;
         c = source_on;
         d = place_on;
         together = together_on;
         is_seen =
-            ap (λ (l : Location). record { at = record { block = l.block; inst = l.inst + 1 }; numbers = number_set numbers to n; memory = memory }) p.is_at
+            ap (λ (l : Location). record { at = record { block = l.block; inst = l.inst + 1 }; numbers = assigned numbers to n; memory = memory }) p.is_at
             ∙ ap (λ (m : VirtualRegister → ℕ). record { at = record { block = c.at.block; inst = c.at.inst + 1 }; numbers = m; memory = memory }) (sym numbers_on);
         sized = sized;
         at = record {
@@ -375,7 +374,7 @@ module _ (f : FunctionValue) (ops : Operations) (out : OutputValue) (start : ℕ
       pub fits : length vs - 6 ≤ code.outgoing
       pub here : (i : ℕ) → i < length vs - 6 → IsHere code.slots (place_at ps (i + 7))
       pub stays : (i first : ℕ) → i < length vs - 6 →
-          place_set found (register_place 0) first (place_at ps (i + 7)) ≡ slice_index (map (λ v. q.numbers v) vs) (i + 6)
+          stored found (register_place 0) first (place_at ps (i + 7)) ≡ slice_index (map (λ v. q.numbers v) vs) (i + 6)
       pub given : (k : ℕ) → k < length vs → k < 6 → state.registers (argument_register k) ≡ slice_index (map (λ v. q.numbers v) vs) k
       pub paused : (pc : ℕ) (registers frame : ℕ → ℕ) → StandAt start code.instructions pc rest →
           ((k : ℕ) → number_in registers frame (slot_place k) ≡ found (InSlot k)) → IsPaused q.at q.numbers to pc registers frame
@@ -398,7 +397,7 @@ module _ (f : FunctionValue) (ops : Operations) (out : OutputValue) (start : ℕ
       ps = allocs_of out e.at.inst
 
       abbrev found_there : Place → ℕ
-      found_there = after_moves f ops out start code args s.memory noise e
+      found_there = numbers_after_moves f ops out start code args s.memory noise e
 
       read_alike : ReadAlike f out noise v e
       read_alike = alike.alike j.choices v e j.together
@@ -436,22 +435,22 @@ module _ (f : FunctionValue) (ops : Operations) (out : OutputValue) (start : ℕ
       -- what late uses of the call find once the call has written register 0
       module _ (first : ℕ) where
         abbrev with_first : Place → ℕ
-        with_first = place_set found_there (register_place 0) first
+        with_first = stored found_there (register_place 0) first
 
         -- the choice that writes this number, and leaves clobbered registers as they are
         abbrev writes_first : Choice
         writes_first = record { writes = λ k. first; takes = None; leaves = with_first }
 
         abbrev clobbered : (Place → ℕ) → Place → ℕ
-        clobbered m = numbers_clobbered (inst_at f e.at.inst).clobbers with_first m
+        clobbered m = after_clobbers (inst_at f e.at.inst).clobbers with_first m
 
         after_is : place_after f out noise writes_first e ≡ clobbered with_first
         after_is =
-            ap (λ (m : Place → ℕ). clobbered (written_to (λ k. first) ps 0 (inst_at f e.at.inst).operands m))
+            ap (λ (m : Place → ℕ). clobbered (after_writes (λ k. first) ps 0 (inst_at f e.at.inst).operands m))
             (found f ops out start code args s.memory noise ok j.sized e inst_within)
-            ∙ ap (λ (os : List OperandValue). clobbered (written_to (λ k. first) ps 0 os found_there)) call_operands_are
+            ∙ ap (λ (os : List OperandValue). clobbered (after_writes (λ k. first) ps 0 os found_there)) call_operands_are
             ∙ ap (λ (m : Place → ℕ). clobbered m) (result_written (λ k. first) to vs ps found_there)
-            ∙ ap (λ (p : Place). clobbered (place_set found_there p first)) (place_is (place_at ps 0) 0 call_placed.0.0 call_placed.0.1)
+            ∙ ap (λ (p : Place). clobbered (stored found_there p first)) (place_is (place_at ps 0) 0 call_placed.0.0 call_placed.0.1)
 
         late_there : read_by is_late_use (λ k u. clobbered with_first (place_at ps k)) 0 (call_operands to vs)
             ≡ read_by is_late_use (λ k u. v.numbers u.vreg) 0 (call_operands to vs)

@@ -5,9 +5,9 @@ use Rattle.regalloc2_names.specs.Operand.{is_reading}
 use Rattle.regalloc2_names.specs.Place.{Place}
 use Rattle.regalloc2_function.specs.FunctionValue.{FunctionValue, inst_at}
 use Rattle.regalloc2_function.specs.OutputValue.{OutputValue, allocs_of, place_at}
-use Rattle.regalloc2_semantics.specs.Runs.{first_of, next_of, moves_at}
-use Rattle.regalloc2_semantics.specs.Interpreters.{History, InstMeaning, State, read_by, is_late_use, way_on, numbers_defined, passed_over, numbers_moved}
-use Rattle.regalloc2_semantics.specs.Interpreters.{disturbed, written_to, numbers_clobbered, source_run, place_run}
+use Rattle.regalloc2_semantics.specs.Runs.{first_of, next_of, moves_at, after_clobbers, after_defs, after_early_defs, after_moves, after_writes, over_edge}
+use Rattle.regalloc2_semantics.specs.Interpreters.{History, InstMeaning, State, read_by, is_late_use, way_on}
+use Rattle.regalloc2_semantics.specs.Interpreters.{source_run, place_run}
 use Rattle.regalloc2_semantics.specs.Alike.{RunAlike}
 
 -- a step's choice: the number that it writes to the operand of an index, the position of the successor that it follows, and the numbers that it leaves in
@@ -43,26 +43,26 @@ module _ (f : FunctionValue) (out : OutputValue) where
 
   -- a step by a choice
   abbrev pub source_after : Choice → State VirtualRegister → VirtualRegister → ℕ
-  source_after x c = numbers_defined x.writes 0 (inst_at f c.at.inst).operands c.numbers
+  source_after x c = after_defs x.writes 0 (inst_at f c.at.inst).operands c.numbers
 
   abbrev pub source_next : Choice → State VirtualRegister → Option (State VirtualRegister)
   source_next x c = option_map (λ w. record {
     at = next_of f c.at w;
     history = (c.at.inst, source_reads c) ∷ c.history;
-    numbers = passed_over f c.at w (source_after x c);
+    numbers = over_edge f c.at w (source_after x c);
   }) (way_on f c.at x.takes)
 
   -- the numbers that an instruction finds in places, and the numbers that it reads
   abbrev pub found_by : (Place → ℕ) → State Place → Place → ℕ
-  found_by stir d = disturbed stir (allocs_of out d.at.inst) 0 (inst_at f d.at.inst).operands (numbers_moved (moves_at f out d.at) d.numbers)
+  found_by stir d = after_early_defs stir (allocs_of out d.at.inst) 0 (inst_at f d.at.inst).operands (after_moves (moves_at f out d.at) d.numbers)
 
   abbrev pub found_reads : (Place → ℕ) → State Place → List ℕ
   found_reads stir d = read_by is_reading (λ k o. found_by stir d (place_at (allocs_of out d.at.inst) k)) 0 (inst_at f d.at.inst).operands
 
   -- a step by a choice
   abbrev pub place_after : (Place → ℕ) → Choice → State Place → Place → ℕ
-  place_after stir x d = numbers_clobbered (inst_at f d.at.inst).clobbers x.leaves
-      (written_to x.writes (allocs_of out d.at.inst) 0 (inst_at f d.at.inst).operands (found_by stir d))
+  place_after stir x d = after_clobbers (inst_at f d.at.inst).clobbers x.leaves
+      (after_writes x.writes (allocs_of out d.at.inst) 0 (inst_at f d.at.inst).operands (found_by stir d))
 
   abbrev pub place_next : (Place → ℕ) → Choice → State Place → Option (State Place)
   place_next stir x d = option_map (λ w. record {

@@ -6,8 +6,8 @@ use Rattle.regalloc2_names.specs.Register.{VirtualRegister}
 use Rattle.regalloc2_names.specs.Place.{Place}
 use Rattle.regalloc2_function.specs.FunctionValue.{FunctionValue, inst_at}
 use Rattle.regalloc2_function.specs.OutputValue.{OutputValue, allocs_of, place_at}
-use Rattle.regalloc2_semantics.specs.Runs.{Way, next_of}
-use Rattle.regalloc2_semantics.specs.Interpreters.{History, InstMeaning, State, read_by, is_late_use, way_on, passed_over, source_told, vreg_written}
+use Rattle.regalloc2_semantics.specs.Runs.{Way, next_of, over_edge}
+use Rattle.regalloc2_semantics.specs.Interpreters.{History, InstMeaning, State, read_by, is_late_use, way_on, source_told, vreg_written}
 use Rattle.regalloc2_semantics.specs.Interpreters.{source_run, source_step, place_told, place_written, place_run, place_step}
 use Rattle.regalloc2_semantics.specs.Alike.{AreAlike, HaveRunAlike, RunAlike}
 use Rattle.codegen.proofs.Choices.{Choice, nothing, choice_at, meaning_by, noise_by, leavings, source_next, place_next, place_after, source_reads}
@@ -36,11 +36,11 @@ choice_left (x ∷ xs) = ap (λ (y : Choice). y.leaves) (choice_new x xs (suc (l
 module _ (f : FunctionValue) (out : OutputValue) (virtual : VirtualRegister → ℕ) (places : Place → ℕ) where
   -- a state has read as often as there were steps
   source_longer : (m : InstMeaning) (n : ℕ) (b c : State VirtualRegister) (o : Option Way) → length b.history ≡ n →
-      option_map (λ w. record { at = next_of f b.at w; history = source_told f m b; numbers = passed_over f b.at w (vreg_written f m b) }) o ≡ Some c →
+      option_map (λ w. record { at = next_of f b.at w; history = source_told f m b; numbers = over_edge f b.at w (vreg_written f m b) }) o ≡ Some c →
       length c.history ≡ suc n
   source_longer m n b c None long g = absurd cc
   source_longer m n b c (Some w) long g =
-      let same : record { at = next_of f b.at w; history = source_told f m b; numbers = passed_over f b.at w (vreg_written f m b) } ≡ c = cc in
+      let same : record { at = next_of f b.at w; history = source_told f m b; numbers = over_edge f b.at w (vreg_written f m b) } ≡ c = cc in
       ap (λ (s : State VirtualRegister). length s.history) (sym same) ∙ ap suc long
 
   source_step_long : (m : InstMeaning) (n : ℕ) (x : Option (State VirtualRegister)) (c : State VirtualRegister) →

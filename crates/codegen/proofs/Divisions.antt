@@ -9,7 +9,7 @@ use Rattle.regalloc2_names.specs.Register.{Register, VirtualRegister, is_registe
 use Rattle.regalloc2_names.specs.Same.{is_register-true}
 use Rattle.regalloc2_names.specs.Place.{Place, NoPlace, InRegister, InSlot}
 use Rattle.regalloc2_function.specs.OutputValue.{place_at}
-use Rattle.regalloc2_semantics.specs.Interpreters.{read_by, is_late_use, place_set, written_to, numbers_clobbered}
+use Rattle.regalloc2_semantics.specs.Interpreters.{read_by, is_late_use}
 use Rattle.codegen_operation.specs.Numbers.{Running, Trapped, Stuck, divided_at, division_traps, extended, is_within, put}
 use Rattle.codegen_operation.specs.Operands.{is_lost_in, operands_of, other_register, part_register}
 use Rattle.codegen_operation.specs.declared.operation.Width.{Width}
@@ -28,6 +28,7 @@ use Rattle.codegen.proofs.Runs.{Comes, comes_by, comes_on, ends_by, ends_then}
 use Rattle.codegen.proofs.Stands.{StandAt}
 use Rattle.codegen.proofs.Places.{Agree, number_in, slot_stays, register_place, int_place, wrote, writes, agree_register, reads_source}
 use Rattle.codegen.proofs.Steps.{leaves_of, left_of, traps_of, other_part, reads_at, writes_at, Done, Leaves, outside, guard_traps, plain_done}
+use Rattle.regalloc2_semantics.specs.Runs.{after_clobbers, after_writes, stored}
 
 abbrev int_register : ℕ → Register
 int_register n = record { number = n; class = Int }
@@ -40,8 +41,8 @@ place_is (InSlot k) n h e = absurd h
 
 -- without clobbers, all numbers stay
 pub unclobbered : (set : PRegSet) (noise numbers : Place → ℕ) (registers frame : ℕ → ℕ) → ((r : Register) → has_register set r ≡ false) →
-    Agree registers frame numbers → Agree registers frame (numbers_clobbered set noise numbers)
-unfolding numbers_clobbered
+    Agree registers frame numbers → Agree registers frame (after_clobbers set noise numbers)
+unfolding after_clobbers
 unclobbered set noise numbers registers frame none a = record {
   in_registers = λ n allocated.
       a.in_registers n allocated
@@ -52,13 +53,13 @@ unclobbered set noise numbers registers frame none a = record {
 -- The divisor's place keeps its number whatever a division writes and leaves. It is therefore neither of the division's registers, or already holds the number
 -- written.
 abbrev pub Keeps : PRegSet → (Place → ℕ) → Place → Place → Type 0
-Keeps set m p q = (x : Choice) → numbers_clobbered set x.leaves (place_set m p (x.writes 0)) q ≡ m q
+Keeps set m p q = (x : Choice) → after_clobbers set x.leaves (stored m p (x.writes 0)) q ≡ m q
 
 module _ (m : Place → ℕ) (set : PRegSet) (w : ℕ) where
   -- writing any number to register 2 leaves the divisor's place unchanged
   quotient_stays : ((r : Register) → has_register set r ≡ is_register (int_register 2) r) → (q : Place) → Keeps set m (register_place 0) q →
-      place_set m (register_place 2) w q ≡ m q
-  unfolding place_set numbers_clobbered
+      stored m (register_place 2) w q ≡ m q
+  unfolding stored after_clobbers
   quotient_stays has NoPlace h = refl
   quotient_stays has (InSlot k) h = refl
   quotient_stays has (InRegister r) h =
@@ -72,8 +73,8 @@ module _ (m : Place → ℕ) (set : PRegSet) (w : ℕ) where
       pick false b e g = refl
 
   remainder_stays : ((r : Register) → has_register set r ≡ is_register (int_register 0) r) → (q : Place) → Keeps set m (register_place 2) q →
-      place_set m (register_place 2) w q ≡ m q
-  unfolding place_set numbers_clobbered
+      stored m (register_place 2) w q ≡ m q
+  unfolding stored after_clobbers
   remainder_stays has NoPlace h = refl
   remainder_stays has (InSlot k) h = refl
   remainder_stays has (InRegister r) h =
@@ -91,7 +92,7 @@ module _ (m : Place → ℕ) (set : PRegSet) (w : ℕ) where
 
 stays : (part : DivisionPart) (m : Place → ℕ) (set : PRegSet) (w : ℕ) →
     ((r : Register) → has_register set r ≡ is_register (int_register (other_register part)) r) → (q : Place) →
-    Keeps set m (register_place (part_register part)) q → place_set m (register_place 2) w q ≡ m q
+    Keeps set m (register_place (part_register part)) q → stored m (register_place 2) w q ≡ m q
 stays Quotient m set w has q h = quotient_stays m set w has q h
 stays Remainder m set w has q h = remainder_stays m set w has q h
 
@@ -117,8 +118,8 @@ slot_left registers frame w q r k =
 both_agree : (part : DivisionPart) (numbers : DivisionPart → ℕ) (m : Place → ℕ) (set : PRegSet) (w : ℕ) (registers frame : ℕ → ℕ) →
     ((r : Register) → has_register set r ≡ is_register (int_register (other_register part)) r) → Agree registers frame m →
     Agree (put (put (put registers 2 w) 0 (numbers Quotient)) 2 (numbers Remainder)) frame
-    (numbers_clobbered set (λ p. numbers (other_part part)) (place_set m (register_place (part_register part)) (numbers part)))
-unfolding place_set numbers_clobbered
+    (after_clobbers set (λ p. numbers (other_part part)) (stored m (register_place (part_register part)) (numbers part)))
+unfolding stored after_clobbers
 both_agree Quotient numbers m set w registers frame has a = record {
   in_registers = λ n allocated.
       quotient_agrees (nat_eq 2 n) (nat_eq 0 n) w (numbers Quotient) (numbers Remainder) (registers n) (m (register_place n)) (a.in_registers n allocated)
@@ -145,14 +146,14 @@ module _ (args : ℕ → ℕ) (starts : ℕ → ℕ) (code : CodeValue) (succs :
     abbrev ready : Option (ℕ × ℕ) → MachineState
     ready compared = wrote s 2 above compared
 
-    agree_ready : (compared : Option (ℕ × ℕ)) → Agree (ready compared).registers s.frame (place_set m (register_place 2) above)
+    agree_ready : (compared : Option (ℕ × ℕ)) → Agree (ready compared).registers s.frame (stored m (register_place 2) above)
     agree_ready compared = agree_register s.registers s.frame m a (register_place 2) (refl, refl) above
 
     -- the division, by the divisor's number
     outcome : (compared : Option (ℕ × ℕ)) →
         executed args code.slots (Some (Divide w signed (source_of q))) (ready compared) ≡ divides (ready compared) w signed (m q)
     outcome compared =
-        reads_source code.slots (ready compared) (place_set m (register_place 2) above) (agree_ready compared) q here (λ b. divides (ready compared) w signed b)
+        reads_source code.slots (ready compared) (stored m (register_place 2) above) (agree_ready compared) q here (λ b. divides (ready compared) w signed b)
         ∙ ap (λ (b : ℕ). divides (ready compared) w signed b) (stays part m set above has q keeps)
 
     -- it isn't stuck
@@ -187,8 +188,8 @@ module _ (args : ℕ → ℕ) (starts : ℕ → ℕ) (code : CodeValue) (succs :
     }
 
     divide_done : division_traps w signed (m (register_place 0)) (m q) ≡ false → Done args starts code succs rest s
-        (numbers_clobbered set (λ p. divided_at w (other_part part) signed (m (register_place 0)) (m q))
-        (place_set m (register_place (part_register part)) (divided_at w part signed (m (register_place 0)) (m q))))
+        (after_clobbers set (λ p. divided_at w (other_part part) signed (m (register_place 0)) (m q))
+        (stored m (register_place (part_register part)) (divided_at w part signed (m (register_place 0)) (m q))))
     divide_done calm =
         let r : IsReady = is_ready signed refl in
         let u : MachineState = ready r.compared in
@@ -198,8 +199,8 @@ module _ (args : ℕ → ℕ) (starts : ℕ → ℕ) (code : CodeValue) (succs :
         record {
           to = v;
           comes = comes_on code args 1 1 1 s u v (omega arith) r.comes (comes_by code args (Divide w signed (source_of q)) u v h.1.0 acts);
-          agree = subst (λ (n : ℕ). Agree v.registers v.frame (numbers_clobbered set (λ p. divided_at w (other_part part) signed n (m q))
-              (place_set m (register_place (part_register part)) (divided_at w part signed n (m q))))) (a.in_registers 0 refl)
+          agree = subst (λ (n : ℕ). Agree v.registers v.frame (after_clobbers set (λ p. divided_at w (other_part part) signed n (m q))
+              (stored m (register_place (part_register part)) (divided_at w part signed n (m q))))) (a.in_registers 0 refl)
               (both_agree part (λ x. divided_at w x signed (s.registers 0) (m q)) m set above s.registers s.frame has a);
           stands = h.1.1;
           same = refl;
@@ -235,19 +236,19 @@ module _ (args : ℕ → ℕ) (starts : ℕ → ℕ) (code : CodeValue) (succs :
       traps_of s.memory o (reads_at o ps m) ≡ false →
       Agree s.registers s.frame m → StandAt starts code.instructions s.pc (operation_code size o ps succs next ++ rest) →
       Leaves args starts code succs rest s (left_of s.memory o (reads_at o ps m))
-      (numbers_clobbered set (leaves_of o (reads_at o ps m)) (writes_at args s.memory o ps m))
-  unfolding written_to
+      (after_clobbers set (leaves_of o (reads_at o ps m)) (writes_at args s.memory o ps m))
+  unfolding after_writes
   plain_leaves size next (Dividing w part signed to left right) set s ps m plain placed has kept sized calm a h =
       let first : place_at ps 0 ≡ register_place (part_register part) = place_is (place_at ps 0) (part_register part) placed.0.0 placed.0.1 in
       let second : place_at ps 1 ≡ register_place 0 = place_is (place_at ps 1) 0 placed.1.0 placed.1.1 in
       let read : reads_at (Dividing w part signed to left right) ps m ≡ m (register_place 0) ∷ m (place_at ps 2) ∷ [] =
       reads w part signed to left right ps m plain.1 ∙ ap (λ (p : Place). m p ∷ m (place_at ps 2) ∷ []) second in
       subst (λ (xs : List ℕ). division_traps w signed (slice_index xs 0) (slice_index xs 1) ≡ false → Done args starts code succs rest s
-      (numbers_clobbered set (λ p. divided_at w (other_part part) signed (slice_index xs 0) (slice_index xs 1))
-      (place_set m (place_at ps 0) (divided_at w part signed (slice_index xs 0) (slice_index xs 1))))) (sym read)
+      (after_clobbers set (λ p. divided_at w (other_part part) signed (slice_index xs 0) (slice_index xs 1))
+      (stored m (place_at ps 0) (divided_at w part signed (slice_index xs 0) (slice_index xs 1))))) (sym read)
       (subst (λ (p : Place). division_traps w signed (m (register_place 0)) (m (place_at ps 2)) ≡ false → Done args starts code succs rest s
-      (numbers_clobbered set (λ n. divided_at w (other_part part) signed (m (register_place 0)) (m (place_at ps 2)))
-      (place_set m p (divided_at w part signed (m (register_place 0)) (m (place_at ps 2)))))) (sym first)
+      (after_clobbers set (λ n. divided_at w (other_part part) signed (m (register_place 0)) (m (place_at ps 2)))
+      (stored m p (divided_at w part signed (m (register_place 0)) (m (place_at ps 2)))))) (sym first)
       (divide_done w part signed m set (place_at ps 2) s has (subst (λ (p : Place). Keeps set m p (place_at ps 2)) first kept) placed.2 a h)) calm
   plain_leaves size next (Calling g to arguments) set s ps m plain placed has kept sized calm a h = absurd plain
   plain_leaves size next o set s ps m plain placed has kept sized calm a h =
@@ -285,11 +286,11 @@ module _ (args : ℕ → ℕ) (starts : ℕ → ℕ) (code : CodeValue) (succs :
   -- the interpreters' late use guarantees that it is kept
   pub is_kept : (o : Operation) (set : PRegSet) (ps : List Place) (m : Place → ℕ) (v : VirtualRegister → ℕ) → IsPlain o →
       reads_at o ps m ≡ read_by is_reading (λ k u. v u.vreg) 0 (operands_of o) →
-      ((x : Choice) → read_by is_late_use (λ k u. numbers_clobbered set x.leaves (written_to x.writes ps 0 (operands_of o) m) (place_at ps k)) 0 (operands_of o)
+      ((x : Choice) → read_by is_late_use (λ k u. after_clobbers set x.leaves (after_writes x.writes ps 0 (operands_of o) m) (place_at ps k)) 0 (operands_of o)
       ≡ read_by is_late_use (λ k u. v u.vreg) 0 (operands_of o)) → IsKept o set ps m
-  unfolding written_to read_by
+  unfolding after_writes read_by
   is_kept (Dividing w part signed to left right) set ps m v plain same late = λ x.
-      let after : Place → ℕ = numbers_clobbered set x.leaves (place_set m (place_at ps 0) (x.writes 0)) in
+      let after : Place → ℕ = after_clobbers set x.leaves (stored m (place_at ps 0) (x.writes 0)) in
       let p : ℕ = after (place_at ps 2) in
       let one : p ∷ [] ≡ v right ∷ [] =
       subst (λ (b : Bool). cond (not b && false) (after (place_at ps 1) ∷ p ∷ []) (p ∷ []) ≡ cond (not b && false) (v left ∷ v right ∷ []) (v right ∷ []))

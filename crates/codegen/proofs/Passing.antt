@@ -6,7 +6,6 @@ use Rattle.std.proofs.lemmas.Bool.{cases_lt}
 use Rattle.std.specs.Prelude.{slice_get}
 use Rattle.regalloc2_names.specs.Place.{Place, NoPlace, InRegister, InSlot}
 use Rattle.regalloc2_function.specs.OutputValue.{place_at}
-use Rattle.regalloc2_semantics.specs.Interpreters.{place_set}
 use Rattle.codegen_operation.specs.Numbers.{put}
 use Rattle.codegen_machine.specs.declared.Instruction.{Instruction}
 use Rattle.codegen_machine.specs.declared.Instruction.TheVariants.{Call, Load}
@@ -21,6 +20,7 @@ use Rattle.codegen.proofs.Runs.{comes_by}
 use Rattle.codegen.proofs.Stands.{StandAt}
 use Rattle.codegen.proofs.Places.{Agree, fetches_place, holds, int_place, number_in, register_place, slot_stays, wrote}
 use Rattle.codegen.proofs.Activations.{StackComes, activation_with, comes_lifted, comes_passing, stack_here, stack_on}
+use Rattle.regalloc2_semantics.specs.Runs.{stored}
 
 -- a place of the machine for a number, and the number in it
 place_within : (slots : ℕ) (p : Place) → IsHere slots p → IsWithin slots (machine_place p)
@@ -36,11 +36,11 @@ number_is registers frame m a slots (InSlot n) h = a.in_slots n
 
 -- registers and slots agree with the numbers of places, but for register 0, which holds another
 abbrev pub AgreeBut : (registers frame : ℕ → ℕ) → (Place → ℕ) → ℕ → Type 0
-AgreeBut registers frame m first = Agree registers frame (place_set m (register_place 0) first)
+AgreeBut registers frame m first = Agree registers frame (stored m (register_place 0) first)
 
 -- at first, register 0 holds its own number
 pub agree_but : (registers frame : ℕ → ℕ) (m : Place → ℕ) → Agree registers frame m → AgreeBut registers frame m (registers 0)
-unfolding place_set
+unfolding stored
 agree_but registers frame m a = record {
   in_registers = λ n allocated. pick n allocated (nat_eq 0 n) refl;
   in_slots = a.in_slots;
@@ -52,7 +52,7 @@ agree_but registers frame m a = record {
 
 -- after a write, register 0 holds the number written
 agree_again : (registers frame : ℕ → ℕ) (m : Place → ℕ) (first n : ℕ) → AgreeBut registers frame m first → AgreeBut (put registers 0 n) frame m n
-unfolding place_set
+unfolding stored
 agree_again registers frame m first n a = record {
   in_registers = λ k allocated. pick k (nat_eq 0 k) refl (a.in_registers k allocated);
   in_slots = λ k. slot_stays registers frame 0 n k refl ∙ a.in_slots k;
@@ -154,14 +154,14 @@ module _ (functions : List FunctionCode) (stack : Stack) (f : FunctionCode) (sta
 
   module _ (ps : List Place) (count : ℕ) (fits : count ≤ f.code.outgoing) (numbers : ℕ → ℕ)
       (here : (i : ℕ) → i < count → IsHere f.code.slots (place_at ps (i + 7)))
-      (stays : (i first : ℕ) → i < count → place_set m (register_place 0) first (place_at ps (i + 7)) ≡ numbers i) where
+      (stays : (i first : ℕ) → i < count → stored m (register_place 0) first (place_at ps (i + 7)) ≡ numbers i) where
     -- one argument is passed after the others
     one_passed : (k : ℕ) → k < count → (t : StackState) → slice_get functions t.function ≡ Some f → (first : ℕ) →
         AgreeBut t.state.registers t.state.frame m first → (rest : List Instruction) →
         StandAt starts f.code.instructions t.state.pc (pass_code k (place_at ps (k + 7)) ++ rest) → PassedOne t rest k (numbers k)
     one_passed k less t is first a rest h =
         subst (λ (n : ℕ). PassedOne t rest k n)
-        (number_is t.state.registers t.state.frame (place_set m (register_place 0) first) a f.code.slots (place_at ps (k + 7)) (here k less) ∙ stays k first less)
+        (number_is t.state.registers t.state.frame (stored m (register_place 0) first) a f.code.slots (place_at ps (k + 7)) (here k less) ∙ stays k first less)
         (one_from t is first a k (omega (arith, fits)) (machine_place (place_at ps (k + 7))) (place_within f.code.slots (place_at ps (k + 7)) (here k less)) rest h)
 
     record PassedAll (t : StackState) (rest : List Instruction) (n : ℕ) : Type 0 where
@@ -229,7 +229,7 @@ module _ (functions : List FunctionCode) (stack : Stack) (f : FunctionCode) (sta
   module _ (t : StackState) (is : slice_get functions t.function ≡ Some f) (g count : ℕ) (ps : List Place) (rest : List Instruction) (numbers : ℕ → ℕ)
       (a : Agree t.state.registers t.state.frame m) (h : StandAt starts f.code.instructions t.state.pc (call_code g count ps ++ rest))
       (fits : count - 6 ≤ f.code.outgoing) (here : (i : ℕ) → i < count - 6 → IsHere f.code.slots (place_at ps (i + 7)))
-      (stays : (i first : ℕ) → i < count - 6 → place_set m (register_place 0) first (place_at ps (i + 7)) ≡ numbers (i + 6))
+      (stays : (i first : ℕ) → i < count - 6 → stored m (register_place 0) first (place_at ps (i + 7)) ≡ numbers (i + 6))
       (given : (k : ℕ) → k < count → k < 6 → t.state.registers (argument_register k) ≡ numbers k) where
     passed : PassedAll ps (count - 6) fits (λ i. numbers (i + 6)) here stays t (Call g ∷ rest) (count - 6)
     passed = pass_all ps (count - 6) fits (λ i. numbers (i + 6)) here stays (count - 6) (omega arith) t is (t.state.registers 0)
@@ -252,7 +252,7 @@ module _ (functions : List FunctionCode) (stack : Stack) (f : FunctionCode) (sta
         (cases_lt k 6)
 
     slots_kept : (k : ℕ) → number_in passed.all.state.registers passed.all.state.frame (slot_place k) ≡ m (InSlot k)
-    unfolding place_set
+    unfolding stored
     slots_kept k = passed.all.agree.in_slots k
 
     pub calling : IsCalling t g rest count numbers

@@ -11,7 +11,6 @@ use Rattle.regalloc2_names.specs.Register.{Register, class_code}
 use Rattle.regalloc2_names.specs.Place.{Place, NoPlace, InRegister, InSlot}
 use Rattle.regalloc2_function.specs.OutputValue.{OutputValue, MoveValue}
 use Rattle.regalloc2_function.specs.Listing.{Listed, ListedMove}
-use Rattle.regalloc2_semantics.specs.Interpreters.{place_set, numbers_moved}
 use Rattle.codegen_operation.specs.Numbers.{RunOutcome, Running, Stuck, put}
 use Rattle.codegen_machine.specs.Seen.{Operations}
 use Rattle.codegen_machine.specs.declared.Instruction.{Instruction}
@@ -24,6 +23,7 @@ use Rattle.codegen_emit.specs.Emitted.{register_of, source_of, fetched_from, fet
 use Rattle.codegen.proofs.Premise.{IsGeneral, IsWithin, IsHere, CanMove}
 use Rattle.codegen.proofs.Runs.{Comes, comes_here, comes_by, comes_on}
 use Rattle.codegen.proofs.Stands.{StandAt}
+use Rattle.regalloc2_semantics.specs.Runs.{after_moves, stored}
 
 -- a register of the machine, as a place
 abbrev pub register_place : ℕ → Place
@@ -206,8 +206,8 @@ writes_place s (InSlot k) n compared h = absurd h
 
 -- numbers still agree after a register is written
 pub agree_register : (registers frame : ℕ → ℕ) (numbers : Place → ℕ) → Agree registers frame numbers → (p : Place) → IsGeneral p → (v : ℕ) →
-    Agree (put registers (register_of p) v) frame (place_set numbers p v)
-unfolding place_set
+    Agree (put registers (register_of p) v) frame (stored numbers p v)
+unfolding stored
 agree_register registers frame numbers a NoPlace h v = absurd h
 agree_register registers frame numbers a (InRegister r) h v = record {
   in_registers = λ n allocated.
@@ -219,8 +219,8 @@ agree_register registers frame numbers a (InSlot n) h v = absurd h
 
 -- numbers still agree after a slot is written
 agree_slot : (registers frame : ℕ → ℕ) (numbers : Place → ℕ) → Agree registers frame numbers → (n v : ℕ) →
-    Agree (registers_with registers (slot_place n) v) (frame_with frame (slot_place n) v) (place_set numbers (InSlot n) v)
-unfolding place_set
+    Agree (registers_with registers (slot_place n) v) (frame_with frame (slot_place n) v) (stored numbers (InSlot n) v)
+unfolding stored
 agree_slot registers frame numbers a n v = record {
   in_registers = λ k allocated. register_stays registers (slot_place n) v k (slots_apart n) allocated ∙ a.in_registers k allocated;
   in_slots = λ k.
@@ -266,7 +266,7 @@ module _ (args : ℕ → ℕ) (slots : ℕ) (starts : ℕ → ℕ) where
     same : to.memory ≡ s.memory
 
   one_move : (s : MachineState) (numbers : Place → ℕ) (from to : Place) → Agree s.registers s.frame numbers → CanMove slots from to →
-      Moves s (resolved starts (move_code from to)) (place_set numbers to (numbers from))
+      Moves s (resolved starts (move_code from to)) (stored numbers to (numbers from))
   one_move s numbers from NoPlace a h = absurd h
   one_move s numbers from (InRegister r) a h = record {
     to = wrote s r.number (numbers from) s.compared;
@@ -296,16 +296,16 @@ module _ (operations : Operations) (out : OutputValue) (succs : List ℕ) (next 
   pub moves_run : (ms : List MoveValue) (rest : List Listed) (s : MachineState) (numbers : Place → ℕ) →
       AllByRecursion (λ m. CanMove code.slots m.from m.to) ms →
       Agree s.registers s.frame numbers → StandAt starts code.instructions s.pc (items_code operations out succs next (map (λ m. ListedMove m) ms ++ rest)) →
-      Moved s (numbers_moved ms numbers) rest
-  unfolding numbers_moved items_code
+      Moved s (after_moves ms numbers) rest
+  unfolding after_moves items_code
   moves_run [] rest s numbers can a h = record { to = s; comes = comes_here code args s; agree = a; stands = h; same = refl }
   moves_run (m ∷ ms) rest s numbers can a h =
-      let one : Moves args code.slots starts s (resolved starts (move_code m.from m.to)) (place_set numbers m.to (numbers m.from)) =
+      let one : Moves args code.slots starts s (resolved starts (move_code m.from m.to)) (stored numbers m.to (numbers m.from)) =
       one_move args code.slots starts s numbers m.from m.to a can.0 in
       let others : StandAt starts code.instructions one.to.pc (items_code operations out succs next (map (λ m. ListedMove m) ms ++ rest)) =
       subst (λ (n : ℕ). StandAt starts code.instructions n (items_code operations out succs next (map (λ m. ListedMove m) ms ++ rest))) (sym one.next) h.1 in
-      let all : Moved one.to (numbers_moved ms (place_set numbers m.to (numbers m.from))) rest =
-      moves_run ms rest one.to (place_set numbers m.to (numbers m.from)) can.1 one.agree others in
+      let all : Moved one.to (after_moves ms (stored numbers m.to (numbers m.from))) rest =
+      moves_run ms rest one.to (stored numbers m.to (numbers m.from)) can.1 one.agree others in
       let first : Comes code args 1 s one.to = comes_by code args (resolved starts (move_code m.from m.to)) s one.to h.0 one.acts in
       record {
         to = all.to;

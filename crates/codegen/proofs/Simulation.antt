@@ -9,9 +9,9 @@ use Rattle.regalloc2_names.specs.Operand.{OperandValue, is_reading}
 use Rattle.regalloc2_names.specs.Place.{Place}
 use Rattle.regalloc2_function.specs.FunctionValue.{FunctionValue, block_at, inst_at}
 use Rattle.regalloc2_function.specs.OutputValue.{OutputValue, MoveValue, allocs_of, place_at, is_listed_at}
-use Rattle.regalloc2_semantics.specs.Runs.{Location, Way, Onward, ToSuccessor, first_of, next_of, moves_at}
+use Rattle.regalloc2_semantics.specs.Runs.{Location, Way, Onward, ToSuccessor, first_of, next_of, moves_at, after_clobbers, after_early_defs, after_moves, after_writes}
 use Rattle.regalloc2_function.specs.Listing.{ListedInst, listing_from}
-use Rattle.regalloc2_semantics.specs.Interpreters.{History, State, read_by, is_late_use, edge_to, numbers_moved, disturbed, written_to, numbers_clobbered}
+use Rattle.regalloc2_semantics.specs.Interpreters.{History, State, read_by, is_late_use, edge_to}
 use Rattle.codegen_operation.specs.Numbers.{Returned, Trapped}
 use Rattle.codegen_operation.specs.Operands.{is_lost_in}
 use Rattle.codegen_machine.specs.Seen.{Operations}
@@ -93,8 +93,8 @@ module _ (f : FunctionValue) (ops : Operations) (out : OutputValue) (start : ℕ
   abbrev pub places_of : State Place → List Place
   places_of d = allocs_of out d.at.inst
 
-  abbrev pub after_moves : State Place → Place → ℕ
-  after_moves d = numbers_moved (moves_at f out d.at) d.numbers
+  abbrev pub numbers_after_moves : State Place → Place → ℕ
+  numbers_after_moves d = after_moves (moves_at f out d.at) d.numbers
 
   abbrev pub succs_of : State Place → List ℕ
   succs_of d = (block_at f d.at.block).succs
@@ -120,35 +120,35 @@ module _ (f : FunctionValue) (ops : Operations) (out : OutputValue) (start : ℕ
     inside d s at = omega (arith, ok.within d.at.block at.block, at.ends)
 
     -- the interpreter finds what the moves left
-    pub found : (d : State Place) → d.at.inst < length f.insts → found_by f out stir d ≡ after_moves d
+    pub found : (d : State Place) → d.at.inst < length f.insts → found_by f out stir d ≡ numbers_after_moves d
     found d lt =
-        ap (λ (os : List OperandValue). disturbed stir (places_of d) 0 os (after_moves d)) (ok.operands d.at.inst lt)
-        ∙ undisturbed (op_of d) stir (places_of d) (after_moves d)
+        ap (λ (os : List OperandValue). after_early_defs stir (places_of d) 0 os (numbers_after_moves d)) (ok.operands d.at.inst lt)
+        ∙ undisturbed (op_of d) stir (places_of d) (numbers_after_moves d)
 
-    pub reads : (d : State Place) → d.at.inst < length f.insts → found_reads f out stir d ≡ reads_at (op_of d) (places_of d) (after_moves d)
+    pub reads : (d : State Place) → d.at.inst < length f.insts → found_reads f out stir d ≡ reads_at (op_of d) (places_of d) (numbers_after_moves d)
     reads d lt =
         ap (λ (m : Place → ℕ). read_by is_reading (λ k u. m (place_at (places_of d) k)) 0 (inst_at f d.at.inst).operands) (found d lt)
-        ∙ ap (λ (os : List OperandValue). read_by is_reading (λ k u. after_moves d (place_at (places_of d) k)) 0 os) (ok.operands d.at.inst lt)
+        ∙ ap (λ (os : List OperandValue). read_by is_reading (λ k u. numbers_after_moves d (place_at (places_of d) k)) 0 os) (ok.operands d.at.inst lt)
 
     written : (d : State Place) → d.at.inst < length f.insts →
-        written_to (λ k. value_of args memory (op_of d) (found_reads f out stir d)) (places_of d) 0 (inst_at f d.at.inst).operands
-        (found_by f out stir d) ≡ writes_at args memory (op_of d) (places_of d) (after_moves d)
+        after_writes (λ k. value_of args memory (op_of d) (found_reads f out stir d)) (places_of d) 0 (inst_at f d.at.inst).operands
+        (found_by f out stir d) ≡ writes_at args memory (op_of d) (places_of d) (numbers_after_moves d)
     written d lt =
-        ap (λ (xs : List ℕ). written_to (λ k. value_of args memory (op_of d) xs) (places_of d) 0 (inst_at f d.at.inst).operands
+        ap (λ (xs : List ℕ). after_writes (λ k. value_of args memory (op_of d) xs) (places_of d) 0 (inst_at f d.at.inst).operands
         (found_by f out stir d)) (reads d lt)
-        ∙ ap (λ (m : Place → ℕ). written_to (λ k. value_of args memory (op_of d) (reads_at (op_of d) (places_of d) (after_moves d))) (places_of d) 0
+        ∙ ap (λ (m : Place → ℕ). after_writes (λ k. value_of args memory (op_of d) (reads_at (op_of d) (places_of d) (numbers_after_moves d))) (places_of d) 0
         (inst_at f d.at.inst).operands m) (found d lt)
-        ∙ ap (λ (os : List OperandValue). written_to (λ k. value_of args memory (op_of d) (reads_at (op_of d) (places_of d) (after_moves d))) (places_of d) 0 os
-        (after_moves d)) (ok.operands d.at.inst lt)
+        ∙ ap (λ (os : List OperandValue). after_writes (λ k. value_of args memory (op_of d) (reads_at (op_of d) (places_of d) (numbers_after_moves d))) (places_of d) 0 os
+        (numbers_after_moves d)) (ok.operands d.at.inst lt)
 
     -- what the operation leaves in places
     left_in : (d : State Place) → d.at.inst < length f.insts →
-        numbers_clobbered (inst_at f d.at.inst).clobbers (leaves_of (op_of d) (reads_at (op_of d) (places_of d) (after_moves d)))
-        (writes_at args memory (op_of d) (places_of d) (after_moves d)) ≡ place_after f out stir (choice_of d) d
+        after_clobbers (inst_at f d.at.inst).clobbers (leaves_of (op_of d) (reads_at (op_of d) (places_of d) (numbers_after_moves d)))
+        (writes_at args memory (op_of d) (places_of d) (numbers_after_moves d)) ≡ place_after f out stir (choice_of d) d
     left_in d lt =
-        ap (λ (xs : List ℕ). numbers_clobbered (inst_at f d.at.inst).clobbers (leaves_of (op_of d) xs)
-        (writes_at args memory (op_of d) (places_of d) (after_moves d))) (sym (reads d lt))
-        ∙ ap (λ (m : Place → ℕ). numbers_clobbered (inst_at f d.at.inst).clobbers (choice_of d).leaves m) (sym (written d lt))
+        ap (λ (xs : List ℕ). after_clobbers (inst_at f d.at.inst).clobbers (leaves_of (op_of d) xs)
+        (writes_at args memory (op_of d) (places_of d) (numbers_after_moves d))) (sym (reads d lt))
+        ∙ ap (λ (m : Place → ℕ). after_clobbers (inst_at f d.at.inst).clobbers (choice_of d).leaves m) (sym (written d lt))
 
     -- a block's last operation clobbers nothing
     end_clobbers : (o : Operation) (count : ℕ) → IsEnd o count → (r : Register) → is_lost_in o r ≡ false
@@ -162,32 +162,32 @@ module _ (f : FunctionValue) (ops : Operations) (out : OutputValue) (start : ℕ
     end_leaves o count xs end = refl
 
     agree_written : (d : State Place) → d.at.inst < length f.insts → IsEnd (op_of d) (length (succs_of d)) → (registers frame : ℕ → ℕ) →
-        Agree registers frame (writes_at args memory (op_of d) (places_of d) (after_moves d)) →
+        Agree registers frame (writes_at args memory (op_of d) (places_of d) (numbers_after_moves d)) →
         Agree registers frame (place_after f out stir (choice_of d) d)
     agree_written d lt end registers frame a =
         subst (λ (m : Place → ℕ). Agree registers frame m) (left_in d lt)
-        (unclobbered (inst_at f d.at.inst).clobbers (leaves_of (op_of d) (reads_at (op_of d) (places_of d) (after_moves d)))
-        (writes_at args memory (op_of d) (places_of d) (after_moves d)) registers frame
+        (unclobbered (inst_at f d.at.inst).clobbers (leaves_of (op_of d) (reads_at (op_of d) (places_of d) (numbers_after_moves d)))
+        (writes_at args memory (op_of d) (places_of d) (numbers_after_moves d)) registers frame
         (λ r. ok.clobbers d.at.inst lt r ∙ end_clobbers (op_of d) (length (succs_of d)) end r) a)
 
     -- if both interpreters read alike, the divisor of a division is kept
     kept : (c : State VirtualRegister) (d : State Place) → ReadAlike f out stir c d → (lt : d.at.inst < length f.insts) → IsPlain (op_of d) →
-        IsKept args start code (succs_of d) (behind d 0) (op_of d) (inst_at f d.at.inst).clobbers (places_of d) (after_moves d)
+        IsKept args start code (succs_of d) (behind d 0) (op_of d) (inst_at f d.at.inst).clobbers (places_of d) (numbers_after_moves d)
     kept c d r lt plain =
-        is_kept args start code (succs_of d) (behind d 0) (op_of d) (inst_at f d.at.inst).clobbers (places_of d) (after_moves d) c.numbers plain
+        is_kept args start code (succs_of d) (behind d 0) (op_of d) (inst_at f d.at.inst).clobbers (places_of d) (numbers_after_moves d) c.numbers plain
         (sym (reads d lt) ∙ r.reads ∙ ap (λ (l : Location). read_by is_reading (λ k u. c.numbers u.vreg) 0 (inst_at f l.inst).operands) (sym r.at)
         ∙ ap (λ (os : List OperandValue). read_by is_reading (λ k u. c.numbers u.vreg) 0 os) (ok.operands d.at.inst lt))
-        (λ x. subst (λ (os : List OperandValue). read_by is_late_use (λ k u. numbers_clobbered (inst_at f d.at.inst).clobbers x.leaves
-        (written_to x.writes (places_of d) 0 os (after_moves d)) (place_at (places_of d) k)) 0 os
+        (λ x. subst (λ (os : List OperandValue). read_by is_late_use (λ k u. after_clobbers (inst_at f d.at.inst).clobbers x.leaves
+        (after_writes x.writes (places_of d) 0 os (numbers_after_moves d)) (place_at (places_of d) k)) 0 os
         ≡ read_by is_late_use (λ k u. c.numbers u.vreg) 0 os) (ok.operands d.at.inst lt)
-        (subst (λ (m : Place → ℕ). read_by is_late_use (λ k u. numbers_clobbered (inst_at f d.at.inst).clobbers x.leaves
-        (written_to x.writes (places_of d) 0 (inst_at f d.at.inst).operands m) (place_at (places_of d) k)) 0 (inst_at f d.at.inst).operands
+        (subst (λ (m : Place → ℕ). read_by is_late_use (λ k u. after_clobbers (inst_at f d.at.inst).clobbers x.leaves
+        (after_writes x.writes (places_of d) 0 (inst_at f d.at.inst).operands m) (place_at (places_of d) k)) 0 (inst_at f d.at.inst).operands
         ≡ read_by is_late_use (λ k u. c.numbers u.vreg) 0 (inst_at f d.at.inst).operands) (found d lt)
         (r.late x ∙ ap (λ (l : Location). read_by is_late_use (λ k u. c.numbers u.vreg) 0 (inst_at f l.inst).operands) (sym r.at))))
 
     -- the machine after the moves
     pub through : (d : State Place) (s : MachineState) (at : At f ops out start code d s) →
-        Moved ops out (succs_of d) (d.at.block + 1) args start code s (after_moves d)
+        Moved ops out (succs_of d) (d.at.block + 1) args start code s (numbers_after_moves d)
         (ListedInst d.at.inst ∷ listing_from out (block_at f d.at.block).range.first (d.at.inst + 1) at.left)
     unfolding listing_from
     through d s at =
@@ -222,17 +222,17 @@ module _ (f : FunctionValue) (ops : Operations) (out : OutputValue) (start : ℕ
         let more : d.at.inst + 1 < (block_at f d.at.block).range.end = omega (arith, at.ends, e) in
         let plain : IsPlain (op_of d) = plain_unless (op_of d) inner (ok.plain d.at.block d.at.inst at.block at.begins more) in
         let done : Leaves args start code (succs_of d) (behind d (suc n)) (through d s at).to
-        (left_of memory (op_of d) (reads_at (op_of d) (places_of d) (after_moves d)))
-        (numbers_clobbered (inst_at f d.at.inst).clobbers (leaves_of (op_of d) (reads_at (op_of d) (places_of d) (after_moves d)))
-        (writes_at args memory (op_of d) (places_of d) (after_moves d))) =
-        subst (λ (m : List ℕ). traps_of m (op_of d) (reads_at (op_of d) (places_of d) (after_moves d)) ≡ false →
+        (left_of memory (op_of d) (reads_at (op_of d) (places_of d) (numbers_after_moves d)))
+        (after_clobbers (inst_at f d.at.inst).clobbers (leaves_of (op_of d) (reads_at (op_of d) (places_of d) (numbers_after_moves d)))
+        (writes_at args memory (op_of d) (places_of d) (numbers_after_moves d))) =
+        subst (λ (m : List ℕ). traps_of m (op_of d) (reads_at (op_of d) (places_of d) (numbers_after_moves d)) ≡ false →
         Leaves args start code (succs_of d) (behind d (suc n)) (through d s at).to
-        (left_of m (op_of d) (reads_at (op_of d) (places_of d) (after_moves d)))
-        (numbers_clobbered (inst_at f d.at.inst).clobbers (leaves_of (op_of d) (reads_at (op_of d) (places_of d) (after_moves d)))
-        (writes_at args m (op_of d) (places_of d) (after_moves d)))) (still d s at same)
+        (left_of m (op_of d) (reads_at (op_of d) (places_of d) (numbers_after_moves d)))
+        (after_clobbers (inst_at f d.at.inst).clobbers (leaves_of (op_of d) (reads_at (op_of d) (places_of d) (numbers_after_moves d)))
+        (writes_at args m (op_of d) (places_of d) (numbers_after_moves d)))) (still d s at same)
         (λ so. plain_leaves args start code (succs_of d) (behind d (suc n)) ops.memory_size (d.at.block + 1) (op_of d)
         (inst_at f d.at.inst).clobbers (through d s at).to
-        (places_of d) (after_moves d)
+        (places_of d) (numbers_after_moves d)
         plain (ok.placed d.at.inst lt) (ok.clobbers d.at.inst lt) (kept c d r lt plain) (sized_there d s at same) so
         (through d s at).agree (stands_there d s at (suc n) e))
         (subst (λ (xs : List ℕ). traps_of memory (op_of d) xs ≡ false) (reads d lt) calm) in
@@ -254,7 +254,7 @@ module _ (f : FunctionValue) (ops : Operations) (out : OutputValue) (start : ℕ
     left_follows : (d : State Place) (s t : MachineState) → At f ops out start code d s → t.memory ≡ memory → IsEnd (op_of d) (length (succs_of d)) →
         Comes code args 0 s t → (w : Option Way) →
         Left args start code (succs_of d) (behind d 0) t (found_reads f out stir d)
-        (writes_at args memory (op_of d) (places_of d) (after_moves d)) w → Follows d s (option_map (state_on d) w)
+        (writes_at args memory (op_of d) (places_of d) (numbers_after_moves d)) w → Follows d s (option_map (state_on d) w)
     left_follows d s t at same end comes None l =
         ends_then code args 0 l.0 s t (Returned (slice_index (found_reads f out stir d) 0) (left_of memory (op_of d) (found_reads f out stir d))) comes
         (l.1 ∙ ap (λ (m : List ℕ). Returned (slice_index (found_reads f out stir d) 0) m)
@@ -273,20 +273,20 @@ module _ (f : FunctionValue) (ops : Operations) (out : OutputValue) (start : ℕ
     last_follows d s at same e =
         let lt : d.at.inst < length f.insts = inside d s at in
         let last : d.at.inst + 1 ≡ (block_at f d.at.block).range.end = omega (arith, at.ends, e) in
-        let l : Left args start code (succs_of d) (behind d 0) (through d s at).to (reads_at (op_of d) (places_of d) (after_moves d))
-        (writes_at args memory (op_of d) (places_of d) (after_moves d))
-        (edge_to (length (succs_of d)) (way_of (op_of d) (reads_at (op_of d) (places_of d) (after_moves d)))) =
-        subst (λ (m : List ℕ). Left args start code (succs_of d) (behind d 0) (through d s at).to (reads_at (op_of d) (places_of d) (after_moves d))
-        (writes_at args m (op_of d) (places_of d) (after_moves d))
-        (edge_to (length (succs_of d)) (way_of (op_of d) (reads_at (op_of d) (places_of d) (after_moves d))))) (still d s at same)
-        (last_leaves args start code (succs_of d) (behind d 0) ops.memory_size (d.at.block + 1) (op_of d) (through d s at).to (places_of d) (after_moves d)
+        let l : Left args start code (succs_of d) (behind d 0) (through d s at).to (reads_at (op_of d) (places_of d) (numbers_after_moves d))
+        (writes_at args memory (op_of d) (places_of d) (numbers_after_moves d))
+        (edge_to (length (succs_of d)) (way_of (op_of d) (reads_at (op_of d) (places_of d) (numbers_after_moves d)))) =
+        subst (λ (m : List ℕ). Left args start code (succs_of d) (behind d 0) (through d s at).to (reads_at (op_of d) (places_of d) (numbers_after_moves d))
+        (writes_at args m (op_of d) (places_of d) (numbers_after_moves d))
+        (edge_to (length (succs_of d)) (way_of (op_of d) (reads_at (op_of d) (places_of d) (numbers_after_moves d))))) (still d s at same)
+        (last_leaves args start code (succs_of d) (behind d 0) ops.memory_size (d.at.block + 1) (op_of d) (through d s at).to (places_of d) (numbers_after_moves d)
         (ok.ends d.at.block d.at.inst at.block at.begins last) (ok.placed d.at.inst lt) (through d s at).agree (stands_there d s at 0 e)) in
         let follows : Follows d s (option_map (state_on d)
         (edge_to (length (succs_of d)) (way_of (op_of d) (found_reads f out stir d)))) =
         left_follows d s (through d s at).to at (still d s at same) (ok.ends d.at.block d.at.inst at.block at.begins last) (through d s at).comes
         (edge_to (length (succs_of d)) (way_of (op_of d) (found_reads f out stir d)))
         (subst (λ (xs : List ℕ). Left args start code (succs_of d) (behind d 0) (through d s at).to xs
-        (writes_at args memory (op_of d) (places_of d) (after_moves d)) (edge_to (length (succs_of d)) (way_of (op_of d) xs))) (sym (reads d lt)) l) in
+        (writes_at args memory (op_of d) (places_of d) (numbers_after_moves d)) (edge_to (length (succs_of d)) (way_of (op_of d) xs))) (sym (reads d lt)) l) in
         subst (λ (b : Bool). Follows d s (option_map (state_on d) (cond b (Some Onward) (cond (nat_eq (d.at.inst + 1) (block_at f d.at.block).range.end)
         (edge_to (length (succs_of d)) (way_of (op_of d) (found_reads f out stir d))) None))))
         (sym (le-ltb (d.at.inst + 1) (block_at f d.at.block).range.end (omega arith)))
@@ -325,11 +325,11 @@ module _ (f : FunctionValue) (ops : Operations) (out : OutputValue) (start : ℕ
             let more : d.at.inst + 1 < (block_at f d.at.block).range.end = omega (arith, at.ends, e) in
             let plain : IsPlain (op_of d) = plain_unless (op_of d) inner (ok.plain d.at.block d.at.inst at.block at.begins more) in
             let t : (j : ℕ) × (machine_run code args j (through d s at).to ≡ Trapped memory) =
-            subst (λ (m : List ℕ). traps_of m (op_of d) (reads_at (op_of d) (places_of d) (after_moves d)) ≡ true →
+            subst (λ (m : List ℕ). traps_of m (op_of d) (reads_at (op_of d) (places_of d) (numbers_after_moves d)) ≡ true →
             (j : ℕ) × (machine_run code args j (through d s at).to ≡ Trapped m)) (still d s at same)
             (λ so. plain_traps args start code (succs_of d) (behind d (suc n)) ops.memory_size (d.at.block + 1) (op_of d)
             (inst_at f d.at.inst).clobbers (through d s at).to
-            (places_of d) (after_moves d)
+            (places_of d) (numbers_after_moves d)
             plain (ok.placed d.at.inst lt) (ok.clobbers d.at.inst lt) (kept c d r lt plain) (sized_there d s at same) so
             (through d s at).agree (stands_there d s at (suc n) e))
             (subst (λ (xs : List ℕ). traps_of memory (op_of d) xs ≡ true) (reads d lt) traps) in

@@ -7,8 +7,8 @@ use Rattle.regalloc2_names.specs.Register.{VirtualRegister}
 use Rattle.regalloc2_names.specs.Operand.{OperandValue, is_reading}
 use Rattle.regalloc2_function.specs.FunctionValue.{FunctionValue, block_at}
 use Rattle.regalloc2_function.specs.OutputValue.{OutputValue}
-use Rattle.regalloc2_semantics.specs.Runs.{Way, Onward, ToSuccessor, next_of}
-use Rattle.regalloc2_semantics.specs.Interpreters.{History, State, read_by, edge_to, way_on, numbers_defined, passed_over}
+use Rattle.regalloc2_semantics.specs.Runs.{Way, Onward, ToSuccessor, next_of, after_defs, over_edge}
+use Rattle.regalloc2_semantics.specs.Interpreters.{History, State, read_by, edge_to, way_on}
 use Rattle.codegen_operation.specs.Numbers.{RunOutcome, Running, Returned, Trapped, Overflowed, Stuck, shifted_at, divided_at, division_traps}
 use Rattle.codegen_operation.specs.Numbers.{condition_holds, widened, is_within, number_at, with_number}
 use Rattle.codegen_operation.specs.Operands.{divide_operands, operands_of}
@@ -57,14 +57,14 @@ module _ (f : FunctionValue) (args : ℕ → ℕ) (memory : List ℕ) where
 
   -- the numbers that an operation leaves
   abbrev left_by : Operation → List OperandValue → (VirtualRegister → ℕ) → VirtualRegister → ℕ
-  left_by o os numbers = numbers_defined (λ k. value_of args memory o (reads_of os numbers)) 0 os numbers
+  left_by o os numbers = after_defs (λ k. value_of args memory o (reads_of os numbers)) 0 os numbers
 
   -- the next state of the interpreter, by the edge or fall-through that it follows
   abbrev state_on : State VirtualRegister → Operation → List OperandValue → Way → State VirtualRegister
   state_on c o os w = record {
     at = next_of f c.at w;
     history = (c.at.inst, reads_of os c.numbers) ∷ c.history;
-    numbers = passed_over f c.at w (left_by o os c.numbers);
+    numbers = over_edge f c.at w (left_by o os c.numbers);
   }
 
   -- the interpreter's step, by the operands of its instruction
@@ -80,7 +80,7 @@ module _ (f : FunctionValue) (args : ℕ → ℕ) (memory : List ℕ) where
   -- an operation inside a block
   plain_goes : (o : Operation) (c : State VirtualRegister) → IsPlain o → traps_of memory o (reads_of (operands_of o) c.numbers) ≡ false →
       done f args (Some o) (seen memory c) ≡ Running (seen (left_of memory o (reads_of (operands_of o) c.numbers)) (state_on c o (operands_of o) Onward))
-  unfolding numbers_defined read_by passed_over
+  unfolding after_defs read_by over_edge
   plain_goes (TakeArgument to k) c plain calm = refl
   plain_goes (TakeConstant to n) c plain calm = refl
   plain_goes (Copy to from) c plain calm = refl
@@ -129,14 +129,14 @@ module _ (f : FunctionValue) (args : ℕ → ℕ) (memory : List ℕ) where
 
   -- an edge
   edge_goes : (read : List ℕ) (c : State VirtualRegister) (h : History) (k : ℕ) → k < length (block_at f c.at.block).succs →
-      GoAlike read memory (option_map (λ w. record { at = next_of f c.at w; history = h; numbers = passed_over f c.at w c.numbers })
+      GoAlike read memory (option_map (λ w. record { at = next_of f c.at w; history = h; numbers = over_edge f c.at w c.numbers })
       (edge_to (length (block_at f c.at.block).succs) (Some k))) (along f (seen memory c) k)
-  unfolding passed_over
+  unfolding over_edge
   edge_goes read c h k lt =
-      subst (λ (b : Bool). GoAlike read memory (option_map (λ w. record { at = next_of f c.at w; history = h; numbers = passed_over f c.at w c.numbers })
+      subst (λ (b : Bool). GoAlike read memory (option_map (λ w. record { at = next_of f c.at w; history = h; numbers = over_edge f c.at w c.numbers })
       (cond b (Some (ToSuccessor k)) None)) (along f (seen memory c) k)) (sym (lt-ltb k (length (block_at f c.at.block).succs) lt))
       (subst (λ (x : Option ℕ). GoAlike read memory
-      (Some (record { at = next_of f c.at (ToSuccessor k); history = h; numbers = passed_over f c.at (ToSuccessor k) c.numbers }))
+      (Some (record { at = next_of f c.at (ToSuccessor k); history = h; numbers = over_edge f c.at (ToSuccessor k) c.numbers }))
       (entered f (seen memory c) k x)) (sym (slice_get-get_or (block_at f c.at.block).succs k 0 lt)) refl)
 
   which : (b : Bool) (k n count : ℕ) → k < count → n < count → cond b k n < count
@@ -147,7 +147,7 @@ module _ (f : FunctionValue) (args : ℕ → ℕ) (memory : List ℕ) where
   last_goes : (o : Operation) (c : State VirtualRegister) → IsEnd o (length (block_at f c.at.block).succs) →
       AreAlike o (reads_of (operands_of o) c.numbers) (option_map (state_on c o (operands_of o))
       (edge_to (length (block_at f c.at.block).succs) (way_of o (reads_of (operands_of o) c.numbers)))) (done f args (Some o) (seen memory c))
-  unfolding numbers_defined read_by
+  unfolding after_defs read_by
   last_goes GoTo c end = edge_goes [] c ((c.at.inst, []) ∷ c.history) 0 end
   last_goes (BranchIf v) c end =
       edge_goes (c.numbers v ∷ []) c ((c.at.inst, c.numbers v ∷ []) ∷ c.history) (cond (nat_eq (c.numbers v) 0) 1 0)

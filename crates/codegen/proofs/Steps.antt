@@ -8,8 +8,8 @@ use Rattle.regalloc2_names.specs.Operand.{is_reading}
 use Rattle.regalloc2_names.specs.Register.{VirtualRegister}
 use Rattle.regalloc2_names.specs.Place.{Place, NoPlace, InRegister, InSlot}
 use Rattle.regalloc2_function.specs.OutputValue.{place_at}
-use Rattle.regalloc2_semantics.specs.Runs.{Way, Onward, ToSuccessor}
-use Rattle.regalloc2_semantics.specs.Interpreters.{read_by, place_set, written_to, disturbed, edge_to}
+use Rattle.regalloc2_semantics.specs.Runs.{Way, Onward, ToSuccessor, after_early_defs, after_writes, stored}
+use Rattle.regalloc2_semantics.specs.Interpreters.{read_by, edge_to}
 use Rattle.codegen_operation.specs.Numbers.{RunOutcome, Running, Returned, Trapped, Stuck, computed_at, shifted_at, divided_at, division_traps}
 use Rattle.codegen_operation.specs.Numbers.{condition_holds, signed_rank, widened, truth, count_of, is_within, number_at, with_number}
 use Rattle.codegen_operation.specs.declared.operation.Bytes.{Bytes}
@@ -143,15 +143,15 @@ guard_is memory size bytes a sized =
 
 -- uses are no definitions
 uses_undisturbed : (rs : List ℕ) (vs : List VirtualRegister) (noise : Place → ℕ) (ps : List Place) (k : ℕ) (numbers : Place → ℕ) →
-    disturbed noise ps k (arguments_in rs vs) numbers ≡ numbers
-unfolding disturbed arguments_in
+    after_early_defs noise ps k (arguments_in rs vs) numbers ≡ numbers
+unfolding after_early_defs arguments_in
 uses_undisturbed rs [] noise ps k numbers = refl
 uses_undisturbed [] (v ∷ vs) noise ps k numbers = uses_undisturbed [] vs noise ps (k + 1) numbers
 uses_undisturbed (r ∷ rs) (v ∷ vs) noise ps k numbers = uses_undisturbed rs vs noise ps (k + 1) numbers
 
 -- no definition is early, so none overwrites what the uses read
-pub undisturbed : (o : Operation) (noise : Place → ℕ) (ps : List Place) (numbers : Place → ℕ) → disturbed noise ps 0 (operands_of o) numbers ≡ numbers
-unfolding disturbed
+pub undisturbed : (o : Operation) (noise : Place → ℕ) (ps : List Place) (numbers : Place → ℕ) → after_early_defs noise ps 0 (operands_of o) numbers ≡ numbers
+unfolding after_early_defs
 undisturbed (TakeArgument to k) noise ps numbers = refl
 undisturbed (TakeConstant to n) noise ps numbers = refl
 undisturbed (Copy to from) noise ps numbers = refl
@@ -178,7 +178,7 @@ reads_at o ps numbers = read_by is_reading (λ k u. numbers (place_at ps k)) 0 (
 
 -- what it writes to them
 abbrev pub writes_at : (ℕ → ℕ) → List ℕ → Operation → List Place → (Place → ℕ) → Place → ℕ
-writes_at args memory o ps numbers = written_to (λ k. value_of args memory o (reads_at o ps numbers)) ps 0 (operands_of o) numbers
+writes_at args memory o ps numbers = after_writes (λ k. value_of args memory o (reads_at o ps numbers)) ps 0 (operands_of o) numbers
 
 -- an operation that continues at the next line and clobbers nothing
 abbrev pub IsSimple : Operation → Type 0
@@ -236,7 +236,7 @@ module _ (args : ℕ → ℕ) (starts : ℕ → ℕ) (code : CodeValue) (succs :
   by_one : (i : Instruction) (s : MachineState) (compared : Option (ℕ × ℕ)) (numbers : Place → ℕ) (p : Place) (v : ℕ) → IsGeneral p →
       Agree s.registers s.frame numbers →
       executed args code.slots (Some (resolved starts i)) s ≡ Running (wrote s (register_of p) v compared) → StandAt starts code.instructions s.pc (i ∷ rest) →
-      Done s (place_set numbers p v)
+      Done s (stored numbers p v)
   by_one i s compared numbers p v r a e h = record {
     to = wrote s (register_of p) v compared;
     comes = comes_by code args (resolved starts i) s (wrote s (register_of p) v compared) h.0 e;
@@ -255,7 +255,7 @@ module _ (args : ℕ → ℕ) (starts : ℕ → ℕ) (code : CodeValue) (succs :
       IsRightHere code.slots right r →
       Agree s.registers s.frame numbers →
       StandAt starts code.instructions s.pc (Compute w o (register_of p) (right_source right r) ∷ rest) →
-      Done s (place_set numbers p (computed_at w o (numbers q) (right_read right (numbers r))))
+      Done s (stored numbers p (computed_at w o (numbers q) (right_read right (numbers r))))
   compute_done w o right s numbers p q r hp e hr a h =
       let y : ℕ = right_read right (numbers r) in
       by_one (Compute w o (register_of p) (right_source right r)) s None numbers p (computed_at w o (numbers q) y) hp a
@@ -267,7 +267,7 @@ module _ (args : ℕ → ℕ) (starts : ℕ → ℕ) (code : CodeValue) (succs :
   shift_done : (w : Width) (o : ShiftOperator) (count : Count) (s : MachineState) (numbers : Place → ℕ) (p q r : Place) →
       IsGeneral p → p ≡ q → IsCountHere count r →
       Agree s.registers s.frame numbers → StandAt starts code.instructions s.pc (shift_code w o count (register_of p) ∷ rest) →
-      Done s (place_set numbers p (shifted_at w o (numbers q) (count_read count (numbers r))))
+      Done s (stored numbers p (shifted_at w o (numbers q) (count_read count (numbers r))))
   shift_done w o (CountIn v) s numbers p q r hp e hr a h =
       by_one (Shift w o (register_of p)) s None numbers p (shifted_at w o (numbers q) (numbers r)) hp a
       (reads_register s numbers a p hp (λ x. with_register s 1 (λ n. written s (register_of p) (shifted_at w o x n) None))
@@ -312,13 +312,13 @@ module _ (args : ℕ → ℕ) (starts : ℕ → ℕ) (code : CodeValue) (succs :
       IsGeneral (place_at ps 1) →
       IsRightHere code.slots right (place_at ps 2) → Agree s.registers s.frame numbers →
       StandAt starts code.instructions s.pc (compare_code w c right ps ++ rest) →
-      Done s (place_set numbers (place_at ps 0)
+      Done s (stored numbers (place_at ps 0)
       (truth (condition_holds c (widened w (numbers (place_at ps 1))) (widened w (right_read right (numbers (place_at ps 2)))))))
   compare_done w c right s numbers ps hp hq hr a h =
       let x : ℕ = widened w (numbers (place_at ps 1)) in
       let y : ℕ = widened w (right_read right (numbers (place_at ps 2))) in
       let t : MachineState = compared_state s x y in
-      done_later s t s.memory (place_set numbers (place_at ps 0) (truth (condition_holds c x y)))
+      done_later s t s.memory (stored numbers (place_at ps 0) (truth (condition_holds c x y)))
       (compares w right s numbers (place_at ps 1) (place_at ps 2) hq hr a h.0)
       (by_one (Set (register_of (place_at ps 0)) c) t t.compared numbers (place_at ps 0) (truth (condition_holds c x y)) hp a
       (writes_place t (place_at ps 0) (truth (condition_holds c x y)) t.compared hp) h.1)
@@ -326,14 +326,14 @@ module _ (args : ℕ → ℕ) (starts : ℕ → ℕ) (code : CodeValue) (succs :
   select_done : (s : MachineState) (numbers : Place → ℕ) (ps : List Place) → IsGeneral (place_at ps 0) → place_at ps 0 ≡ place_at ps 1 →
       IsHere code.slots (place_at ps 2) → IsHere code.slots (place_at ps 3) → Agree s.registers s.frame numbers →
       StandAt starts code.instructions s.pc (select_code ps ++ rest) →
-      Done s (place_set numbers (place_at ps 0) (cond (nat_eq (numbers (place_at ps 3)) 0) (numbers (place_at ps 2)) (numbers (place_at ps 1))))
+      Done s (stored numbers (place_at ps 0) (cond (nat_eq (numbers (place_at ps 3)) 0) (numbers (place_at ps 2)) (numbers (place_at ps 1))))
   select_done s numbers ps hp e hn hc a h =
       let p : Place = place_at ps 0 in
       let c : ℕ = numbers (place_at ps 3) in
       let n : ℕ = numbers (place_at ps 2) in
       let t : MachineState = compared_state s c 0 in
       let v : ℕ = cond (nat_eq c 0) n (numbers (place_at ps 1)) in
-      done_later s t s.memory (place_set numbers p v) (tests s numbers (place_at ps 3) hc a h.0)
+      done_later s t s.memory (stored numbers p v) (tests s numbers (place_at ps 3) hc a h.0)
       (by_one (MoveIf Equal (register_of p) (source_of (place_at ps 2))) t t.compared numbers p v hp a
       (reads_register t numbers a p hp (λ x. with_source code.slots t (source_of (place_at ps 2))
       (λ y. written t (register_of p) (cond (nat_eq c 0) y x) t.compared))
@@ -342,11 +342,11 @@ module _ (args : ℕ → ℕ) (starts : ℕ → ℕ) (code : CodeValue) (succs :
       ∙ ap (λ (x : Place). Running (wrote t (register_of p) (cond (nat_eq c 0) n (numbers x)) t.compared)) e) h.1)
 
   constant_done : (n : ℕ) (s : MachineState) (numbers : Place → ℕ) (p : Place) → IsGeneral p → Agree s.registers s.frame numbers →
-      StandAt starts code.instructions s.pc (constant_code (register_of p) n ∷ rest) → Done s (place_set numbers p n)
+      StandAt starts code.instructions s.pc (constant_code (register_of p) n ∷ rest) → Done s (stored numbers p n)
   constant_done n s numbers p hp a h = pick (nat_eq n 0) refl h
     where
       pick : (b : Bool) → nat_eq n 0 ≡ b → StandAt starts code.instructions s.pc (cond b (Clear (register_of p)) (Constant (register_of p) n) ∷ rest) →
-          Done s (place_set numbers p n)
+          Done s (stored numbers p n)
       pick false e h = by_one (Constant (register_of p) n) s s.compared numbers p n hp a (writes_place s p n s.compared hp) h
       pick true e h =
           let z : 0 ≡ n = sym (eqb-true n 0 e) in
@@ -354,7 +354,7 @@ module _ (args : ℕ → ℕ) (starts : ℕ → ℕ) (code : CodeValue) (succs :
           (writes_place s p 0 None hp ∙ ap (λ (k : ℕ). Running (wrote s (register_of p) k None)) z) h
 
   copy_done : (s : MachineState) (numbers : Place → ℕ) (p q : Place) → IsGeneral p → IsHere code.slots q → Agree s.registers s.frame numbers →
-      StandAt starts code.instructions s.pc (fetched (register_of p) q ∷ rest) → Done s (place_set numbers p (numbers q))
+      StandAt starts code.instructions s.pc (fetched (register_of p) q ∷ rest) → Done s (stored numbers p (numbers q))
   copy_done s numbers p q hp hq a h =
       by_one (fetched (register_of p) q) s s.compared numbers p (numbers q) hp a
       (fetches args code.slots starts s numbers (register_of p) (general p hp) a q hq) h
@@ -389,11 +389,11 @@ module _ (args : ℕ → ℕ) (starts : ℕ → ℕ) (code : CodeValue) (succs :
   load_done : (size : ℕ) (bytes : Bytes) (s : MachineState) (numbers : Place → ℕ) (ps : List Place) → IsGeneral (place_at ps 0) → IsGeneral (place_at ps 1) →
       length s.memory ≡ size → is_within s.memory bytes (numbers (place_at ps 1)) ≡ true → Agree s.registers s.frame numbers →
       StandAt starts code.instructions s.pc (load_code size bytes ps ++ rest) →
-      Done s (place_set numbers (place_at ps 0) (number_at bytes s.memory (numbers (place_at ps 1))))
+      Done s (stored numbers (place_at ps 0) (number_at bytes s.memory (numbers (place_at ps 1))))
   load_done size bytes s numbers ps hp hq sized within a h =
       let t : MachineState = guarded_state s in
       let n : ℕ = number_at bytes s.memory (numbers (place_at ps 1)) in
-      done_later s t s.memory (place_set numbers (place_at ps 0) n) (guard_passes size bytes s numbers (place_at ps 1) hq sized a within h.0)
+      done_later s t s.memory (stored numbers (place_at ps 0) n) (guard_passes size bytes s numbers (place_at ps 1) hq sized a within h.0)
       (by_one (Read bytes (register_of (place_at ps 0)) (register_of (place_at ps 1))) t None numbers (place_at ps 0) n hp a
       (reads_register t numbers a (place_at ps 1) hq (λ x. memory_read t bytes (register_of (place_at ps 0)) x)
       ∙ ap (λ (b : Bool). cond b (written t (register_of (place_at ps 0)) n None) Stuck) within
@@ -425,7 +425,7 @@ module _ (args : ℕ → ℕ) (starts : ℕ → ℕ) (code : CodeValue) (succs :
       length s.memory ≡ size → traps_of s.memory o (reads_at o ps numbers) ≡ false → Agree s.registers s.frame numbers →
       StandAt starts code.instructions s.pc (operation_code size o ps succs next ++ rest) →
       Leaves s (left_of s.memory o (reads_at o ps numbers)) (writes_at args s.memory o ps numbers)
-  unfolding written_to read_by
+  unfolding after_writes read_by
   plain_done size next (TakeArgument to k) s ps numbers plain placed sized calm a h =
       by_one (Argument (register_of (place_at ps 0)) k) s s.compared numbers (place_at ps 0) (args k) placed a
       (writes_place s (place_at ps 0) (args k) s.compared placed) h
@@ -439,7 +439,7 @@ module _ (args : ℕ → ℕ) (starts : ℕ → ℕ) (code : CodeValue) (succs :
       let p : Place = place_at ps 0 in
       let x : ℕ = numbers (place_at ps 1) in
       let n : ℕ = numbers (place_at ps 2) in
-      subst (λ (b : Bool). Done s (place_set numbers p (shifted_at w o x (slice_index (x ∷ cond (not b) (n ∷ []) []) 1)))) (sym plain)
+      subst (λ (b : Bool). Done s (stored numbers p (shifted_at w o x (slice_index (x ∷ cond (not b) (n ∷ []) []) 1)))) (sym plain)
       (shift_done w o (CountIn v) s numbers p (place_at ps 1) (place_at ps 2) placed.0 placed.1 placed.2 a h)
   plain_done size next (Shifting w o to left (CountOf n)) s ps numbers plain placed sized calm a h =
       shift_done w o (CountOf n) s numbers (place_at ps 0) (place_at ps 1) (place_at ps 2) placed.0 placed.1 placed.2 a h
@@ -575,7 +575,7 @@ module _ (args : ℕ → ℕ) (starts : ℕ → ℕ) (code : CodeValue) (succs :
       IsPlaced code.slots o ps →
       Agree s.registers s.frame numbers → StandAt starts code.instructions s.pc (operation_code size o ps succs next ++ rest) →
       Left s (reads_at o ps numbers) (writes_at args s.memory o ps numbers) (edge_to (length succs) (way_of o (reads_at o ps numbers)))
-  unfolding written_to read_by
+  unfolding after_writes read_by
   last_leaves size next GoTo s ps numbers ends placed a h =
       over_edge s [] 0 numbers (enters (Jump (starts (slice_index succs 0))) s 0 numbers ends a h.0 refl)
   last_leaves size next (BranchIf v) s ps numbers ends placed a h = forks_if next s (place_at ps 0) numbers placed ends a h

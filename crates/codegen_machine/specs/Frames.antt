@@ -1,8 +1,7 @@
 -- The interpretation of a module: an interpreter that makes a step for each line. A call suspends its frame until the callee returns.
 use Rattle.std.specs.Prelude.{ℕ, zero, suc, ◌+◌, List, [], ◌∷◌, map, slice_get, slice_index, Option, None, Some}
 use Rattle.regalloc2_names.specs.Register.{VirtualRegister}
-use Rattle.regalloc2_semantics.specs.Runs.{Location, first_of}
-use Rattle.regalloc2_semantics.specs.Interpreters.{number_set}
+use Rattle.regalloc2_semantics.specs.Runs.{Location, first_of, assigned}
 use Rattle.codegen_operation.specs.Numbers.{RunOutcome, Running, Returned, Trapped, Overflowed, Stuck, further}
 use Rattle.codegen_machine.specs.Meaning.{ProcedureState, procedure_step}
 use Rattle.codegen_machine.specs.Seen.{function_of_procedure, operations}
@@ -55,7 +54,7 @@ abbrev pub resumed : SuspendedFrame → List SuspendedFrame → ℕ → List ℕ
 resumed c callers n memory = record {
   procedure = c.procedure;
   args = c.args;
-  state = record { at = record { block = c.at.block; inst = c.at.inst + 1 }; numbers = number_set c.numbers c.to n; memory = memory };
+  state = record { at = record { block = c.at.block; inst = c.at.inst + 1 }; numbers = assigned c.numbers c.to n; memory = memory };
   callers = callers;
 }
 

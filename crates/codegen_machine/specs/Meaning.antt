@@ -2,8 +2,7 @@
 use Rattle.std.specs.Prelude.{ℕ, zero, suc, ◌+◌, nat_eq, if◌then◌else◌, List, slice_get, Option, None, Some}
 use Rattle.regalloc2_names.specs.Register.{VirtualRegister}
 use Rattle.regalloc2_function.specs.FunctionValue.{FunctionValue, block_at}
-use Rattle.regalloc2_semantics.specs.Runs.{Location, first_of, arguments_at}
-use Rattle.regalloc2_semantics.specs.Interpreters.{number_set, passed_on}
+use Rattle.regalloc2_semantics.specs.Runs.{Location, first_of, arguments_at, assigned, passed}
 use Rattle.codegen_machine.specs.Seen.{Operations}
 use Rattle.codegen_operation.specs.Numbers.{RunOutcome, Running, Returned, Trapped, Stuck, further, computed_at, shifted_at, divided_at, division_traps}
 use Rattle.codegen_operation.specs.Numbers.{condition_holds, widened, truth, is_within, number_at, with_number}
@@ -23,7 +22,7 @@ pub record ProcedureState : Type 0 where
 
 -- continues at the block's next line, with a vreg written
 abbrev pub onward : ProcedureState → VirtualRegister → ℕ → RunOutcome ProcedureState
-onward s v n = Running (record { at = record { block = s.at.block; inst = s.at.inst + 1 }; numbers = number_set s.numbers v n; memory = s.memory })
+onward s v n = Running (record { at = record { block = s.at.block; inst = s.at.inst + 1 }; numbers = assigned s.numbers v n; memory = s.memory })
 
 -- continues at the block's next line, with memory written
 abbrev pub stored : ProcedureState → List ℕ → RunOutcome ProcedureState
@@ -34,7 +33,7 @@ abbrev pub entered : FunctionValue → ProcedureState → ℕ → Option ℕ →
 entered f s k None = Stuck
 entered f s k (Some b) = Running (record {
   at = first_of f b;
-  numbers = passed_on (block_at f b).params (arguments_at f s.at.block k) s.numbers s.numbers;
+  numbers = passed (block_at f b).params (arguments_at f s.at.block k) s.numbers s.numbers;
   memory = s.memory;
 })
 

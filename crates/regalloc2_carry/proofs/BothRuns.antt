@@ -1,17 +1,18 @@
 -- What the two runs of an instruction leave as it was, and what they write.
-use Rattle.std.proofs.Common.{ℕ, ◌≡◌, ◌+◌, ◌<◌, true, false, List, length, refl, arith, sym, ◌∙◌}
+use Rattle.std.proofs.Common.{ℕ, ◌≡◌, ◌+◌, ◌<◌, true, false, List, length, refl, arith, sym, ◌∙◌, None}
 use Rattle.regalloc2_names.specs.declared.sets.PRegSet.{PRegSet}
 use Rattle.regalloc2_names.specs.Register.{VirtualRegister}
 use Rattle.regalloc2_names.specs.Operand.{OperandValue, is_def, is_late}
 use Rattle.regalloc2_names.specs.Place.{Place, NoPlace, InRegister, InSlot}
 use Rattle.regalloc2_function.specs.OutputValue.{place_at}
-use Rattle.regalloc2_semantics.specs.Runs.{Source, after_defs, Cells, after_clobbers}
+use Rattle.regalloc2_semantics.specs.Runs.{after_defs, after_clobbers, write_at}
 use Rattle.regalloc2_function.specs.FunctionValue.{op_at}
 use Rattle.regalloc2_carry.specs.Carry.{early_cells, late_cells, is_clobbered, Spares, DefinesVRegAt}
 use Rattle.regalloc2_semantics.proofs.AfterWrites.{after_defs-at, after_early_defs-other, after_writes-other, after_writes-at}
+use Rattle.regalloc2_semantics.specs.Laws.{Cells, Source}
 
 -- a place that is no clobber
-pub after_clobbers-other : (clobbers : PRegSet) (c : Cells) (p : Place) → is_clobbered clobbers p ≡ false → after_clobbers clobbers c p ≡ c p
+pub after_clobbers-other : (clobbers : PRegSet) (c : Cells) (p : Place) → is_clobbered clobbers p ≡ false → after_clobbers clobbers (λ p. None) c p ≡ c p
 unfolding after_clobbers
 after_clobbers-other clobbers c NoPlace h = refl
 after_clobbers-other clobbers c (InRegister r) h = rw h refl
@@ -38,7 +39,7 @@ late-spared t ops places clobbers c p h =
 -- after an instruction the place of v's last def holds v's new value, unless a later def or a clobber takes it
 pub late-made : (t : ℕ) (ops : List OperandValue) (places : List Place) (clobbers : PRegSet) (s : Source) (c : Cells) (p : Place) (v : VirtualRegister) →
     DefinesVRegAt ops places clobbers p v →
-    late_cells t ops places clobbers c p ≡ after_defs t 0 ops s v
+    late_cells t ops places clobbers c p ≡ after_defs (write_at t) 0 ops s v
 late-made t ops places clobbers s c p v h =
     after_clobbers-other clobbers _ p h.no_clobber
     ∙ after_writes-at ops places t 0 _ p h.by h.is_there h.within h.defines (from_start places h.by ∙ h.place_is)

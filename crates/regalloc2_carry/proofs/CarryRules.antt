@@ -7,7 +7,7 @@ use Rattle.regalloc2_names.specs.Register.{VirtualRegister, is_vreg}
 use Rattle.regalloc2_names.specs.Operand.{OperandValue, is_def, is_late, is_reading}
 use Rattle.regalloc2_names.specs.Place.{Place, NoPlace}
 use Rattle.regalloc2_function.specs.OutputValue.{MoveValue, place_at}
-use Rattle.regalloc2_semantics.specs.Runs.{Source, after_defs, Cells, stored, after_moves}
+use Rattle.regalloc2_semantics.specs.Runs.{after_defs, stored, after_moves, write_at}
 use Rattle.regalloc2_function.specs.FunctionValue.{op_at}
 use Rattle.regalloc2_semantics.proofs.Cells.{cases_place, stored-same, stored-other, is_vreg-same}
 use Rattle.regalloc2_carry.specs.Listing.{Item, with_moves, defines, writes}
@@ -16,6 +16,7 @@ use Rattle.regalloc2_carry.specs.Carry.{CarriesFrom, Carries, late_cells, Spares
 use Rattle.regalloc2_semantics.specs.Sound.{Undefined}
 use Rattle.regalloc2_semantics.proofs.AfterWrites.{after_defs-other}
 use Rattle.regalloc2_carry.proofs.BothRuns.{early-other, late-spared, late-made}
+use Rattle.regalloc2_semantics.specs.Laws.{Cells, Source}
 
 -- nothing runs
 pub carries_nil : (v : VirtualRegister) (P E : Place → Type 0) → ((p : Place) → E p → P p) → Carries v [] P E
@@ -95,14 +96,14 @@ pub carries_exec : (v : VirtualRegister) (ops : List OperandValue) (places : Lis
 unfolding Carries CarriesFrom
 carries_exec v ops places clobbers L P R E early late after g = λ s c n holds.
     let left : (p : Place) → (DefinesVRegAt ops places clobbers p v ⊎ (R p × Spares ops places clobbers p × Undefined ops v)) →
-    late_cells n ops places clobbers c p ≡ after_defs n 0 ops s v =
+    late_cells n ops places clobbers c p ≡ after_defs (write_at n) 0 ops s v =
     λ p x. elim x [
       | inl m ↦ late-made n ops places clobbers s c p v m
       | inr u ↦ late-spared n ops places clobbers c p u.1 ∙ holds p u.0 ∙ sym (after_defs-other ops n 0 s v u.2)
     ] in (
       λ j lt r e i. let a = early j lt r e i in early-other ops places c (place_at places j) a.1 ∙ holds _ a.0,
       λ j lt r l i. left (place_at places j) (late j lt r l i),
-      g (after_defs n 0 ops s) (late_cells n ops places clobbers c) (suc n) (λ p w. left p (after p w)),
+      g (after_defs (write_at n) 0 ops s) (late_cells n ops places clobbers c) (suc n) (λ p w. left p (after p w)),
     )
 
 -- one listing after another
@@ -145,7 +146,7 @@ from_fresh v (Exec ops places clobbers ∷ L) E R s c n u w h g =
     let parts = or_parts (defines v ops) (writes v L) w in (
       g.0,
       g.1,
-      from_fresh v L E R (after_defs n 0 ops s) (late_cells n ops places clobbers c) (suc n) (λ p r. (u p r).1) parts.1
+      from_fresh v L E R (after_defs (write_at n) 0 ops s) (late_cells n ops places clobbers c) (suc n) (λ p r. (u p r).1) parts.1
           (λ p r. late-spared n ops places clobbers c p (u p r).0 ∙ h p r ∙ sym (after_defs-other ops n 0 s v (defines_not ops v parts.0))) g.2,
     )
 

@@ -5,12 +5,12 @@ use Rattle.regalloc2_names.specs.Operand.{OperandValue, is_reading}
 use Rattle.regalloc2_names.specs.Place.{Place, before, after}
 use Rattle.regalloc2_function.specs.FunctionValue.{InstValue, op_at}
 use Rattle.regalloc2_function.specs.OutputValue.{MoveValue}
-use Rattle.regalloc2_semantics.specs.Runs.{Source, Cells}
 use Rattle.regalloc2_carry.specs.Listing.{Item, exec_item, with_moves}
 use Rattle.regalloc2_carry.specs.Listing.Item.{Move, Exec}
 use Rattle.regalloc2_carry.specs.BlockByPoints.{walked}
 use Rattle.regalloc2_carry.specs.Carry.{CarriesFrom, Carries}
 use Rattle.regalloc2_carry.proofs.CarryRules.{carries_append}
+use Rattle.regalloc2_semantics.specs.Laws.{Cells, Source}
 
 -- no operand reads v
 abbrev pub ReadsOthersOnly : List OperandValue → VirtualRegister → Type 0

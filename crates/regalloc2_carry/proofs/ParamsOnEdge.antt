@@ -3,10 +3,11 @@ use Rattle.std.proofs.Common.{suc, ◌≡◌, Bool, true, false, List, [], ◌�
 use Rattle.std.specs.Prelude.{◌||◌, Contains}
 use Rattle.std.proofs.lemmas.Bool.{cases_Bool, or_parts}
 use Rattle.regalloc2_names.specs.Register.{VirtualRegister, is_vreg}
-use Rattle.regalloc2_semantics.specs.Runs.{Source, assigned, passed}
+use Rattle.regalloc2_semantics.specs.Runs.{assigned, passed}
 use Rattle.regalloc2_semantics.specs.Sound.{names}
 use Rattle.regalloc2_carry.specs.Blocks.{Passes}
 use Rattle.regalloc2_semantics.proofs.Cells.{is_vreg-true, is_vreg-same, assigned-same, assigned-other}
+use Rattle.regalloc2_semantics.specs.Laws.{Source}
 
 left_or : (a b : Bool) → (a || b) ≡ true → b ≡ false → a ≡ true
 left_or true b h e = refl

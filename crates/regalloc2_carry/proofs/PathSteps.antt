@@ -8,9 +8,8 @@ use Rattle.regalloc2_names.specs.Operand.{OperandValue, is_late}
 use Rattle.regalloc2_names.specs.Place.{Place}
 use Rattle.regalloc2_function.specs.FunctionValue.{FunctionValue, block_at, inst_at, op_at}
 use Rattle.regalloc2_function.specs.OutputValue.{OutputValue, allocs_of}
-use Rattle.regalloc2_semantics.specs.Runs.{Way, Location, end_of, last_inst, Stamp, Source, after_defs, read_of, source_before, source_after}
-use Rattle.regalloc2_semantics.specs.Runs.{Cells, cells_early, cells_late, cells_before, moves_at}
-use Rattle.regalloc2_semantics.specs.Laws.{UsesWritten, ReadsAgree}
+use Rattle.regalloc2_semantics.specs.Runs.{Way, Location, end_of, last_inst, Stamp, after_defs, read_of, source_before, source_after, cells_early, cells_late, cells_before, moves_at, write_at}
+use Rattle.regalloc2_semantics.specs.Laws.{UsesWritten, ReadsAgree, Cells, Source}
 use Rattle.regalloc2_carry.specs.Listing.{Item, items_by, items_from}
 use Rattle.regalloc2_carry.specs.Carry.{CarriesFrom, Finds}
 use Rattle.regalloc2_carry.proofs.CarryRules.{after_their_moves}
@@ -23,9 +22,9 @@ left_at f out l count = items_from f out (block_at f l.block).range.first l.inst
 pub record Stepped (f : FunctionValue) (out : OutputValue) (l : Location) (v : VirtualRegister) (E : Place → Type 0) (left : ℕ) (s : Source) (c : Cells)
     (n : ℕ) : Type 0 where
   pub early : Finds v false (inst_at f l.inst).operands (allocs_of out l.inst) (s v) (cells_early f out l c)
-  pub late : Finds v true (inst_at f l.inst).operands (allocs_of out l.inst) (after_defs n 0 (inst_at f l.inst).operands s v)
+  pub late : Finds v true (inst_at f l.inst).operands (allocs_of out l.inst) (after_defs (write_at n) 0 (inst_at f l.inst).operands s v)
       (cells_late f out l n (cells_early f out l c))
-  pub rest : CarriesFrom v E (items_from f out (block_at f l.block).range.first (l.inst + 1) left) (after_defs n 0 (inst_at f l.inst).operands s)
+  pub rest : CarriesFrom v E (items_from f out (block_at f l.block).range.first (l.inst + 1) left) (after_defs (write_at n) 0 (inst_at f l.inst).operands s)
       (cells_late f out l n (cells_early f out l c)) (suc n)
 
 -- where what is left of a block carries v, the next instruction's uses of v find its value, and the rest carries v from

@@ -4,12 +4,13 @@ use Rattle.regalloc2_names.specs.Register.{VirtualRegister}
 use Rattle.regalloc2_names.specs.Place.{Place}
 use Rattle.regalloc2_function.specs.FunctionValue.{FunctionValue, block_at}
 use Rattle.regalloc2_function.specs.OutputValue.{MoveValue}
-use Rattle.regalloc2_semantics.specs.Runs.{arguments_at, Cells, after_moves}
+use Rattle.regalloc2_semantics.specs.Runs.{arguments_at, after_moves}
 use Rattle.regalloc2_carry.specs.Listing.{Item, with_moves, writes}
 use Rattle.regalloc2_carry.specs.Carry.{Carries, Untouched}
 use Rattle.regalloc2_semantics.specs.Sound.{names, HasEdge, target_at}
 use Rattle.regalloc2_carry.specs.Blocks.{IsWantedBehind, Passes, StandsAfter}
 use Rattle.regalloc2_carry.proofs.CarryRules.{carries_weaken, carries_fresh, carries_moves}
+use Rattle.regalloc2_semantics.specs.Laws.{Cells}
 
 -- the slots of the parameters that v is passed to
 abbrev pub PassedTo : FunctionValue → (VirtualRegister → Option Place) → ℕ → VirtualRegister → Place → Type 0

@@ -3,13 +3,14 @@ use Rattle.std.proofs.Common.{◌≡◌, ◌≢◌, Bool, true, false, List, [],
 use Rattle.regalloc2_names.specs.Register.{VirtualRegister}
 use Rattle.regalloc2_names.specs.Place.{Place, NoPlace}
 use Rattle.regalloc2_function.specs.OutputValue.{MoveValue}
-use Rattle.regalloc2_semantics.specs.Runs.{Cells, after_moves, stored}
+use Rattle.regalloc2_semantics.specs.Runs.{after_moves, stored}
 use Rattle.regalloc2_carry.specs.Listing.{Item, with_moves}
 use Rattle.regalloc2_carry.specs.Carry.{Carries}
 use Rattle.regalloc2_carry.specs.Stores.{Store, moves_by, store_moves, IsOneOf, Avoids, AreStores, AreInOrder}
 use Rattle.regalloc2_carry.specs.Stores.IsOneOf.{first, later}
 use Rattle.regalloc2_semantics.proofs.Cells.{stored-same, stored-other}
 use Rattle.regalloc2_carry.proofs.CarryRules.{carries_moves}
+use Rattle.regalloc2_semantics.specs.Laws.{Cells}
 
 -- a list of moves, and then another
 pub after_append : (ms ns : List MoveValue) (c : Cells) → after_moves (ms ++ ns) c ≡ after_moves ns (after_moves ms c)

@@ -8,7 +8,7 @@ use Rattle.regalloc2_names.specs.Operand.{OperandValue, is_def, is_late, is_read
 use Rattle.regalloc2_names.specs.Place.{Place, before, after}
 use Rattle.regalloc2_function.specs.FunctionValue.{InstValue, op_at}
 use Rattle.regalloc2_function.specs.OutputValue.{MoveValue, place_at}
-use Rattle.regalloc2_semantics.specs.Runs.{Source, after_defs, Cells, stored, after_moves}
+use Rattle.regalloc2_semantics.specs.Runs.{after_defs, stored, after_moves, write_at}
 use Rattle.regalloc2_carry.specs.Listing.{Item, exec_item, with_moves, defines, writes}
 use Rattle.regalloc2_carry.specs.Listing.Item.{Exec}
 use Rattle.regalloc2_carry.specs.BlockByPoints.{walked}
@@ -18,6 +18,7 @@ use Rattle.regalloc2_semantics.proofs.Cells.{is_vreg-true, stored-other}
 use Rattle.regalloc2_semantics.proofs.AfterWrites.{after_defs-other}
 use Rattle.regalloc2_carry.proofs.BothRuns.{early-other, late-spared}
 use Rattle.regalloc2_carry.proofs.CarryRules.{from_moves, after_their_moves, from_fresh}
+use Rattle.regalloc2_semantics.specs.Laws.{Cells, Source}
 
 -- no move of a list goes to the place
 abbrev pub NoMoveTo : Place → List MoveValue → Type 0
@@ -101,14 +102,14 @@ module _ (v : VirtualRegister) (ops : List OperandValue) (places : List Place) (
   -- v's value is there when the instruction begins
   kept_before : (p : Place) (s : Source) (c : Cells) (n : ℕ) → Keeps ops places clobbers sooner later v p → c p ≡ s v →
       Finds v false ops places (s v) (early_cells ops places (after_moves sooner c)) →
-      Finds v true ops places (after_defs n 0 ops s v) (late_cells n ops places clobbers (after_moves sooner c)) →
+      Finds v true ops places (after_defs (write_at n) 0 ops s v) (late_cells n ops places clobbers (after_moves sooner c)) →
       after_moves sooner c p ≡ s v
   kept_before p s c n k holds early late = elim k.before_it [
     | inl none ↦ moves_kept p sooner c none ∙ holds
     | inr (j, lt, reads, is, at) ↦ elim (cases_Bool (is_late (op_at ops j).position)) [
       | inl l ↦ (
           sym (late-spared n ops places clobbers (after_moves sooner c) p k.spared)
-          ∙ subst (λ q. late_cells n ops places clobbers (after_moves sooner c) q ≡ after_defs n 0 ops s v) at (late j lt reads l is)
+          ∙ subst (λ q. late_cells n ops places clobbers (after_moves sooner c) q ≡ after_defs (write_at n) 0 ops s v) at (late j lt reads l is)
           ∙ after_defs-other ops n 0 s v undefined)
       | inr e ↦ (
           sym (early-other ops places (after_moves sooner c) p (λ i less d x y. k.spared.no_definition i less d y))
@@ -129,7 +130,7 @@ module _ (v : VirtualRegister) (ops : List OperandValue) (places : List Place) (
       from_moves sooner v (λ p. E p ⊎ R p) (Exec ops places clobbers ∷ M) s c n (
         x.0,
         x.1,
-        from_fresh v M E R (after_defs n 0 ops s) (late_cells n ops places clobbers (after_moves sooner c)) (suc n) (λ p r. (keeps p r).no_move_later) unwritten
+        from_fresh v M E R (after_defs (write_at n) 0 ops s) (late_cells n ops places clobbers (after_moves sooner c)) (suc n) (λ p r. (keeps p r).no_move_later) unwritten
             (λ p r. late-spared n ops places clobbers (after_moves sooner c) p (keeps p r).spared ∙ kept_before p s c n (keeps p r) (holds p (inr r)) x.0 x.1
             ∙ sym (after_defs-other ops n 0 s v undefined))
             x.2,

@@ -1,22 +1,23 @@
 -- What a listing carries for one vreg.
-use Rattle.std.specs.Prelude.{ℕ, suc, ◌≡◌, ◌<◌, Bool, true, false, List, [], ◌∷◌, length, Option}
+use Rattle.std.specs.Prelude.{ℕ, suc, ◌≡◌, ◌<◌, Bool, true, false, List, [], ◌∷◌, length, Option, None}
 use Rattle.regalloc2_names.specs.declared.sets.PRegSet.{PRegSet}
 use Rattle.regalloc2_names.specs.Register.{VirtualRegister, has_register}
 use Rattle.regalloc2_names.specs.Operand.{OperandValue, is_def, is_late, is_reading}
 use Rattle.regalloc2_names.specs.Place.{Place, NoPlace, InRegister, InSlot}
 use Rattle.regalloc2_function.specs.OutputValue.{place_at}
-use Rattle.regalloc2_semantics.specs.Runs.{Stamp, Source, after_defs, Cells, stored, after_early_defs, after_writes, after_clobbers}
+use Rattle.regalloc2_semantics.specs.Runs.{Stamp, after_defs, stored, after_early_defs, after_writes, after_clobbers, write_at}
 use Rattle.regalloc2_function.specs.FunctionValue.{op_at}
 use Rattle.regalloc2_carry.specs.Listing.{Item}
 use Rattle.regalloc2_carry.specs.Listing.Item.{Move, Exec}
+use Rattle.regalloc2_semantics.specs.Laws.{Cells, Source}
 
 -- the cells that the early uses of an instruction read
 abbrev pub early_cells : List OperandValue → List Place → Cells → Cells
-early_cells operands places c = after_early_defs places 0 operands c
+early_cells operands places c = after_early_defs (λ p. None) places 0 operands c
 
 -- the cells that the late uses of an instruction read
 abbrev pub late_cells : ℕ → List OperandValue → List Place → PRegSet → Cells → Cells
-late_cells step operands places clobbers c = after_clobbers clobbers (after_writes places step 0 operands (early_cells operands places c))
+late_cells step operands places clobbers c = after_clobbers clobbers (λ p. None) (after_writes (write_at step) places 0 operands (early_cells operands places c))
 
 -- the reading uses of v at one of the two positions find x
 abbrev pub Finds : VirtualRegister → Bool → List OperandValue → List Place → Option Stamp → Cells → Type 0
@@ -31,8 +32,8 @@ CarriesFrom v E [] s c n = (p : Place) → E p → c p ≡ s v
 CarriesFrom v E (Move m ∷ items) s c n = CarriesFrom v E items s (stored c m.to (c m.from)) n
 CarriesFrom v E (Exec operands places clobbers ∷ items) s c n =
     Finds v false operands places (s v) (early_cells operands places c)
-    × Finds v true operands places (after_defs n 0 operands s v) (late_cells n operands places clobbers c)
-    × CarriesFrom v E items (after_defs n 0 operands s) (late_cells n operands places clobbers c) (suc n)
+    × Finds v true operands places (after_defs (write_at n) 0 operands s v) (late_cells n operands places clobbers c)
+    × CarriesFrom v E items (after_defs (write_at n) 0 operands s) (late_cells n operands places clobbers c) (suc n)
 
 -- `CarriesFrom` from every state in which the places of P, which may be none, hold v's value.
 unfoldable pub Carries : VirtualRegister → List Item → (Place → Type 0) → (Place → Type 0) → Type 0

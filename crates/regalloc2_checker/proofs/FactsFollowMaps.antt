@@ -10,11 +10,11 @@ use Rattle.regalloc2_names.specs.Operand.{OperandValue, is_def, is_late}
 use Rattle.regalloc2_names.specs.Place.{Place, NoPlace, InRegister, InSlot, is_place}
 use Rattle.regalloc2_function.specs.FunctionValue.{FunctionValue, inst_at}
 use Rattle.regalloc2_function.specs.OutputValue.{OutputValue, MoveValue, place_at}
-use Rattle.regalloc2_semantics.specs.Runs.{Way, Onward, ToSuccessor, Location, end_of, Stamp, Source, assigned, after_defs, passed, over_edge, source_before}
-use Rattle.regalloc2_semantics.specs.Runs.{source_after, read_of, Cells, stored, after_moves, after_early_defs, after_writes, after_clobbers, cells_early}
+use Rattle.regalloc2_semantics.specs.Runs.{Way, Onward, ToSuccessor, Location, end_of, Stamp, assigned, after_defs, passed, over_edge, source_before, write_at}
+use Rattle.regalloc2_semantics.specs.Runs.{source_after, read_of, stored, after_moves, after_early_defs, after_writes, after_clobbers, cells_early}
 use Rattle.regalloc2_semantics.specs.Runs.{cells_late, cells_before}
 use Rattle.regalloc2_semantics.specs.Faithful.{cell_at}
-use Rattle.regalloc2_semantics.specs.Laws.{SourceIsEarlier, CellsAreEarlier}
+use Rattle.regalloc2_semantics.specs.Laws.{SourceIsEarlier, CellsAreEarlier, Cells, Source}
 use Rattle.regalloc2_checker.specs.Facts.{Facts, is_stamp, same_write, facts_of, placed, defined, facts_after_moves, facts_after_early_defs, facts_after_defs}
 use Rattle.regalloc2_checker.specs.Facts.{facts_after_clobbers, renaming, facts_over_edge, facts_early, facts_late, facts_after, facts_for, true_facts}
 
@@ -78,7 +78,7 @@ unfolding after_moves
 after_moves-Below n [] c h = h
 after_moves-Below n (m ∷ ms) c h = after_moves-Below n ms _ (stored-Below n c m.to (c m.from) h (h.below m.from))
 
-after_early_defs-Below : (n : ℕ) (ps : List Place) (k : ℕ) (os : List OperandValue) (c : Cells) → Below n c → Below n (after_early_defs ps k os c)
+after_early_defs-Below : (n : ℕ) (ps : List Place) (k : ℕ) (os : List OperandValue) (c : Cells) → Below n c → Below n (after_early_defs (λ p. None) ps k os c)
 unfolding after_early_defs
 after_early_defs-Below n ps k [] c h = h
 after_early_defs-Below n ps k (o ∷ os) c h =
@@ -152,7 +152,7 @@ after_moves-Exact [] c m F h = h
 after_moves-Exact (x ∷ xs) c m F h = after_moves-Exact xs _ m _ (stored-Exact c m F x.to (c x.from) (F x.from) h (h.same x.from))
 
 after_early_defs-Exact : (ps : List Place) (k : ℕ) (os : List OperandValue) (c : Cells) (m : Source) (F : Facts) → Exact c m F →
-    Exact (after_early_defs ps k os c) m (facts_after_early_defs ps k os F)
+    Exact (after_early_defs (λ p. None) ps k os c) m (facts_after_early_defs ps k os F)
 unfolding after_early_defs facts_after_early_defs
 after_early_defs-Exact ps k [] c m F h = h
 after_early_defs-Exact ps k (o ∷ os) c m F h =
@@ -175,7 +175,7 @@ defined-Exact c m F p v s h fc fm =
     (λ u. same_write-defined (is_vreg v u) s (m u) (fm u))
 
 defs-Exact : (ps : List Place) (n k : ℕ) (os : List OperandValue) (c : Cells) (m : Source) (F : Facts) → Fresh n k c → Fresh n k m → Exact c m F →
-    Exact (after_writes ps n k os c) (after_defs n k os m) (facts_after_defs ps k os F)
+    Exact (after_writes (write_at n) ps k os c) (after_defs (write_at n) k os m) (facts_after_defs ps k os F)
 unfolding after_writes after_defs facts_after_defs
 defs-Exact ps n k [] c m F fc fm h = h
 defs-Exact ps n k (o ∷ os) c m F fc fm h =
@@ -187,11 +187,11 @@ defs-Exact ps n k (o ∷ os) c m F fc fm h =
     h)
 
 after_clobbers-Exact : (clobbers : PRegSet) (c : Cells) (m : Source) (F : Facts) → Exact c m F →
-    Exact (after_clobbers clobbers c) m (facts_after_clobbers clobbers F)
+    Exact (after_clobbers clobbers (λ p. None) c) m (facts_after_clobbers clobbers F)
 unfolding after_clobbers facts_after_clobbers
 after_clobbers-Exact clobbers c m F h = record { same = at }
   where
-    at : (p : Place) (v : VirtualRegister) → facts_of (after_clobbers clobbers c) m p v ≡ facts_after_clobbers clobbers F p v
+    at : (p : Place) (v : VirtualRegister) → facts_of (after_clobbers clobbers (λ p. None) c) m p v ≡ facts_after_clobbers clobbers F p v
     at NoPlace v = h.same NoPlace v
     at (InRegister r) v = same_write-stored (has_register clobbers r) None (c (InRegister r)) (m v) false (F (InRegister r) v) refl (h.same (InRegister r) v)
     at (InSlot n) v = h.same (InSlot n) v
@@ -226,7 +226,7 @@ early-Exact f o l c m F h = after_early_defs-Exact _ 0 _ _ m _ (after_moves-Exac
 
 -- facts read off the two maps, which have only writes of earlier steps, stay exact over an instruction's definitions and clobbers
 pub late-Exact : (f : FunctionValue) (o : OutputValue) (l : Location) (n : ℕ) (c : Cells) (m : Source) (F : Facts) → Below n c → Below n m → Exact c m F →
-    Exact (cells_late f o l n c) (after_defs n 0 (inst_at f l.inst).operands m) (facts_late f o l F)
+    Exact (cells_late f o l n c) (after_defs (write_at n) 0 (inst_at f l.inst).operands m) (facts_late f o l F)
 late-Exact f o l n c m F bc bm h = after_clobbers-Exact _ _ _ _ (defs-Exact _ n 0 _ c m F (fresh_below n c bc) (fresh_below n m bm) h)
 
 -- an instruction's moves and the clearing of its early definitions' places bring no newer write into a place

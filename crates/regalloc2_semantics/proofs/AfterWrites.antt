@@ -9,9 +9,10 @@ use Rattle.regalloc2_names.specs.Operand.{OperandValue, is_def, is_late}
 use Rattle.regalloc2_names.specs.Place.{Place, NoPlace}
 use Rattle.regalloc2_function.specs.OutputValue.{place_at}
 use Rattle.regalloc2_function.specs.FunctionValue.{op_at}
-use Rattle.regalloc2_semantics.specs.Runs.{Stamp, Source, assigned, after_defs, Cells, stored, after_early_defs, after_writes}
+use Rattle.regalloc2_semantics.specs.Runs.{Stamp, assigned, after_defs, stored, after_early_defs, after_writes, write_at}
 use Rattle.regalloc2_semantics.proofs.Cells.{stored-same, stored-other, assigned-same, assigned-other}
 use Rattle.regalloc2_semantics.specs.Sound.{Undefined}
+use Rattle.regalloc2_semantics.specs.Laws.{Cells, Source}
 
 -- one operand
 defined_not : (b : Bool) (m : Source) (w v : VirtualRegister) (x : Option Stamp) → (b ≡ true → w ≡ v → ⊥) → (cond b (assigned m w x) m) v ≡ m v
@@ -31,7 +32,7 @@ written_here true c q p x d e n = subst (λ u. stored c q x u ≡ x) e (stored-s
 written_here false c q p x d e n = absurd cc
 
 -- a vreg that no operand defines
-pub after_defs-other : (ops : List OperandValue) (t k : ℕ) (s : Source) (v : VirtualRegister) → Undefined ops v → after_defs t k ops s v ≡ s v
+pub after_defs-other : (ops : List OperandValue) (t k : ℕ) (s : Source) (v : VirtualRegister) → Undefined ops v → after_defs (write_at t) k ops s v ≡ s v
 unfolding after_defs
 after_defs-other [] t k s v h = refl
 after_defs-other (o ∷ os) t k s v h =
@@ -42,7 +43,7 @@ after_defs-other (o ∷ os) t k s v h =
 pub after_defs-at : (ops : List OperandValue) (t k : ℕ) (s : Source) (v : VirtualRegister) (j : ℕ) → j < length ops → is_def (op_at ops j).kind ≡ true →
     (op_at ops j).vreg ≡ v →
     ((i : ℕ) → i < length ops → j < i → is_def (op_at ops i).kind ≡ true → (op_at ops i).vreg ≡ v → ⊥) →
-    after_defs t k ops s v ≡ Some (record { step = t; operand = j + k })
+    after_defs (write_at t) k ops s v ≡ Some (record { step = t; operand = j + k })
 unfolding after_defs
 after_defs-at [] t k s v j lt d e last = absurd (omega arith)
 after_defs-at (o ∷ os) t k s v zero lt d e last =
@@ -56,7 +57,7 @@ after_defs-at (o ∷ os) t k s v (suc j) lt d e last =
 -- a place that no early definition has
 pub after_early_defs-other : (ops : List OperandValue) (places : List Place) (k : ℕ) (c : Cells) (p : Place) →
     ((j : ℕ) → j < length ops → is_def (op_at ops j).kind ≡ true → is_late (op_at ops j).position ≡ false → place_at places (j + k) ≡ p → ⊥) →
-    after_early_defs places k ops c p ≡ c p
+    after_early_defs (λ p. None) places k ops c p ≡ c p
 unfolding after_early_defs
 after_early_defs-other [] places k c p h = refl
 after_early_defs-other (o ∷ os) places k c p h =
@@ -70,7 +71,7 @@ after_early_defs-other (o ∷ os) places k c p h =
 
 -- a place that no definition has
 pub after_writes-other : (ops : List OperandValue) (places : List Place) (t k : ℕ) (c : Cells) (p : Place) →
-    ((j : ℕ) → j < length ops → is_def (op_at ops j).kind ≡ true → place_at places (j + k) ≡ p → ⊥) → after_writes places t k ops c p ≡ c p
+    ((j : ℕ) → j < length ops → is_def (op_at ops j).kind ≡ true → place_at places (j + k) ≡ p → ⊥) → after_writes (write_at t) places k ops c p ≡ c p
 unfolding after_writes
 after_writes-other [] places t k c p h = refl
 after_writes-other (o ∷ os) places t k c p h =
@@ -81,7 +82,7 @@ after_writes-other (o ∷ os) places t k c p h =
 pub after_writes-at : (ops : List OperandValue) (places : List Place) (t k : ℕ) (c : Cells) (p : Place) (j : ℕ) → (p ≡ NoPlace → ⊥) → j < length ops →
     is_def (op_at ops j).kind ≡ true → place_at places (j + k) ≡ p →
     ((i : ℕ) → i < length ops → j < i → is_def (op_at ops i).kind ≡ true → place_at places (i + k) ≡ p → ⊥) →
-    after_writes places t k ops c p ≡ Some (record { step = t; operand = j + k })
+    after_writes (write_at t) places k ops c p ≡ Some (record { step = t; operand = j + k })
 unfolding after_writes
 after_writes-at [] places t k c p j n lt d e last = absurd (omega arith)
 after_writes-at (o ∷ os) places t k c p zero n lt d e last =

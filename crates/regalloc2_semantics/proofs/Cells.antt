@@ -3,9 +3,10 @@ use Rattle.std.proofs.Common.{◌≡◌, ◌≢◌, refl, sym}
 use Rattle.std.specs.Prelude.{Option}
 use Rattle.regalloc2_names.specs.Register.{VirtualRegister}
 use Rattle.regalloc2_names.specs.Place.{Place, NoPlace, InRegister, InSlot}
-use Rattle.regalloc2_semantics.specs.Runs.{Stamp, Source, assigned, Cells, stored}
+use Rattle.regalloc2_semantics.specs.Runs.{Stamp, assigned, stored}
 pub use Rattle.regalloc2_names.proofs.EqualNames.{is_register-true, is_register-same, is_place-true, is_place-same, is_place-other, cases_place, is_vreg-true}
 pub use Rattle.regalloc2_names.proofs.EqualNames.{is_vreg-same, is_vreg-other, cases_vreg}
+use Rattle.regalloc2_semantics.specs.Laws.{Cells, Source}
 
 -- a place that is written has what was written
 pub stored-same : (c : Cells) (p : Place) (s : Option Stamp) → p ≢ NoPlace → stored c p s p ≡ s

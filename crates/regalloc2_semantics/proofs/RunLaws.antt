@@ -7,10 +7,10 @@ use Rattle.regalloc2_names.specs.Operand.{OperandValue, is_def, is_late}
 use Rattle.regalloc2_names.specs.Place.{Place, NoPlace, InRegister, InSlot, is_place}
 use Rattle.regalloc2_function.specs.FunctionValue.{FunctionValue}
 use Rattle.regalloc2_function.specs.OutputValue.{OutputValue, MoveValue, place_at}
-use Rattle.regalloc2_semantics.specs.Runs.{Way, Onward, ToSuccessor, Location, end_of, last_inst, Stamp, Source, assigned, after_defs, passed, over_edge}
-use Rattle.regalloc2_semantics.specs.Runs.{source_before, Cells, stored, after_moves, after_early_defs, after_writes, after_clobbers, cells_early}
+use Rattle.regalloc2_semantics.specs.Runs.{Way, Onward, ToSuccessor, Location, end_of, last_inst, Stamp, assigned, after_defs, passed, over_edge, write_at}
+use Rattle.regalloc2_semantics.specs.Runs.{source_before, stored, after_moves, after_early_defs, after_writes, after_clobbers, cells_early}
 use Rattle.regalloc2_semantics.specs.Runs.{cells_before}
-use Rattle.regalloc2_semantics.specs.Laws.{SourceIsEarlier, CellsAreEarlier, MissingHoldsNothing}
+use Rattle.regalloc2_semantics.specs.Laws.{SourceIsEarlier, CellsAreEarlier, MissingHoldsNothing, Cells, Source}
 
 -- every write that `m` holds was made before step n
 record WrittenBefore {K : Type 0} (n : ℕ) (m : K → Option Stamp) : Type 0 where
@@ -32,7 +32,7 @@ some_below n t s h e = let q : t ≡ s = cc in rw (← q) h
 assigned-written_before : (n : ℕ) (m : Source) (v : VirtualRegister) (x : Option Stamp) → WrittenBefore n m → ((s : Stamp) → x ≡ Some s → s.step < n) → WrittenBefore n (assigned m v x)
 assigned-written_before n m v x h g = record { below = λ q s e. either (is_vreg v q) n x (m q) s g (h.below q) e }
 
-after_defs-written_before : (n k : ℕ) (os : List OperandValue) (m : Source) → WrittenBefore (suc n) m → WrittenBefore (suc n) (after_defs n k os m)
+after_defs-written_before : (n k : ℕ) (os : List OperandValue) (m : Source) → WrittenBefore (suc n) m → WrittenBefore (suc n) (after_defs (write_at n) k os m)
 unfolding after_defs
 after_defs-written_before n k [] m h = h
 after_defs-written_before n k (o ∷ os) m h =
@@ -57,7 +57,7 @@ source_before-written_before : (f : FunctionValue) (ws : List Way) → WrittenBe
 unfolding source_before
 source_before-written_before f [] = record { below = λ q s e. absurd cc }
 source_before-written_before f (w ∷ ws) =
-    let h : WrittenBefore (suc (length ws)) (after_defs (length ws) 0 (last_inst f ws).operands (source_before f ws)) = after_defs-written_before (length ws) 0 _ _
+    let h : WrittenBefore (suc (length ws)) (after_defs (write_at (length ws)) 0 (last_inst f ws).operands (source_before f ws)) = after_defs-written_before (length ws) 0 _ _
     (more (length ws) _ (source_before-written_before f ws)) in
     over_edge-written_before (suc (length ws)) f (end_of f ws) w _ h
 
@@ -78,14 +78,14 @@ unfolding after_moves
 after_moves-written_before n [] c h = h
 after_moves-written_before n (m ∷ ms) c h = after_moves-written_before n ms _ (stored-written_before n c m.to (c m.from) h (h.below m.from))
 
-after_early_defs-written_before : (n : ℕ) (ps : List Place) (k : ℕ) (os : List OperandValue) (c : Cells) → WrittenBefore n c → WrittenBefore n (after_early_defs ps k os c)
+after_early_defs-written_before : (n : ℕ) (ps : List Place) (k : ℕ) (os : List OperandValue) (c : Cells) → WrittenBefore n c → WrittenBefore n (after_early_defs (λ p. None) ps k os c)
 unfolding after_early_defs
 after_early_defs-written_before n ps k [] c h = h
 after_early_defs-written_before n ps k (o ∷ os) c h =
     after_early_defs-written_before n ps (k + 1) os _ (chosen (is_def o.kind && not (is_late o.position)) n _ c
     (stored-written_before n c (place_at ps k) None h (λ s e. absurd cc)) h)
 
-after_writes-written_before : (n : ℕ) (ps : List Place) (k : ℕ) (os : List OperandValue) (c : Cells) → WrittenBefore (suc n) c → WrittenBefore (suc n) (after_writes ps n k os c)
+after_writes-written_before : (n : ℕ) (ps : List Place) (k : ℕ) (os : List OperandValue) (c : Cells) → WrittenBefore (suc n) c → WrittenBefore (suc n) (after_writes (write_at n) ps k os c)
 unfolding after_writes
 after_writes-written_before n ps k [] c h = h
 after_writes-written_before n ps k (o ∷ os) c h =
@@ -93,11 +93,11 @@ after_writes-written_before n ps k (o ∷ os) c h =
     (chosen (is_def o.kind) (suc n) _ c (stored-written_before (suc n) c (place_at ps k) _ h
     (λ s e. some_below (suc n) (record { step = n; operand = k }) s (omega arith) e)) h)
 
-after_clobbers-written_before : (n : ℕ) (clobbers : PRegSet) (c : Cells) → WrittenBefore n c → WrittenBefore n (after_clobbers clobbers c)
+after_clobbers-written_before : (n : ℕ) (clobbers : PRegSet) (c : Cells) → WrittenBefore n c → WrittenBefore n (after_clobbers clobbers (λ p. None) c)
 unfolding after_clobbers
 after_clobbers-written_before n clobbers c h = record { below = at }
   where
-    at : (q : Place) (s : Stamp) → after_clobbers clobbers c q ≡ Some s → s.step < n
+    at : (q : Place) (s : Stamp) → after_clobbers clobbers (λ p. None) c q ≡ Some s → s.step < n
     at NoPlace s e = h.below NoPlace s e
     at (InRegister r) s e = either (has_register clobbers r) n None (c (InRegister r)) s (λ t d. absurd cc) (h.below (InRegister r)) e
     at (InSlot k) s e = h.below (InSlot k) s e
@@ -131,13 +131,13 @@ unfolding after_moves
 after_moves-missing [] c = refl
 after_moves-missing (m ∷ ms) c = after_moves-missing ms _ ∙ stored-missing c m.to (c m.from)
 
-after_early_defs-missing : (ps : List Place) (k : ℕ) (os : List OperandValue) (c : Cells) → after_early_defs ps k os c NoPlace ≡ c NoPlace
+after_early_defs-missing : (ps : List Place) (k : ℕ) (os : List OperandValue) (c : Cells) → after_early_defs (λ p. None) ps k os c NoPlace ≡ c NoPlace
 unfolding after_early_defs
 after_early_defs-missing ps k [] c = refl
 after_early_defs-missing ps k (o ∷ os) c = after_early_defs-missing ps (k + 1) os _
     ∙ cond-missing (is_def o.kind && not (is_late o.position)) _ c (stored-missing c (place_at ps k) None)
 
-after_writes-missing : (ps : List Place) (n k : ℕ) (os : List OperandValue) (c : Cells) → after_writes ps n k os c NoPlace ≡ c NoPlace
+after_writes-missing : (ps : List Place) (n k : ℕ) (os : List OperandValue) (c : Cells) → after_writes (write_at n) ps k os c NoPlace ≡ c NoPlace
 unfolding after_writes
 after_writes-missing ps n k [] c = refl
 after_writes-missing ps n k (o ∷ os) c = after_writes-missing ps n (k + 1) os _ ∙ cond-missing (is_def o.kind) _ c (stored-missing c (place_at ps k) _)

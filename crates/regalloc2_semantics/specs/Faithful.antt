@@ -11,13 +11,13 @@ use Rattle.regalloc2_names.specs.Operand.{OperandValue, is_reading}
 use Rattle.regalloc2_function.specs.FunctionValue.{FunctionValue, block_at, inst_at, op_at}
 use Rattle.regalloc2_function.specs.OutputValue.{OutputValue, MoveValue, allocs_of, place_at, is_listed_at}
 use Rattle.regalloc2_function.specs.Machine.{MachineValue, IsStackPlace, IsPlainRegister}
-use Rattle.regalloc2_semantics.specs.Runs.{Way, Location, IsPath, end_of, Stamp, read_of, source_before, source_after, Cells, cells_early, cells_late}
+use Rattle.regalloc2_semantics.specs.Runs.{Way, Location, IsPath, end_of, Stamp, read_of, source_before, source_after, cells_early, cells_late}
 use Rattle.regalloc2_semantics.specs.Runs.{cells_before, last_inst, source_read, allocated_read, moves_at}
 
 -- what a place holds at the position at which the early or the late uses of a path's last step are read
 abbrev pub cell_at : FunctionValue → OutputValue → List Way → OperandPos → Place → Option Stamp
 cell_at f o ws position p =
-    let early : Cells = cells_early f o (end_of f ws) (cells_before f o ws) in
+    let early : Place → Option Stamp = cells_early f o (end_of f ws) (cells_before f o ws) in
     read_of position (early p) (cells_late f o (end_of f ws) (length ws) early p)
 
 -- on every path that reaches the position, the place holds the write that the vreg has

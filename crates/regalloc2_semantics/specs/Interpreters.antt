@@ -1,14 +1,13 @@
 -- Two plain interpreters of a function: one keeps a number for each vreg, the other a number for each place.
 -- This project's own: what instructions compute and where branches go is left open.
-use Rattle.std.specs.Prelude.{ℕ, zero, suc, ◌+◌, ◌&&◌, not, nat_eq, nat_lt, if◌then◌else◌, Bool, List, [], ◌∷◌, length, slice_index, Option, None, Some}
+use Rattle.std.specs.Prelude.{ℕ, zero, suc, ◌+◌, ◌&&◌, nat_eq, nat_lt, if◌then◌else◌, Bool, List, [], ◌∷◌, length, Option, None, Some}
 use Rattle.std.specs.Prelude.{option_map, option_and_then}
-use Rattle.regalloc2_names.specs.declared.sets.PRegSet.{PRegSet}
-use Rattle.regalloc2_names.specs.Register.{VirtualRegister, is_vreg, has_register}
-use Rattle.regalloc2_names.specs.Operand.{OperandValue, is_def, is_late, is_reading}
-use Rattle.regalloc2_names.specs.Place.{Place, NoPlace, InRegister, InSlot, is_place}
+use Rattle.regalloc2_names.specs.Register.{VirtualRegister}
+use Rattle.regalloc2_names.specs.Operand.{OperandValue, is_late, is_reading}
+use Rattle.regalloc2_names.specs.Place.{Place}
 use Rattle.regalloc2_function.specs.FunctionValue.{FunctionValue, block_at, inst_at}
-use Rattle.regalloc2_function.specs.OutputValue.{OutputValue, MoveValue, allocs_of, place_at}
-use Rattle.regalloc2_semantics.specs.Runs.{Way, Onward, ToSuccessor, Location, first_of, next_of, arguments_at, moves_at}
+use Rattle.regalloc2_function.specs.OutputValue.{OutputValue, allocs_of, place_at}
+use Rattle.regalloc2_semantics.specs.Runs.{Way, Onward, ToSuccessor, Location, first_of, next_of, moves_at, after_clobbers, after_defs, after_early_defs, after_moves, after_writes, over_edge}
 
 -- what a run has read so far: each step's instruction and the numbers that it read, the last step first
 abbrev pub History : Type 0
@@ -45,54 +44,6 @@ way_on f l taken =
     if nat_lt (l.inst + 1) (block_at f l.block).range.end then Some Onward
     else if nat_eq (l.inst + 1) (block_at f l.block).range.end then edge_to (length (block_at f l.block).succs) taken else None
 
--- the numbers with one vreg's changed
-abbrev pub number_set : (VirtualRegister → ℕ) → VirtualRegister → ℕ → VirtualRegister → ℕ
-number_set m v n q = if is_vreg v q then n else m q
-
--- the numbers after a step's definitions, in operand order from index k on
-unfoldable pub numbers_defined : (ℕ → ℕ) → ℕ → List OperandValue → (VirtualRegister → ℕ) → VirtualRegister → ℕ
-numbers_defined written k [] m = m
-numbers_defined written k (o ∷ os) m = numbers_defined written (k + 1) os (if is_def o.kind then number_set m o.vreg (written k) else m)
-
--- the parameters take what the arguments had before, all at once
-unfoldable pub passed_on : List VirtualRegister → List VirtualRegister → (VirtualRegister → ℕ) → (VirtualRegister → ℕ) → VirtualRegister → ℕ
-passed_on [] arguments before after = after
-passed_on (p ∷ ps) [] before after = after
-passed_on (p ∷ ps) (a ∷ rest) before after = passed_on ps rest before (number_set after p (before a))
-
--- the numbers after an edge or fall-through: an edge passes its arguments to the parameters
-unfoldable pub passed_over : FunctionValue → Location → Way → (VirtualRegister → ℕ) → VirtualRegister → ℕ
-passed_over f l Onward m = m
-passed_over f l (ToSuccessor k) m = passed_on (block_at f (slice_index (block_at f l.block).succs k)).params (arguments_at f l.block k) m m
-
--- the numbers with one place's changed; a missing place is never written
-unfoldable pub place_set : (Place → ℕ) → Place → ℕ → Place → ℕ
-place_set m NoPlace n = m
-place_set m (InRegister r) n = λ q. if is_place (InRegister r) q then n else m q
-place_set m (InSlot s) n = λ q. if is_place (InSlot s) q then n else m q
-
--- moves, one after another
-unfoldable pub numbers_moved : List MoveValue → (Place → ℕ) → Place → ℕ
-numbers_moved [] m = m
-numbers_moved (e ∷ es) m = numbers_moved es (place_set m e.to (m e.from))
-
--- an instruction may write its early definitions while it reads, so their places may hold any numbers at that time
-unfoldable pub disturbed : (Place → ℕ) → List Place → ℕ → List OperandValue → (Place → ℕ) → Place → ℕ
-disturbed noise places k [] m = m
-disturbed noise places k (o ∷ os) m = disturbed noise places (k + 1) os
-    (if is_def o.kind && not (is_late o.position) then place_set m (place_at places k) (noise (place_at places k)) else m)
-
--- the definitions are written to their places, in operand order
-unfoldable pub written_to : (ℕ → ℕ) → List Place → ℕ → List OperandValue → (Place → ℕ) → Place → ℕ
-written_to written places k [] m = m
-written_to written places k (o ∷ os) m = written_to written places (k + 1) os (if is_def o.kind then place_set m (place_at places k) (written k) else m)
-
--- clobbered registers hold any numbers
-unfoldable pub numbers_clobbered : PRegSet → (Place → ℕ) → (Place → ℕ) → Place → ℕ
-numbers_clobbered set noise m NoPlace = m NoPlace
-numbers_clobbered set noise m (InRegister r) = if has_register set r then noise (InRegister r) else m (InRegister r)
-numbers_clobbered set noise m (InSlot n) = m (InSlot n)
-
 -- The interpreter over vregs.
 module _ (f : FunctionValue) (meaning : InstMeaning) where
   -- the numbers that an instruction reads, and the history with them
@@ -104,11 +55,11 @@ module _ (f : FunctionValue) (meaning : InstMeaning) where
 
   -- the numbers after the instruction's definitions
   abbrev pub vreg_written : State VirtualRegister → VirtualRegister → ℕ
-  vreg_written c = numbers_defined (meaning.writes (source_told c)) 0 (inst_at f c.at.inst).operands c.numbers
+  vreg_written c = after_defs (meaning.writes (source_told c)) 0 (inst_at f c.at.inst).operands c.numbers
 
   -- one step further; an edge passes what the arguments have after the definitions
   abbrev pub source_step : State VirtualRegister → Option (State VirtualRegister)
-  source_step c = option_map (λ w. record { at = next_of f c.at w; history = source_told c; numbers = passed_over f c.at w (vreg_written c) })
+  source_step c = option_map (λ w. record { at = next_of f c.at w; history = source_told c; numbers = over_edge f c.at w (vreg_written c) })
       (way_on f c.at (meaning.takes (source_told c)))
 
   -- the state after a number of steps from the entry, with any initial numbers in the vregs; none once the run has ended
@@ -120,7 +71,7 @@ module _ (f : FunctionValue) (meaning : InstMeaning) where
 module _ (f : FunctionValue) (out : OutputValue) (meaning : InstMeaning) (noise : History → Place → ℕ) where
   -- the numbers that an instruction finds: its moves have run, and early definitions may have been written
   abbrev pub place_found : State Place → Place → ℕ
-  place_found c = disturbed (noise c.history) (allocs_of out c.at.inst) 0 (inst_at f c.at.inst).operands (numbers_moved (moves_at f out c.at) c.numbers)
+  place_found c = after_early_defs (noise c.history) (allocs_of out c.at.inst) 0 (inst_at f c.at.inst).operands (after_moves (moves_at f out c.at) c.numbers)
 
   -- the numbers that it reads, in the places of its uses, and the history with them
   abbrev pub place_reads : State Place → List ℕ
@@ -131,8 +82,8 @@ module _ (f : FunctionValue) (out : OutputValue) (meaning : InstMeaning) (noise 
 
   -- the numbers after its definitions and clobbers
   abbrev pub place_written : State Place → Place → ℕ
-  place_written c = numbers_clobbered (inst_at f c.at.inst).clobbers (noise (place_told c))
-      (written_to (meaning.writes (place_told c)) (allocs_of out c.at.inst) 0 (inst_at f c.at.inst).operands (place_found c))
+  place_written c = after_clobbers (inst_at f c.at.inst).clobbers (noise (place_told c))
+      (after_writes (meaning.writes (place_told c)) (allocs_of out c.at.inst) 0 (inst_at f c.at.inst).operands (place_found c))
 
   -- one step further; on an edge no place changes
   abbrev pub place_step : State Place → Option (State Place)

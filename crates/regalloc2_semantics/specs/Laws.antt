@@ -1,5 +1,5 @@
 -- Laws on the runs, and from reads that agree to a faithful output.
-use Rattle.std.specs.Prelude.{ℕ, ◌≡◌, ◌<◌, true, List, length, Some, None, All, IsSome}
+use Rattle.std.specs.Prelude.{ℕ, ◌≡◌, ◌<◌, true, List, length, Some, None, Option, All, IsSome}
 use Rattle.regalloc2_names.specs.Operand.{OperandValue, is_reading}
 use Rattle.regalloc2_names.specs.Register.{VirtualRegister}
 use Rattle.regalloc2_names.specs.Place.{Place, NoPlace}
@@ -10,6 +10,13 @@ use Rattle.regalloc2_function.specs.WellFormed.{IsWellFormed}
 use Rattle.regalloc2_semantics.specs.Runs.{Way, last_inst, Stamp, source_read, IsPath, source_before, cells_before, allocated_read}
 use Rattle.regalloc2_semantics.specs.Faithful.{IsFaithful, ConstraintsMet, IsStackToStack}
 use Rattle.regalloc2_semantics.specs.Values.{SameNumbers}
+
+-- who wrote each vreg last, and each place, if anyone
+abbrev pub Source : Type 0
+Source = VirtualRegister → Option Stamp
+
+abbrev pub Cells : Type 0
+Cells = Place → Option Stamp
 
 -- every use of the last step finds a write
 abbrev pub UsesWritten : FunctionValue → List Way → Type 0

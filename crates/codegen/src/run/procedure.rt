@@ -1,9 +1,8 @@
 //! The interpreter of a function, step by step.
 
 ghost use Rattle.std.specs.Prelude.{◌≡◌, ◌<◌, ◌^◌, ◌+◌, IfOk, OnOk, Some, if◌then◌else◌, length, map};
-ghost use Rattle.regalloc2_semantics.specs.Interpreters.{number_set, passed_on};
 ghost use Rattle.regalloc2_function.specs.FunctionValue.{block_at};
-ghost use Rattle.regalloc2_semantics.specs.Runs.{first_of, arguments_at};
+ghost use Rattle.regalloc2_semantics.specs.Runs.{first_of, arguments_at, assigned, passed};
 ghost use Rattle.codegen_operation.specs.Numbers.{condition_holds, divided_at, division_traps, is_within, number_at, widened, with_number, Trapped};
 ghost use Rattle.codegen_machine.specs.Meaning.{along, count_number, done, onward, right_number, stored, procedure_run, procedure_step};
 ghost use Rattle.codegen_machine.specs.Seen.{function_of_procedure, operations};
@@ -50,7 +49,7 @@ pub fn no_numbers(alloc: Global) -> Numbers
 
 /// Puts a number into a vreg.
 pub fn put(numbers: &mut Numbers, vreg: VReg, number: u64) -> Result<(), AllocError>
-    ensures { OnOk result (numbers_by_vreg numbers.new ≡ number_set (numbers_by_vreg numbers.old) vreg number) }
+    ensures { OnOk result (numbers_by_vreg numbers.new ≡ assigned (numbers_by_vreg numbers.old) vreg number) }
 {
     numbers.insert(vreg.bits() as u32, number)?;
     Ok(())
@@ -74,7 +73,7 @@ fn pass(
     arguments: &[VReg],
 ) -> Result<(), AllocError>
     ensures { OnOk result (numbers_by_vreg numbers.new
-        ≡ passed_on params.now arguments.now (numbers_by_vreg numbers.old) (numbers_by_vreg numbers.old)) }
+        ≡ passed params.now arguments.now (numbers_by_vreg numbers.old) (numbers_by_vreg numbers.old)) }
 {
     let values = numbers_at(alloc, numbers, arguments)?;
     for at in 0..params.len().min(values.len()) {

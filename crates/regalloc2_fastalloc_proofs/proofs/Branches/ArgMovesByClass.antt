@@ -8,7 +8,7 @@ use Rattle.regalloc2_names.specs.declared.RegClass.TheVariants.{Int, Float, Vect
 use Rattle.regalloc2_names.specs.Register.{class_code, has_register}
 use Rattle.regalloc2_names.specs.Place.{Place, NoPlace, InRegister, InSlot}
 use Rattle.regalloc2_function.specs.OutputValue.{MoveValue}
-use Rattle.regalloc2_semantics.specs.Runs.{Cells, after_moves}
+use Rattle.regalloc2_semantics.specs.Runs.{after_moves}
 use Rattle.regalloc2_carry.specs.BlockByPoints.{at_point, listed}
 use Rattle.regalloc2_parts.specs.Resolved.{AreBetweenPlaces}
 use Rattle.regalloc2_fastalloc_state.specs.declared.inst_regs.InstRegs.{InstRegs}
@@ -17,6 +17,7 @@ use Rattle.regalloc2_fastalloc_proofs.specs.InstSteps.{StateValue}
 use Rattle.regalloc2_fastalloc_proofs.specs.BranchSteps.{IsScratchRegFor, OrdersMoves, Pushes, ClassMove, of_class}
 use Rattle.regalloc2_fastalloc_proofs.proofs.Branches.ArgMovesPushed.{moves_of, at_pushed, other_pushed, after_append, came_from, after_made}
 use Rattle.regalloc2_fastalloc_proofs.proofs.Branches.ArgMovesPushed.{came_own}
+use Rattle.regalloc2_semantics.specs.Laws.{Cells}
 
 -- a slot, if it is one, is below a count
 abbrev pub IsLow : ℕ → Place → Type 0

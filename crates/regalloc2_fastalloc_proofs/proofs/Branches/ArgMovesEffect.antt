@@ -8,7 +8,7 @@ use Rattle.regalloc2_names.specs.Register.{Register, VirtualRegister, class_code
 use Rattle.regalloc2_names.specs.Place.{Place, NoPlace, InRegister, InSlot}
 use Rattle.regalloc2_function.specs.FunctionValue.{FunctionValue}
 use Rattle.regalloc2_function.specs.OutputValue.{MoveValue}
-use Rattle.regalloc2_semantics.specs.Runs.{arguments_at, Cells, after_moves}
+use Rattle.regalloc2_semantics.specs.Runs.{arguments_at, after_moves}
 use Rattle.regalloc2_semantics.specs.Sound.{names, HasEdge}
 use Rattle.regalloc2_semantics.proofs.Cells.{is_vreg-same}
 use Rattle.regalloc2_carry.proofs.Slots.{PassedTo}
@@ -21,6 +21,7 @@ use Rattle.regalloc2_fastalloc_proofs.proofs.Branches.ArgMovesByClass.{IsNoTarge
 use Rattle.regalloc2_fastalloc_proofs.proofs.Branches.EdgeArgsGathered.{of_class-has, of_class-from, passes_at, argument_at, IsArgued, params_on}
 use Rattle.regalloc2_fastalloc_proofs.proofs.BlockEnd.BranchAlone.{IsHeldHere}
 use Rattle.regalloc2_fastalloc_proofs.proofs.BlockEnd.BranchEndsBlock.{ToCome, cases_opt, slot_is_below_count}
+use Rattle.regalloc2_semantics.specs.Laws.{Cells}
 
 -- a list names each vreg in it
 pub names_at : (ps : List VirtualRegister) (j : ℕ) (v : VirtualRegister) → j < length ps → argument_at ps j ≡ v → names v ps ≡ true

@@ -5,7 +5,7 @@ use Rattle.std.proofs.lemmas.List.{append_assoc, append-nil}
 use Rattle.regalloc2_names.specs.Place.{Place, NoPlace, InRegister, InSlot, is_place, before, after}
 use Rattle.regalloc2_function.specs.FunctionValue.{InstValue}
 use Rattle.regalloc2_function.specs.OutputValue.{MoveValue}
-use Rattle.regalloc2_semantics.specs.Runs.{Cells, stored, after_moves}
+use Rattle.regalloc2_semantics.specs.Runs.{stored, after_moves}
 use Rattle.regalloc2_carry.specs.Listing.{Item, exec_item, with_moves}
 use Rattle.regalloc2_carry.specs.BlockByPoints.{at_point, walked, listed}
 use Rattle.regalloc2_semantics.proofs.Cells.{is_place-other}
@@ -15,6 +15,7 @@ use Rattle.regalloc2_carry.proofs.ListingParts.{walked-one}
 use Rattle.regalloc2_parts.specs.AtOnce.{ends_of, own_names, in_turn, moved, in_turn-any}
 use Rattle.regalloc2_parts.specs.Resolved.{AreBetweenPlaces}
 use Rattle.regalloc2_fastalloc_state.specs.ScratchPool.{Moves, pushed}
+use Rattle.regalloc2_semantics.specs.Laws.{Cells}
 
 -- the moves as they are listed
 unfoldable pub moves_of : Moves → List MoveValue

@@ -9,7 +9,7 @@ use Rattle.regalloc2_names.specs.Register.{Register, VirtualRegister, class_code
 use Rattle.regalloc2_names.specs.Place.{Place, NoPlace, InRegister, InSlot, before, after}
 use Rattle.regalloc2_function.specs.FunctionValue.{FunctionValue, block_at, inst_at, op_at}
 use Rattle.regalloc2_function.specs.OutputValue.{MoveValue, place_at}
-use Rattle.regalloc2_semantics.specs.Runs.{arguments_at, Cells, after_moves}
+use Rattle.regalloc2_semantics.specs.Runs.{arguments_at, after_moves}
 use Rattle.regalloc2_names.specs.Operand.{is_def}
 use Rattle.regalloc2_carry.specs.Listing.{Item, with_moves, writes}
 use Rattle.regalloc2_carry.specs.Carry.{Carries, Spares, Untouched}
@@ -51,6 +51,7 @@ use Rattle.regalloc2_fastalloc_proofs.proofs.Branches.ArgMovesEffect.{ArgMoves, 
 use Rattle.regalloc2_fastalloc_proofs.proofs.Branches.BranchInParts.{carries_after_spills, Parted, branch_in_parts}
 use Rattle.regalloc2_fastalloc_proofs.proofs.Inst.ProperInsts.{ProperCode}
 use Rattle.regalloc2_fastalloc_proofs.proofs.Changes.InstChanges.{allocs_inst_changes, any_operand}
+use Rattle.regalloc2_semantics.specs.Laws.{Cells}
 
 -- tables that differ in moves and in temporary slots
 pub whole_like : (old new : StateValue) → new.places ≡ old.places → new.slots.vreg_spillslots ≡ old.slots.vreg_spillslots → new.slots.sizes ≡ old.slots.sizes →

@@ -10,7 +10,7 @@ use Rattle.regalloc2_names.specs.Operand.{OperandValue, is_def, is_late}
 use Rattle.regalloc2_names.specs.Place.{Place, NoPlace, InRegister, InSlot, after}
 use Rattle.regalloc2_function.specs.FunctionValue.{InstValue, op_at}
 use Rattle.regalloc2_function.specs.OutputValue.{MoveValue}
-use Rattle.regalloc2_semantics.specs.Runs.{Cells, after_moves}
+use Rattle.regalloc2_semantics.specs.Runs.{after_moves}
 use Rattle.regalloc2_carry.specs.Carry.{Carries}
 use Rattle.regalloc2_carry.specs.BlockByPoints.{at_point, walked, after_part, listed}
 use Rattle.regalloc2_carry.specs.Instruction.{Claims}
@@ -37,6 +37,7 @@ use Rattle.regalloc2_fastalloc_proofs.proofs.Debug.UnnamedStaysUnlocated.{proces
 use Rattle.regalloc2_fastalloc_proofs.proofs.Debug.DefStoresIntoSlot.{Off, allocs_operand_whole, allocs_operand_off, locates_use_off, frees_alloc_off}
 use Rattle.regalloc2_fastalloc_proofs.proofs.Debug.DefStoresIntoSlot.{frees_alloc_into, off_none, moves_of}
 use Rattle.regalloc2_fastalloc_proofs.proofs.Operands.BlockTail.{tail_of}
+use Rattle.regalloc2_semantics.specs.Laws.{Cells}
 
 -- A definition of an instruction that doesn't end its block, and its vreg's slot: the known vregs; the instructions and
 -- the places of their operands; the instruction i; its operands, which are orderly, with the numbers that had a

@@ -8,7 +8,7 @@ use Rattle.regalloc2_names.specs.Register.{Register, VirtualRegister}
 use Rattle.regalloc2_names.specs.Operand.{OperandValue}
 use Rattle.regalloc2_names.specs.Place.{Place, NoPlace, InRegister, is_place}
 use Rattle.regalloc2_function.specs.OutputValue.{MoveValue}
-use Rattle.regalloc2_semantics.specs.Runs.{Cells, after_moves, stored}
+use Rattle.regalloc2_semantics.specs.Runs.{after_moves, stored}
 use Rattle.regalloc2_carry.specs.BlockByPoints.{at_point, listed}
 use Rattle.regalloc2_carry.specs.Listing.{with_moves}
 use Rattle.regalloc2_carry.specs.Carry.{Untouched}
@@ -28,6 +28,7 @@ use Rattle.regalloc2_fastalloc_proofs.proofs.Operands.DefRecord.{another_is}
 use Rattle.regalloc2_fastalloc_proofs.proofs.Moves.StepsAppendEdits.{AppendsEdits, none_pushed, one_pushed, changes_push}
 use Rattle.regalloc2_fastalloc_proofs.proofs.Changes.InstChanges.{allocs_scratch_reg_changes, adds_move_if_changes, allocs_operand_changes}
 use Rattle.regalloc2_fastalloc_proofs.proofs.Changes.InstChanges.{locates_use_changes, frees_alloc_changes, evicts_fixed_changes, evicts_each_changes}
+use Rattle.regalloc2_semantics.specs.Laws.{Cells}
 
 -- allocating an operand keeps the two tables of locations inverse, and each spill slot its vreg's own
 pub allocs_operand_whole : (point : ℕ) (o : OperandRequest) (p : Place) (t u : InstRegs) (old new : StateValue) → AllocsOperand point o p t u old new →

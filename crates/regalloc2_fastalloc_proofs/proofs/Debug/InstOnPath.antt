@@ -5,13 +5,14 @@ use Rattle.regalloc2_names.specs.Place.{Place, before, after}
 use Rattle.regalloc2_function.specs.FunctionValue.{FunctionValue, block_at, inst_at}
 use Rattle.regalloc2_function.specs.Listing.{moves_before}
 use Rattle.regalloc2_function.specs.OutputValue.{OutputValue, MoveValue, allocs_of}
-use Rattle.regalloc2_semantics.specs.Runs.{Way, Onward, end_of, source_before, over_edge, Cells, after_moves, moves_at, cells_before}
+use Rattle.regalloc2_semantics.specs.Runs.{Way, Onward, end_of, source_before, over_edge, after_moves, moves_at, cells_before}
 use Rattle.regalloc2_carry.specs.Listing.{Item, exec_item, with_moves}
 use Rattle.regalloc2_carry.specs.Carry.{Carries, CarriesFrom}
 use Rattle.regalloc2_carry.specs.BlockByPoints.{at_point, walked, Rising}
 use Rattle.regalloc2_carry.proofs.CarryRules.{after_their_moves}
 use Rattle.regalloc2_carry.proofs.Points.{moves_before-first, moves_before-later}
 use Rattle.regalloc2_carry.proofs.StoresInFront.{after_append}
+use Rattle.regalloc2_semantics.specs.Laws.{Cells}
 
 module _ (f : FunctionValue) (out : OutputValue) (rising : Rising out.edits) where
   abbrev pub moves_on : ℕ → List MoveValue

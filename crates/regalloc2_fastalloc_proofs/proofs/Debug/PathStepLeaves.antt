@@ -8,7 +8,7 @@ use Rattle.regalloc2_names.specs.Operand.{OperandValue}
 use Rattle.regalloc2_names.specs.Place.{Place}
 use Rattle.regalloc2_function.specs.FunctionValue.{FunctionValue, block_at, inst_at, op_at}
 use Rattle.regalloc2_function.specs.OutputValue.{OutputValue, allocs_of, place_at}
-use Rattle.regalloc2_semantics.specs.Runs.{Way, Onward, ToSuccessor, end_of, Stamp, read_of, arguments_at, source_before, source_after, over_edge, Cells}
+use Rattle.regalloc2_semantics.specs.Runs.{Way, Onward, ToSuccessor, end_of, Stamp, read_of, arguments_at, source_before, source_after, over_edge}
 use Rattle.regalloc2_semantics.specs.Runs.{after_moves, moves_at, cells_early, cells_late, cells_before}
 use Rattle.regalloc2_semantics.specs.Laws.{ReadsAgree}
 use Rattle.regalloc2_carry.specs.Carry.{Spares}
@@ -18,6 +18,7 @@ use Rattle.regalloc2_carry.proofs.ParamsOnEdge.{passed-other}
 use Rattle.regalloc2_semantics.proofs.AfterWrites.{after_defs-other}
 use Rattle.regalloc2_carry.proofs.BothRuns.{early-other, late-spared}
 use Rattle.regalloc2_fastalloc_proofs.specs.Debug.SlotHoldsValue.{ReadsInPlace, ShowsAt}
+use Rattle.regalloc2_semantics.specs.Laws.{Cells}
 
 -- a step that doesn't write v keeps v's last write
 pub source_on : (f : FunctionValue) (ws : List Way) (w : Way) (v : VirtualRegister) → Undefined (inst_at f (end_of f ws).inst).operands v →

@@ -9,7 +9,7 @@ use Rattle.regalloc2_names.specs.Operand.{OperandValue, is_def, is_late, is_read
 use Rattle.regalloc2_names.specs.Place.{Place, NoPlace, before, after}
 use Rattle.regalloc2_function.specs.FunctionValue.{inst_at, op_at}
 use Rattle.regalloc2_function.specs.OutputValue.{MoveValue, place_at}
-use Rattle.regalloc2_semantics.specs.Runs.{Source, Cells, after_moves}
+use Rattle.regalloc2_semantics.specs.Runs.{after_moves}
 use Rattle.regalloc2_carry.specs.Listing.{Item, with_moves}
 use Rattle.regalloc2_carry.specs.Listing.Item.{Exec}
 use Rattle.regalloc2_carry.specs.Carry.{Carries, CarriesFrom, is_clobbered}
@@ -37,6 +37,7 @@ use Rattle.regalloc2_fastalloc_proofs.proofs.Debug.LocatedStaysOrHasSlot.{change
 use Rattle.regalloc2_fastalloc_proofs.proofs.Changes.InstChanges.{moves_uses_changes}
 use Rattle.regalloc2_fastalloc_proofs.proofs.Operands.BlockTail.{tail_of}
 use Rattle.regalloc2_fastalloc_proofs.proofs.Inst.ProperInsts.{ProperCode}
+use Rattle.regalloc2_semantics.specs.Laws.{Cells, Source}
 
 -- a use that reads v
 abbrev observer : VirtualRegister → OperandValue

@@ -10,12 +10,12 @@ use Rattle.regalloc2_function.specs.Fitting.{MachineFits}
 use Rattle.regalloc2_function.specs.Machine.{MachineValue}
 use Rattle.regalloc2_function.specs.Listing.{moves_before}
 use Rattle.regalloc2_function.specs.OutputValue.{OutputValue, MoveValue, allocs_of}
-use Rattle.regalloc2_semantics.specs.Runs.{Way, end_of, IsPath, Stamp, IsWrittenFirst, source_before, Cells, after_moves, cells_before}
+use Rattle.regalloc2_semantics.specs.Runs.{Way, end_of, IsPath, Stamp, IsWrittenFirst, source_before, after_moves, cells_before}
 use Rattle.regalloc2_carry.specs.BlockByPoints.{at_point, listed}
 use Rattle.regalloc2_semantics.specs.Live.{IsLive}
 use Rattle.regalloc2_semantics.specs.Sound.{Undefined}
 use Rattle.regalloc2_carry.specs.Live.{HasEntered, LiveStandInPlaces}
-use Rattle.regalloc2_semantics.specs.Laws.{ReadsAgreeOnPaths}
+use Rattle.regalloc2_semantics.specs.Laws.{ReadsAgreeOnPaths, Cells}
 use Rattle.regalloc2_carry.specs.Live.{HasEntered}
 use Rattle.regalloc2_carry.specs.Stores.{store_moves}
 use Rattle.regalloc2_carry.proofs.LiveIn.{live_is_used}

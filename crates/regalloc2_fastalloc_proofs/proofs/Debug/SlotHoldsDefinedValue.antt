@@ -8,7 +8,7 @@ use Rattle.regalloc2_names.specs.Place.{Place, InSlot, before}
 use Rattle.regalloc2_function.specs.FunctionValue.{FunctionValue, IsLimited, block_at, inst_at, no_operand, op_at, last_of}
 use Rattle.regalloc2_function.specs.Machine.{MachineValue}
 use Rattle.regalloc2_function.specs.OutputValue.{MoveValue, allocs_of}
-use Rattle.regalloc2_semantics.specs.Runs.{Way, Onward, ToSuccessor, end_of, IsPath, IsWrittenFirst, arguments_at, source_before, Cells, cells_before}
+use Rattle.regalloc2_semantics.specs.Runs.{Way, Onward, ToSuccessor, end_of, IsPath, IsWrittenFirst, arguments_at, source_before, cells_before}
 use Rattle.regalloc2_semantics.specs.Live.{DefinesAt}
 use Rattle.regalloc2_function.specs.WellFormed.{IsWellFormed}
 use Rattle.regalloc2_carry.specs.Listing.{Item, exec_item}
@@ -19,7 +19,7 @@ use Rattle.regalloc2_carry.proofs.MoveInFront.{walked-more, with_moves-more, wit
 use Rattle.regalloc2_carry.specs.Carry.{Carries}
 use Rattle.regalloc2_semantics.specs.Sound.{Undefined, target_at, HasSoundBlocks}
 use Rattle.regalloc2_carry.specs.BlockByPoints.{at_point, walked, before_part, Rising, listed}
-use Rattle.regalloc2_semantics.specs.Laws.{ReadsAgreeOnPaths}
+use Rattle.regalloc2_semantics.specs.Laws.{ReadsAgreeOnPaths, Cells}
 use Rattle.regalloc2_carry.proofs.SingleDef.{Made, one_operand, not_both, reads_defined}
 use Rattle.regalloc2_carry.proofs.SingleDef as defined
 use Rattle.regalloc2_carry.proofs.UnwrittenPlaces.{NoMoveTo, moves_kept}

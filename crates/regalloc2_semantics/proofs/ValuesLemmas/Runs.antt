@@ -10,14 +10,12 @@ use Rattle.regalloc2_names.specs.Operand.{OperandValue, is_late, is_reading}
 use Rattle.regalloc2_names.specs.Place.{Place}
 use Rattle.regalloc2_function.specs.FunctionValue.{FunctionValue, block_at, inst_at, op_at}
 use Rattle.regalloc2_function.specs.OutputValue.{OutputValue, allocs_of, place_at}
-use Rattle.regalloc2_semantics.specs.Runs.{Way, Onward, ToSuccessor, Location, end_of, next_of, last_inst, IsPath, HasWay, Stamp, read_of, source_before}
-use Rattle.regalloc2_semantics.specs.Runs.{source_after, source_read, Cells, after_moves, after_writes, moves_at, cells_early, cells_late, cells_before}
+use Rattle.regalloc2_semantics.specs.Runs.{Way, Onward, ToSuccessor, Location, end_of, next_of, last_inst, IsPath, HasWay, Stamp, read_of, source_before, source_after, source_read, after_moves, after_writes, moves_at, cells_early, cells_late, cells_before, after_clobbers, over_edge, write_at}
 use Rattle.regalloc2_semantics.specs.Laws.{ReadsAgree}
 use Rattle.regalloc2_semantics.specs.Interpreters.{History, InstMeaning, State, read_by, is_late_use, edge_to, way_on, vreg_reads, source_told, vreg_written}
-use Rattle.regalloc2_semantics.specs.Interpreters.{source_step, source_run, place_found, place_reads, place_told, place_step, place_run, passed_over}
-use Rattle.regalloc2_semantics.specs.Interpreters.{numbers_moved, written_to, numbers_clobbered}
+use Rattle.regalloc2_semantics.specs.Interpreters.{source_step, source_run, place_found, place_reads, place_told, place_step, place_run}
 use Rattle.regalloc2_semantics.specs.Alike.{AreAlike, HaveRunAlike, ReadsEarlier, FaithfulRunAlike, WellFormedRunAlike}
-use Rattle.regalloc2_semantics.specs.Laws.{AgreeingReadsFindEarlier}
+use Rattle.regalloc2_semantics.specs.Laws.{AgreeingReadsFindEarlier, Cells}
 use Rattle.regalloc2_semantics.proofs.ValuesLemmas.Standing.{Stands, HoldNumbers, moves_stand, early_stand, writes_stand, clobbers_stand, defs_hold}
 use Rattle.regalloc2_semantics.proofs.ValuesLemmas.Standing.{edge_holds, Made, more, still, newest, before_defs, before_writes, before_clobbers}
 
@@ -127,7 +125,7 @@ module _ (f : FunctionValue) (out : OutputValue) (meaning : InstMeaning) (noise 
     found_stand : Stands (Made (length ws) t.number) (cells_early f out (end_of f ws) (cells_before f out ws))
         (place_found f out meaning noise (place_at_end ws h m))
     found_stand = early_stand (Made (length ws) t.number) (noise h) places 0 ops (after_moves (moves_at f out (end_of f ws)) (cells_before f out ws))
-        (numbers_moved (moves_at f out (end_of f ws)) m)
+        (after_moves (moves_at f out (end_of f ws)) m)
         (moves_stand (Made (length ws) t.number) (moves_at f out (end_of f ws)) (cells_before f out ws) m t.stands)
 
     reads_alike : place_reads f out meaning noise (place_at_end ws h m) ≡ vreg_reads f meaning (source_at ws h e)
@@ -148,16 +146,16 @@ module _ (f : FunctionValue) (out : OutputValue) (meaning : InstMeaning) (noise 
 
     -- the places' numbers after the instruction, given that history
     abbrev written_at : History → Place → ℕ
-    written_at x = numbers_clobbered (inst_at f (end_of f ws).inst).clobbers (noise x)
-        (written_to (meaning.writes x) places 0 ops (place_found f out meaning noise (place_at_end ws h m)))
+    written_at x = after_clobbers (inst_at f (end_of f ws).inst).clobbers (noise x)
+        (after_writes (meaning.writes x) places 0 ops (place_found f out meaning noise (place_at_end ws h m)))
 
     later_stand : Stands (Made (length ws + 1) numbered) (cells_late f out (end_of f ws) (length ws) (cells_early f out (end_of f ws) (cells_before f out ws)))
         (written_at told)
     later_stand =
         let cells : Cells = cells_early f out (end_of f ws) (cells_before f out ws) in
         let place : Place → ℕ = place_found f out meaning noise (place_at_end ws h m) in
-        clobbers_stand (Made (length ws + 1) numbered) (inst_at f (end_of f ws).inst).clobbers (noise told) (after_writes places (length ws) 0 ops cells)
-        (written_to (meaning.writes told) places 0 ops place)
+        clobbers_stand (Made (length ws + 1) numbered) (inst_at f (end_of f ws).inst).clobbers (noise told) (after_writes (write_at (length ws)) places 0 ops cells)
+        (after_writes (meaning.writes told) places 0 ops place)
         (writes_stand (Made (length ws + 1) numbered) (meaning.writes told) places (length ws) 0 ops cells place
         (newest (length ws) (meaning.writes told) t.number)
         (λ q s x. still (length ws) (meaning.writes told) t.number s (place q) (found_stand q s x)))
@@ -193,7 +191,7 @@ module _ (f : FunctionValue) (out : OutputValue) (meaning : InstMeaning) (noise 
     }
 
     -- one step further
-    told_on : (w : Way) → Told f out (w ∷ ws) (passed_over f (end_of f ws) w (vreg_written f meaning (source_at ws h e))) (written_at told)
+    told_on : (w : Way) → Told f out (w ∷ ws) (over_edge f (end_of f ws) w (vreg_written f meaning (source_at ws h e))) (written_at told)
     unfolding source_before cells_before
     told_on w =
         let len : suc (length ws) ≡ length ws + 1 = omega arith in
@@ -225,7 +223,7 @@ module _ (f : FunctionValue) (out : OutputValue) (meaning : InstMeaning) (noise 
             Along (option_map (λ w. record {
               at = next_of f (end_of f ws) w;
               history = source_told f meaning (source_at ws h e);
-              numbers = passed_over f (end_of f ws) w (vreg_written f meaning (source_at ws h e));
+              numbers = over_edge f (end_of f ws) w (vreg_written f meaning (source_at ws h e));
             }) o)
             (option_map (λ w. record {
               at = next_of f (end_of f ws) w;

@@ -1,5 +1,5 @@
 -- A place or vreg that holds a write holds the number of the write.
-use Rattle.std.proofs.Common.{ℕ, zero, suc, ◌≡◌, ◌+◌, ◌<◌, Bool, true, false, cond, None, Some, List, [], ◌∷◌, refl, sym, ap, arith, nat_eq, eq-eqb, subst, ◌∙◌}
+use Rattle.std.proofs.Common.{ℕ, ◌≡◌, ◌+◌, ◌<◌, Bool, true, false, cond, None, Some, List, [], ◌∷◌, refl, sym, ap, arith, nat_eq, eq-eqb, subst, ◌∙◌}
 use Rattle.std.specs.Prelude.{Option, ◌&&◌, not}
 use Rattle.regalloc2_names.specs.Register.{VirtualRegister, is_vreg, has_register}
 use Rattle.regalloc2_names.specs.declared.sets.PRegSet.{PRegSet}
@@ -7,10 +7,9 @@ use Rattle.regalloc2_names.specs.Operand.{OperandValue, is_def, is_late}
 use Rattle.regalloc2_names.specs.Place.{Place, NoPlace, InRegister, InSlot, is_place}
 use Rattle.regalloc2_function.specs.FunctionValue.{FunctionValue}
 use Rattle.regalloc2_function.specs.OutputValue.{MoveValue, place_at}
-use Rattle.regalloc2_semantics.specs.Runs.{Way, Onward, ToSuccessor, Location, Stamp, Source, assigned, after_defs, passed, over_edge, Cells, stored}
+use Rattle.regalloc2_semantics.specs.Runs.{Way, Onward, ToSuccessor, Location, Stamp, assigned, after_defs, passed, over_edge, stored, write_at}
 use Rattle.regalloc2_semantics.specs.Runs.{after_moves, after_early_defs, after_writes, after_clobbers}
-use Rattle.regalloc2_semantics.specs.Interpreters.{number_set, numbers_defined, passed_on, passed_over, place_set, numbers_moved, disturbed, written_to}
-use Rattle.regalloc2_semantics.specs.Interpreters.{numbers_clobbered}
+use Rattle.regalloc2_semantics.specs.Laws.{Cells, Source}
 
 -- which number a write made
 abbrev pub Value : Type 1
@@ -36,24 +35,24 @@ none_stands R n t e = absurd cc
 
 -- a place takes a write and its number
 set_stands : (R : Value) (c : Cells) (m : Place → ℕ) (to : Place) (x : Option Stamp) (n : ℕ) → Stands R c m → ((t : Stamp) → x ≡ Some t → R t n) →
-    Stands R (stored c to x) (place_set m to n)
-unfolding stored place_set
+    Stands R (stored c to x) (stored m to n)
+unfolding stored
 set_stands R c m NoPlace x n h g = h
 set_stands R c m (InRegister r) x n h g = λ q s e. chosen R (is_place (InRegister r) q) x (c q) n (m q) s g (h q) e
 set_stands R c m (InSlot k) x n h g = λ q s e. chosen R (is_place (InSlot k) q) x (c q) n (m q) s g (h q) e
 
-pub moves_stand : (R : Value) (es : List MoveValue) (c : Cells) (m : Place → ℕ) → Stands R c m → Stands R (after_moves es c) (numbers_moved es m)
-unfolding after_moves numbers_moved
+pub moves_stand : (R : Value) (es : List MoveValue) (c : Cells) (m : Place → ℕ) → Stands R c m → Stands R (after_moves es c) (after_moves es m)
+unfolding after_moves
 moves_stand R [] c m h = h
 moves_stand R (e ∷ es) c m h = moves_stand R es _ _ (set_stands R c m e.to (c e.from) (m e.from) h (h e.from))
 
 pub early_stand : (R : Value) (noise : Place → ℕ) (places : List Place) (k : ℕ) (os : List OperandValue) (c : Cells) (m : Place → ℕ) → Stands R c m →
-    Stands R (after_early_defs places k os c) (disturbed noise places k os m)
-unfolding after_early_defs disturbed
+    Stands R (after_early_defs (λ p. None) places k os c) (after_early_defs noise places k os m)
+unfolding after_early_defs
 early_stand R noise places k [] c m h = h
 early_stand R noise places k (o ∷ os) c m h = early_stand R noise places (k + 1) os _ _ (pick (is_def o.kind && not (is_late o.position)))
   where
-    pick : (b : Bool) → Stands R (cond b (stored c (place_at places k) None) c) (cond b (place_set m (place_at places k) (noise (place_at places k))) m)
+    pick : (b : Bool) → Stands R (cond b (stored c (place_at places k) None) c) (cond b (stored m (place_at places k) (noise (place_at places k))) m)
     pick true = set_stands R c m (place_at places k) None _ h (none_stands R _)
     pick false = h
 
@@ -64,19 +63,19 @@ one R step k n g t e = let i : ◌≡◌ {A = Stamp} (record { step = step; oper
 
 pub writes_stand : (R : Value) (written : ℕ → ℕ) (places : List Place) (step k : ℕ) (os : List OperandValue) (c : Cells) (m : Place → ℕ) →
     ((j : ℕ) → R (record { step = step; operand = j }) (written j)) → Stands R c m →
-    Stands R (after_writes places step k os c) (written_to written places k os m)
-unfolding after_writes written_to
+    Stands R (after_writes (write_at step) places k os c) (after_writes written places k os m)
+unfolding after_writes
 writes_stand R written places step k [] c m g h = h
 writes_stand R written places step k (o ∷ os) c m g h = writes_stand R written places step (k + 1) os _ _ g (pick (is_def o.kind))
   where
     pick : (b : Bool) → Stands R (cond b (stored c (place_at places k) (Some (record { step = step; operand = k }))) c)
-        (cond b (place_set m (place_at places k) (written k)) m)
+        (cond b (stored m (place_at places k) (written k)) m)
     pick true = set_stands R c m (place_at places k) _ (written k) h (one R step k (written k) (g k))
     pick false = h
 
 pub clobbers_stand : (R : Value) (set : PRegSet) (noise : Place → ℕ) (c : Cells) (m : Place → ℕ) → Stands R c m →
-    Stands R (after_clobbers set c) (numbers_clobbered set noise m)
-unfolding after_clobbers numbers_clobbered
+    Stands R (after_clobbers set (λ p. None) c) (after_clobbers set noise m)
+unfolding after_clobbers
 clobbers_stand R set noise c m h NoPlace s e = h NoPlace s e
 clobbers_stand R set noise c m h (InRegister r) s e = chosen R (has_register set r) None (c (InRegister r)) (noise (InRegister r)) (m (InRegister r)) s
     (none_stands R _) (h (InRegister r)) e
@@ -84,29 +83,29 @@ clobbers_stand R set noise c m h (InSlot n) s e = h (InSlot n) s e
 
 -- a vreg takes a write and its number
 assigned_hold : (R : Value) (c : Source) (m : VirtualRegister → ℕ) (v : VirtualRegister) (x : Option Stamp) (n : ℕ) → HoldNumbers R c m →
-    ((t : Stamp) → x ≡ Some t → R t n) → HoldNumbers R (assigned c v x) (number_set m v n)
+    ((t : Stamp) → x ≡ Some t → R t n) → HoldNumbers R (assigned c v x) (assigned m v n)
 assigned_hold R c m v x n h g q s e = chosen R (is_vreg v q) x (c q) n (m q) s g (h q) e
 
 pub defs_hold : (R : Value) (written : ℕ → ℕ) (step k : ℕ) (os : List OperandValue) (c : Source) (m : VirtualRegister → ℕ) →
-    ((j : ℕ) → R (record { step = step; operand = j }) (written j)) → HoldNumbers R c m → HoldNumbers R (after_defs step k os c) (numbers_defined written k os m)
-unfolding after_defs numbers_defined
+    ((j : ℕ) → R (record { step = step; operand = j }) (written j)) → HoldNumbers R c m → HoldNumbers R (after_defs (write_at step) k os c) (after_defs written k os m)
+unfolding after_defs
 defs_hold R written step k [] c m g h = h
 defs_hold R written step k (o ∷ os) c m g h = defs_hold R written step (k + 1) os _ _ g (pick (is_def o.kind))
   where
-    pick : (b : Bool) → HoldNumbers R (cond b (assigned c o.vreg (Some (record { step = step; operand = k }))) c) (cond b (number_set m o.vreg (written k)) m)
+    pick : (b : Bool) → HoldNumbers R (cond b (assigned c o.vreg (Some (record { step = step; operand = k }))) c) (cond b (assigned m o.vreg (written k)) m)
     pick true = assigned_hold R c m o.vreg _ (written k) h (one R step k (written k) (g k))
     pick false = h
 
 passed_hold : (R : Value) (ps arguments : List VirtualRegister) (before after : Source) (b a : VirtualRegister → ℕ) → HoldNumbers R before b → HoldNumbers R after a →
-    HoldNumbers R (passed ps arguments before after) (passed_on ps arguments b a)
-unfolding passed passed_on
+    HoldNumbers R (passed ps arguments before after) (passed ps arguments b a)
+unfolding passed
 passed_hold R [] arguments before after b a h g = g
 passed_hold R (p ∷ ps) [] before after b a h g = g
 passed_hold R (p ∷ ps) (x ∷ rest) before after b a h g = passed_hold R ps rest before _ b _ h (assigned_hold R after a p (before x) (b x) g (h x))
 
 pub edge_holds : (R : Value) (f : FunctionValue) (l : Location) (w : Way) (c : Source) (m : VirtualRegister → ℕ) → HoldNumbers R c m →
-    HoldNumbers R (over_edge f l w c) (passed_over f l w m)
-unfolding over_edge passed_over
+    HoldNumbers R (over_edge f l w c) (over_edge f l w m)
+unfolding over_edge
 edge_holds R f l Onward c m h = h
 edge_holds R f l (ToSuccessor k) c m h = passed_hold R _ _ c c m m h h
 
@@ -134,7 +133,7 @@ older true step k x s l e = let i : ◌≡◌ {A = Stamp} (record { step = step;
     let j : step ≡ s.step = ap (λ (t : Stamp). t.step) i in absurd (omega (arith, l, j))
 older false step k x s l e = e
 
-pub before_defs : (step k : ℕ) (os : List OperandValue) (c : Source) (v : VirtualRegister) (s : Stamp) → s.step < step → after_defs step k os c v ≡ Some s →
+pub before_defs : (step k : ℕ) (os : List OperandValue) (c : Source) (v : VirtualRegister) (s : Stamp) → s.step < step → after_defs (write_at step) k os c v ≡ Some s →
     c v ≡ Some s
 unfolding after_defs
 before_defs step k [] c v s l e = e
@@ -152,7 +151,7 @@ before_store step k c (InRegister r) p s l e = older (is_place (InRegister r) p)
 before_store step k c (InSlot n) p s l e = older (is_place (InSlot n) p) step k (c p) s l e
 
 pub before_writes : (places : List Place) (step k : ℕ) (os : List OperandValue) (c : Cells) (p : Place) (s : Stamp) → s.step < step →
-    after_writes places step k os c p ≡ Some s → c p ≡ Some s
+    after_writes (write_at step) places k os c p ≡ Some s → c p ≡ Some s
 unfolding after_writes
 before_writes places step k [] c p s l e = e
 before_writes places step k (o ∷ os) c p s l e = pick (is_def o.kind) (before_writes places step (k + 1) os _ p s l e)
@@ -162,7 +161,7 @@ before_writes places step k (o ∷ os) c p s l e = pick (is_def o.kind) (before_
     pick false g = g
 
 -- a place that holds a write after the clobbers held it before them
-pub before_clobbers : (set : PRegSet) (c : Cells) (p : Place) (s : Stamp) → after_clobbers set c p ≡ Some s → c p ≡ Some s
+pub before_clobbers : (set : PRegSet) (c : Cells) (p : Place) (s : Stamp) → after_clobbers set (λ p. None) c p ≡ Some s → c p ≡ Some s
 unfolding after_clobbers
 before_clobbers set c NoPlace s e = e
 before_clobbers set c (InRegister r) s e = pick (has_register set r) e

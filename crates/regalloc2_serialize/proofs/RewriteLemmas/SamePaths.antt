@@ -7,10 +7,11 @@ use Rattle.std.proofs.lemmas.List.Sums.{fails_before_first, passes_at_first}
 use Rattle.regalloc2_names.specs.Register.{VirtualRegister, is_vreg}
 use Rattle.regalloc2_names.specs.Operand.{OperandValue, is_def}
 use Rattle.regalloc2_function.specs.FunctionValue.{FunctionValue, block_at, inst_at}
-use Rattle.regalloc2_semantics.specs.Runs.{Way, Onward, ToSuccessor, Location, first_of, next_of, end_of, HasWay, IsPath, last_inst, Stamp, Source, assigned}
+use Rattle.regalloc2_semantics.specs.Runs.{Way, Onward, ToSuccessor, Location, first_of, next_of, end_of, HasWay, IsPath, last_inst, Stamp, assigned, write_at}
 use Rattle.regalloc2_semantics.specs.Runs.{after_defs, arguments_at, passed, over_edge, source_before}
 use Rattle.regalloc2_function.specs.WellFormed.{IsFramed}
 use Rattle.regalloc2_serialize.specs.Rewrite.Renumbered.{ListsEachOnce, IsRenumberedBlock, HasSamePaths, new_number}
+use Rattle.regalloc2_semantics.specs.Laws.{Source}
 
 -- sources that agree at each vreg
 pub record Alike (m n : Source) : Type 0 where
@@ -28,7 +29,7 @@ chosen true m n k l h g = h
 chosen false m n k l h g = g
 
 -- definitions keep sources alike
-pub after_defs-alike : (step k : ℕ) (os : List OperandValue) (m n : Source) → Alike m n → Alike (after_defs step k os m) (after_defs step k os n)
+pub after_defs-alike : (step k : ℕ) (os : List OperandValue) (m n : Source) → Alike m n → Alike (after_defs (write_at step) k os m) (after_defs (write_at step) k os n)
 unfolding after_defs
 after_defs-alike step k [] m n h = h
 after_defs-alike step k (o ∷ os) m n h =
@@ -190,10 +191,10 @@ module _ (f : FunctionValue) (order : List ℕ) (g : FunctionValue) (h : HasMove
   writes [] path = record { alike = λ q. refl }
   writes (w ∷ ws) path =
       let e = ends ws path.0 in
-      let defs : Alike (after_defs (length ws) 0 (last_inst g ws).operands (source_before g ws))
-      (after_defs (length ws) 0 (last_inst f ws).operands (source_before f ws)) =
+      let defs : Alike (after_defs (write_at (length ws)) 0 (last_inst g ws).operands (source_before g ws))
+      (after_defs (write_at (length ws)) 0 (last_inst f ws).operands (source_before f ws)) =
       rw (insts ws path.0) (after_defs-alike (length ws) 0 (last_inst f ws).operands _ _ (writes ws path.0)) in
-      let after : Source = after_defs (length ws) 0 (last_inst g ws).operands (source_before g ws) in
+      let after : Source = after_defs (write_at (length ws)) 0 (last_inst g ws).operands (source_before g ws) in
       subst (λ l. Alike (over_edge g l w after) (source_before f (w ∷ ws))) (sym e.same) (edge-alike (end_of f ws) w _ _ e.is path.1 defs)
 
   -- a function with its blocks in another order has the same paths

@@ -6,12 +6,13 @@ use Rattle.regalloc2_index.specs.Range.{Span}
 use Rattle.regalloc2_names.specs.Register.{VirtualRegister, is_vreg}
 use Rattle.regalloc2_names.specs.Operand.{OperandValue, is_def}
 use Rattle.regalloc2_function.specs.FunctionValue.{FunctionValue, InstValue, block_at, inst_at}
-use Rattle.regalloc2_semantics.specs.Runs.{Way, Onward, ToSuccessor, Location, first_of, next_of, end_of, HasWay, IsPath, last_inst, Source, Stamp}
+use Rattle.regalloc2_semantics.specs.Runs.{Way, Onward, ToSuccessor, Location, first_of, next_of, end_of, HasWay, IsPath, last_inst, Stamp, write_at}
 use Rattle.regalloc2_semantics.specs.Runs.{after_defs, arguments_at, assigned, over_edge, passed, source_after, source_before}
 use Rattle.regalloc2_function.specs.WellFormed.{IsFramed}
 use Rattle.regalloc2_serialize.specs.Rewrite.SplitEdges.{HasSplitPaths, IsBetween, IsKeptBlock, is_critical, split_stamp, split_step, split_path}
 use Rattle.regalloc2_serialize.proofs.RewriteLemmas.Numbers.{not-same, yes-same}
 use Rattle.regalloc2_serialize.proofs.RewriteLemmas.SplitInsts.{ends-within}
+use Rattle.regalloc2_semantics.specs.Laws.{Source}
 
 -- a structurally valid function, and one with its blocks and others on its critical edges
 pub record HasSplitBlocks (f g : FunctionValue) : Type 0 where
@@ -53,7 +54,7 @@ module _ (bound : ℕ) (move : Stamp → Stamp) where
   -- definitions of steps that are named so keep maps in agreement
   pub after_defs-agree : (step there k : ℕ) (os : List OperandValue) (m n : Source) →
       ((k : ℕ) → move (record { step = step; operand = k }) ≡ record { step = there; operand = k }) → step < bound → Agree bound move m n →
-      Agree bound move (after_defs there k os m) (after_defs step k os n)
+      Agree bound move (after_defs (write_at there) k os m) (after_defs (write_at step) k os n)
   unfolding after_defs
   after_defs-agree step there k [] m n named small agree = agree
   after_defs-agree step there k (o ∷ os) m n named small agree =
@@ -261,7 +262,7 @@ module _ (f g : FunctionValue) (h : HasSplitBlocks f g) where
   over-split : (ws : List Way) (k : ℕ) (m : Source) → (e : Goes ws) → HasWay f (end_of f ws) (ToSuccessor k) → is_critical f (end_of f ws).block k ≡ true →
       (s : ℕ) →
       over_edge g (next_of g (end_of g (split_path f ws)) (ToSuccessor k)) (ToSuccessor 0)
-      (after_defs s 0 (last_inst g (ToSuccessor k ∷ split_path f ws)).operands (over_edge g (end_of g (split_path f ws)) (ToSuccessor k) m))
+      (after_defs (write_at s) 0 (last_inst g (ToSuccessor k ∷ split_path f ws)).operands (over_edge g (end_of g (split_path f ws)) (ToSuccessor k) m))
       ≡ over_edge f (end_of f ws) (ToSuccessor k) m
   unfolding over_edge passed after_defs
   over-split ws k m e way critical s =
@@ -278,8 +279,8 @@ module _ (f g : FunctionValue) (h : HasSplitBlocks f g) where
       let params : (block_at g (slice_index (block_at g n).succs 0)).params ≡ (block_at f t).params =
       ap (λ (c : ℕ). (block_at g c).params) to ∙ (h.kept t (h.framed.successors.1 b e.is.block k 0 way.1)).params in
       ap (λ x. over_edge g (next_of g (end_of g (split_path f ws)) (ToSuccessor k)) (ToSuccessor 0)
-      (after_defs s 0 (last_inst g (ToSuccessor k ∷ split_path f ws)).operands x)) first
-      ∙ ap (λ os. over_edge g (next_of g (end_of g (split_path f ws)) (ToSuccessor k)) (ToSuccessor 0) (after_defs s 0 os m)) operands
+      (after_defs (write_at s) 0 (last_inst g (ToSuccessor k ∷ split_path f ws)).operands x)) first
+      ∙ ap (λ os. over_edge g (next_of g (end_of g (split_path f ws)) (ToSuccessor k)) (ToSuccessor 0) (after_defs (write_at s) 0 os m)) operands
       ∙ ap (λ (l : Location). over_edge g l (ToSuccessor 0) m) at
       ∙ ap (λ ps. passed ps (arguments_at g n 0) m m) params ∙ ap (λ xs. passed (block_at f t).params xs m m) between.arguments
 
@@ -306,7 +307,7 @@ module _ (f g : FunctionValue) (h : HasSplitBlocks f g) where
       (λ s less. ap (λ (n : ℕ). record { step = n; operand = s.operand }) (sym (earlier-step w ws s.step (omega (arith, less))))) before in
       let named : (k : ℕ) → next (record { step = length ws; operand = k }) ≡ record { step = length (split_path f ws); operand = k } =
       λ k. ap (λ (n : ℕ). record { step = n; operand = k }) (earlier-step w ws (length ws) (omega arith) ∙ last-step ws) in
-      subst (λ (i : InstValue). Agree (length (w ∷ ws)) next (after_defs (length (split_path f ws)) 0 i.operands (source_before g (split_path f ws))) (source_after f ws))
+      subst (λ (i : InstValue). Agree (length (w ∷ ws)) next (after_defs (write_at (length (split_path f ws))) 0 i.operands (source_before g (split_path f ws))) (source_after f ws))
       (sym (last-same ws e))
       (after_defs-agree (length (w ∷ ws)) next (length ws) (length (split_path f ws)) 0 (last_inst f ws).operands (source_before g (split_path f ws))
       (source_before f ws) named (omega arith) moved)

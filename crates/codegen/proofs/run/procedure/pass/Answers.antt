@@ -1,9 +1,9 @@
 use Rattle.std.proofs.lemmas.Result.{IfOk-from_err}
 use Rattle.std.proofs.Common.{ℕ, ◌≡◌, ◌+◌, ◌<◌, List, length, map, get_or, drop, sym, ap, ◌∙◌, arith}
 use Rattle.std.proofs.lemmas.List.{length-map}
-use Rattle.regalloc2_semantics.specs.Interpreters.{passed_on}
 use Rattle.codegen.specs.Run.States.{numbers_by_vreg}
 use Rattle.codegen.proofs.RunLemmas.Written.{pass_more, pass_end}
+use Rattle.regalloc2_semantics.specs.Runs.{passed}
 use Rattle.codegen.proofs.run.procedure.pass.Goals as goal
 
 pub loop-at-preserved : goal.loop-at-preserved
@@ -21,7 +21,7 @@ loop-at-preserved c =
     c.loop-at.invariant
     ∙ pass_more ps qs k c.index-params-at.result n before (numbers_by_vreg c.loop-at.numbers) less also c.index-params-at.is
     (c.index.ensures ∙ ap (λ (ns : List ℕ). get_or ns k n) made)
-    ∙ ap (passed_on (drop (k + 1) ps) (drop (k + 1) qs) before) (sym c.in_ok-put.ensures)
+    ∙ ap (passed (drop (k + 1) ps) (drop (k + 1) qs) before) (sym c.in_ok-put.ensures)
 
 pub returns : goal.returns
 returns c =
