@@ -13,7 +13,7 @@ use Rattle.regalloc2_function.specs.FunctionValue.{FunctionValue, IsLimited, Lab
 use Rattle.regalloc2_function.specs.Machine.{MachineValue}
 use Rattle.regalloc2_function.specs.OutputValue.{DebugLocation, OutputValue, allocs_of, place_at}
 use Rattle.regalloc2_semantics.specs.Runs.{IsWrittenFirst, Location}
-use Rattle.regalloc2_semantics.specs.Debug.{ShowsValue}
+use Rattle.regalloc2_semantics.specs.Debug.{ShowsValue, AreDebugLocations}
 use Rattle.regalloc2_semantics.specs.Live.{NamesAt, PassesAt}
 use Rattle.regalloc2_semantics.specs.Places.{IsProperPlace, Owner, OfVReg}
 use Rattle.regalloc2_function.specs.WellFormed.{IsWellFormed}
@@ -33,7 +33,6 @@ use Rattle.regalloc2_fastalloc_proofs.proofs.Safety.OutputOfWalk.{IsOutputOfWalk
 use Rattle.regalloc2_fastalloc_proofs.proofs.Slots.ApartSlotsAreOwned.{OwnsSlots}
 use Rattle.regalloc2_fastalloc_proofs.proofs.Safety.InstsKeepSafe.{WalkKept, place_of}
 use Rattle.regalloc2_fastalloc.specs.DebugLocations.{AreLocated, location_shown, operand_place, place_by, place_shown}
-use Rattle.regalloc2_fastalloc.specs.Promise.{ShowsLabels}
 use Rattle.regalloc2_fastalloc.proofs.DebugLocationsFound.{pointed_made}
 
 -- a vreg that shows the value of v, is an operand of it; an argument alone is in a slot
@@ -85,6 +84,11 @@ module _ (env : MachineValue) (f : FunctionValue) (limited : IsLimited f) (ok : 
 -- a place of a vreg: an operand that names it is there, or it is the slot that it owns
 abbrev IsPlaceOf : FunctionValue → OutputValue → (ℕ → Owner) → VirtualRegister → Place → Type 0
 IsPlaceOf f out owner v p = ((i k : ℕ) × NamesAt f v i k × (place_at (allocs_of out i) k ≡ p)) ⊎ ((n : ℕ) × (p ≡ InSlot n) × (owner n ≡ OfVReg v))
+
+-- there is a debug location for each label that is kept; it names a place of its vreg, which holds the vreg's value
+abbrev pub ShowsLabels : FunctionValue → MachineValue → OutputValue → (ℕ → Owner) → Type 0
+ShowsLabels f env out owner = AreDebugLocations f (λ l d. IsProperPlace env out l.vreg.class d.place × IsPlaceOf f out owner l.vreg d.place
+    × (IsWrittenFirst f → ShowsValue f out l.vreg d.place)) out
 
 module _ (env : MachineValue) (f : FunctionValue) (limited : IsLimited f) (ok : IsWellFormed env f) (May : ℕ → Type 0) (t : StateValue) (out : OutputValue)
     (m : IsOutputOfWalk f env (Made f) May t out)

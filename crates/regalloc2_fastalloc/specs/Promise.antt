@@ -1,6 +1,6 @@
 -- What `run` guarantees of its outputs: the main theorem's conclusion. Its terms are in regalloc2_semantics/specs,
 -- in reading order: `Runs`, `Faithful`, `Values`, `Places`, `Live`, `Debug`; values of functions, machines and outputs in regalloc2_function/specs.
-use Rattle.std.specs.Prelude.{ℕ, ◌≡◌, ◌<◌, ◌≤◌, ◌^◌, ◌⊎◌, List, All, IsSome, length, false, [], nat_eq, ◌≢◌, ◌∷◌, Contains, zip, slice_index}
+use Rattle.std.specs.Prelude.{ℕ, ◌≡◌, ◌<◌, ◌≤◌, ◌^◌, ◌⊎◌, List, All, IsSome, length, true, false, [], nat_eq, ◌≢◌, ◌∷◌, Contains, zip, slice_index}
 use Rattle.regalloc2_names.specs.Register.{VirtualRegister, Register, has_register}
 use Rattle.regalloc2_names.specs.Place.{Place, InSlot, before}
 use Rattle.std.specs.List.{IsDistinct}
@@ -8,9 +8,9 @@ use Rattle.regalloc2_names.specs.declared.OperandConstraint.TheVariants.{Reg}
 use Rattle.regalloc2_names.specs.declared.RegClass.{RegClass}
 use Rattle.regalloc2_function.specs.FunctionValue.{FunctionValue, block_at, inst_at, op_at}
 use Rattle.regalloc2_function.specs.Machine.{MachineValue, allocatable_count}
-use Rattle.regalloc2_function.specs.OutputValue.{OutputValue, IsInOrder, allocs_of, place_at}
+use Rattle.regalloc2_function.specs.OutputValue.{OutputValue, IsInOrder, allocs_of, place_at, is_listed_at}
 use Rattle.regalloc2_semantics.specs.Runs.{Way, end_of, IsPath, IsWrittenFirst, arguments_at, ToSuccessor, Location, source_before, cells_before, source_read}
-use Rattle.regalloc2_semantics.specs.Faithful.{ConstraintsMet, EditsAreListed, IsStackToStack, IsFaithful}
+use Rattle.regalloc2_semantics.specs.Faithful.{ConstraintsMet, IsStackToStack, IsFaithful}
 use Rattle.regalloc2_semantics.specs.Debug.{ShowsValue, AreDebugLocations}
 use Rattle.regalloc2_semantics.specs.Places.{IsProperPlace, PlacesAreProper, Owner, OfVReg, OfBranch, IsSlotOf, AreSlotsOwned, units_at_most}
 use Rattle.regalloc2_semantics.specs.Values.{Meaning, SameNumbers, numbers}
@@ -54,14 +54,6 @@ pub record ServesBranch (out : OutputValue) (n i index : ℕ) : Type 0 where
   pub no_operand : All (λ p. p ≢ InSlot n) out.allocs
   pub no_location : All (λ d. d.place ≢ InSlot n) out.debug_locations
 
--- There is a debug location for each label that is kept, each from its vreg's first point to its last one, by rising
--- label, and as listed where labels are equal. Each place is valid, and that of an operand that names the vreg, or the slot that the vreg owns; and if no path from the entry
--- reads or passes a vreg before writing it, it holds that vreg's value.
-abbrev pub ShowsLabels : FunctionValue → MachineValue → OutputValue → (ℕ → Owner) → Type 0
-ShowsLabels f env out owner = AreDebugLocations f (λ l d. IsProperPlace env out l.vreg.class d.place
-    × (((i k : ℕ) × NamesAt f l.vreg i k × (place_at (allocs_of out i) k ≡ d.place)) ⊎ ((n : ℕ) × (d.place ≡ InSlot n) × (owner n ≡ OfVReg l.vreg)))
-    × (IsWrittenFirst f → ShowsValue f out l.vreg d.place)) out
-
 -- A function of one block, all of whose operands are under `Reg`, without clobbers, which names no more vregs of a class than
 -- registers of it may be allocated.
 pub record HasRegistersForAll (f : FunctionValue) (env : MachineValue) : Type 0 where
@@ -74,9 +66,10 @@ pub record HasRegistersForAll (f : FunctionValue) (env : MachineValue) : Type 0 
 -- The whole guarantee about an output. Only `faithful`, `live` and the last part of `labels` have a premise: that no
 -- path from the entry reads or passes a vreg before writing it.
 --     in_order            offsets and moves are well-ordered, and no move names a missing place
---     constraints         each operand's place meets its constraint, whether a path reaches it or not; so an operand that names a register and no vreg is
---                         in that register, which may be none of the machine's
---     proper              each other operand's place, and each end of a move, is one of the machine's or a slot below the count
+--     constraints         each operand's place meets its constraint, whether a path reaches it or not; so an operand
+--                         that names a register and no vreg is in that register, which may be none of the machine's
+--     proper              each other operand's place, and each end of a move, is one of the machine's or a slot below
+--                         the count
 --     no_stack_to_stack   no move is stack-to-stack
 --     listed              each move is listed, none after the last instruction of a block
 --     faithful            the output runs as the function does
@@ -87,18 +80,22 @@ pub record HasRegistersForAll (f : FunctionValue) (env : MachineValue) : Type 0 
 --     slots               slots take few units
 --     unspilled           where each vreg can have a register of its own, there are no moves and no slots
 --     branch_slots        a branch owns two slots for a class at most, and only moves at the point before it name them
---     labels              there is a debug location for each label that is kept; it names a place of its vreg, which
---                         holds the vreg's value
+--     labels              there is a debug location for each label that is kept, from its vreg's first point to its last
+--                         one, by rising label, and as listed where labels are equal; its place is valid, and that of an
+--                         operand that names the vreg, or the slot that the vreg owns; it holds the vreg's value
 pub record IsAllocation (f : FunctionValue) (env : MachineValue) (out : OutputValue) : Type 0 where
   pub in_order : IsInOrder f out
   pub constraints : (i : ℕ) → i < length f.insts → ConstraintsMet f env out i
   pub proper : PlacesAreProper f env out
   pub no_stack_to_stack : All (λ e. IsStackToStack env e.1 → ⊥) out.edits
-  pub listed : EditsAreListed f out
+  pub listed : All (λ e. (b i : ℕ) × (b < length f.blocks) × ((block_at f b).range.first ≤ i) × (i < (block_at f b).range.end)
+      × (is_listed_at (block_at f b).range.first i e.0 ≡ true)) out.edits
   pub faithful : IsWrittenFirst f → RunsAsTheFunction f env out
   pub owners : AreSlotsOwned f out
   pub live : IsWrittenFirst f → LiveInSlots f out owners.owner
   pub slots : (out.num_spillslots ≤ 2 ^ 24) × (out.num_spillslots ≤ units_at_most f)
   pub unspilled : HasRegistersForAll f env → (out.edits ≡ []) × (out.num_spillslots ≡ 0)
   pub branch_slots : (n i : ℕ) (class : RegClass) (index : ℕ) → IsSlotOf out n → owners.owner n ≡ OfBranch i class index → ServesBranch out n i index
-  pub labels : ShowsLabels f env out owners.owner
+  pub labels : AreDebugLocations f (λ l d. IsProperPlace env out l.vreg.class d.place
+      × (((i k : ℕ) × NamesAt f l.vreg i k × (place_at (allocs_of out i) k ≡ d.place)) ⊎ ((n : ℕ) × (d.place ≡ InSlot n) × (owners.owner n ≡ OfVReg l.vreg)))
+      × (IsWrittenFirst f → ShowsValue f out l.vreg d.place)) out

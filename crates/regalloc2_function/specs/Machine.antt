@@ -22,7 +22,8 @@ set_of sets class = slice_index_or sets (class_code class) empty_set
 
 -- whether a register may be allocated to vregs of a class
 abbrev pub is_allocatable : MachineValue → RegClass → Register → Bool
-is_allocatable env class r = has_register (set_of env.preferred class) r || has_register (set_of env.non_preferred class) r
+is_allocatable env class r =
+    has_register (slice_index_or env.preferred (class_code class) empty_set) r || has_register (slice_index_or env.non_preferred (class_code class) empty_set) r
 
 -- the dedicated scratch register of a class
 abbrev pub scratch_of : MachineValue → RegClass → Option Register

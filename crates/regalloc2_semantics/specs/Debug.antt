@@ -2,7 +2,7 @@
 -- that holds a labelled vreg's value at each step of a path.
 -- The points are as in upstream's `vreg_to_live_inst_range`; the definition of holding the value is this project's own.
 -- `run` guarantees `AreDebugLocations`, with valid places (`IsProperPlace`) of the labels' vregs; they hold their vregs' values if no path from
--- the entry reads or passes a vreg before writing it (`ShowsLabels`).
+-- the entry reads or passes a vreg before writing it (the field `labels` of `IsAllocation`).
 use Rattle.std.specs.Prelude.{ℕ, ◌≡◌, ◌+◌, ◌/◌, ◌<◌, ◌≤◌, ◌⊎◌, List, [], ◌∷◌, length, Contains, IsPermutation, false, Some}
 use Rattle.std.specs.Ordering.{nat_cmp}
 use Rattle.std.specs.List.Sorted.{IsNonDecreasingBy, IsStableByKey}

@@ -8,8 +8,8 @@ use Rattle.regalloc2_names.specs.declared.OperandConstraint.TheVariants.{Any, Re
 use Rattle.regalloc2_names.specs.Place.{Place, NoPlace, InRegister, InSlot}
 use Rattle.regalloc2_names.specs.Register.{VirtualRegister}
 use Rattle.regalloc2_names.specs.Operand.{OperandValue, is_reading}
-use Rattle.regalloc2_function.specs.FunctionValue.{FunctionValue, block_at, inst_at, op_at}
-use Rattle.regalloc2_function.specs.OutputValue.{OutputValue, MoveValue, allocs_of, place_at, is_listed_at}
+use Rattle.regalloc2_function.specs.FunctionValue.{FunctionValue, inst_at, op_at}
+use Rattle.regalloc2_function.specs.OutputValue.{OutputValue, MoveValue, allocs_of, place_at}
 use Rattle.regalloc2_function.specs.Machine.{MachineValue, IsStackPlace, IsPlainRegister}
 use Rattle.regalloc2_semantics.specs.Runs.{Way, Location, IsPath, end_of, Stamp, read_of, source_before, source_after, cells_early, cells_late}
 use Rattle.regalloc2_semantics.specs.Runs.{cells_before, last_inst, source_read, allocated_read, moves_at}
@@ -60,8 +60,3 @@ pub record IsFaithful (f : FunctionValue) (env : MachineValue) (out : OutputValu
       is_reading o ≡ true → IsSome (source_read f ws o) × (allocated_read f out ws k o ≡ source_read f ws o)
   pub constraints : (ws : List Way) → IsPath f ws → ConstraintsMet f env out (end_of f ws).inst
   pub moves : (ws : List Way) → IsPath f ws → All (λ m. IsStackToStack env m → ⊥) (moves_at f out (end_of f ws))
-
--- each edit is listed before or after an instruction of a block, and none after a block's last one
-abbrev pub EditsAreListed : FunctionValue → OutputValue → Type 0
-EditsAreListed f out = All (λ e. (b i : ℕ) × (b < length f.blocks) × ((block_at f b).range.first ≤ i) × (i < (block_at f b).range.end)
-    × (is_listed_at (block_at f b).range.first i e.0 ≡ true)) out.edits

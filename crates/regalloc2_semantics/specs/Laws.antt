@@ -1,15 +1,20 @@
 -- Laws on the runs, and from reads that agree to a faithful output.
-use Rattle.std.specs.Prelude.{ℕ, ◌≡◌, ◌<◌, true, List, length, Some, None, Option, All, IsSome}
+use Rattle.std.specs.Prelude.{ℕ, ◌≡◌, ◌<◌, ◌≤◌, true, List, length, Some, None, Option, All, IsSome}
 use Rattle.regalloc2_names.specs.Operand.{OperandValue, is_reading}
 use Rattle.regalloc2_names.specs.Register.{VirtualRegister}
 use Rattle.regalloc2_names.specs.Place.{Place, NoPlace}
-use Rattle.regalloc2_function.specs.FunctionValue.{FunctionValue, op_at}
+use Rattle.regalloc2_function.specs.FunctionValue.{FunctionValue, block_at, op_at}
 use Rattle.regalloc2_function.specs.Machine.{MachineValue}
-use Rattle.regalloc2_function.specs.OutputValue.{OutputValue}
+use Rattle.regalloc2_function.specs.OutputValue.{OutputValue, is_listed_at}
 use Rattle.regalloc2_function.specs.WellFormed.{IsWellFormed}
 use Rattle.regalloc2_semantics.specs.Runs.{Way, last_inst, Stamp, source_read, IsPath, source_before, cells_before, allocated_read}
 use Rattle.regalloc2_semantics.specs.Faithful.{IsFaithful, ConstraintsMet, IsStackToStack}
 use Rattle.regalloc2_semantics.specs.Values.{SameNumbers}
+
+-- each edit is listed before or after an instruction of a block, and none after a block's last one
+abbrev pub EditsAreListed : FunctionValue → OutputValue → Type 0
+EditsAreListed f out = All (λ e. (b i : ℕ) × (b < length f.blocks) × ((block_at f b).range.first ≤ i) × (i < (block_at f b).range.end)
+    × (is_listed_at (block_at f b).range.first i e.0 ≡ true)) out.edits
 
 -- who wrote each vreg last, and each place, if anyone
 abbrev pub Source : Type 0

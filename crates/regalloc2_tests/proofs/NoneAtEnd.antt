@@ -8,7 +8,7 @@ use Rattle.regalloc2_names.specs.Place.{before}
 use Rattle.regalloc2_function.specs.FunctionValue.{FunctionValue, block_at}
 use Rattle.regalloc2_function.specs.WellFormed.{BlocksFollow}
 use Rattle.regalloc2_function.specs.OutputValue.{OutputValue, is_listed_at}
-use Rattle.regalloc2_semantics.specs.Faithful.{EditsAreListed}
+use Rattle.regalloc2_semantics.specs.Laws.{EditsAreListed}
 
 module _ (f : FunctionValue) (follow : BlocksFollow f) where
   next_first : (b : ℕ) → b + 1 < length f.blocks → (block_at f (b + 1)).range.first ≡ (block_at f b).range.end

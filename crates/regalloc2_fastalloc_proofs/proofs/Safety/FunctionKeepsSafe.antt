@@ -11,7 +11,7 @@ use Rattle.regalloc2_names.specs.Place.{Place, before, after}
 use Rattle.regalloc2_function.specs.FunctionValue.{FunctionValue, IsLimited, block_at, inst_at, last_of}
 use Rattle.regalloc2_function.specs.Machine.{MachineValue}
 use Rattle.regalloc2_function.specs.OutputValue.{OutputValue, is_listed_at}
-use Rattle.regalloc2_semantics.specs.Faithful.{EditsAreListed}
+use Rattle.regalloc2_semantics.specs.Laws.{EditsAreListed}
 use Rattle.regalloc2_function.specs.Fitting.{MachineFits}
 use Rattle.regalloc2_function.specs.WellFormed.{IsWellFormed, BlocksFollow}
 use Rattle.regalloc2_semantics.specs.Sound.{target_at}

@@ -18,7 +18,7 @@ use Rattle.regalloc2_carry.proofs.SingleDef.{Made}
 use Rattle.regalloc2_semantics.proofs.Faithful.{faithful}
 use Rattle.regalloc2_analysis.proofs.LiveRangesLemmas.UsesInSSA.{well_formed_ssa}
 use Rattle.regalloc2_fastalloc_state.specs.OutOfResources.{Lacks, SlotsExhaustedWith}
-use Rattle.regalloc2_fastalloc.specs.Promise.{LiveInSlots, ShowsLabels, HasRegistersForAll}
+use Rattle.regalloc2_fastalloc.specs.Promise.{LiveInSlots, HasRegistersForAll}
 use Rattle.regalloc2_fastalloc.specs.Survey.{SomeDoesNotFit}
 use Rattle.regalloc2_semantics.specs.Places.{units_at_most}
 use Rattle.regalloc2_fastalloc_proofs.specs.InstSteps.{StateValue}
@@ -28,7 +28,7 @@ use Rattle.regalloc2_fastalloc_proofs.specs.BlockSteps.{DefinesBelow}
 use Rattle.regalloc2_fastalloc_proofs.specs.Safety.{HasMachine}
 use Rattle.regalloc2_fastalloc_state.specs.StateParts.{VRegAllocsValue, SpillSlotsValue, no_allocs, no_slots, slot_name, units_of}
 use Rattle.regalloc2_fastalloc.proofs.ReadsAgree.{made_blocks_agree, made_in_slots, made_label_shown, walk_is_good, walk_is_safe}
-use Rattle.regalloc2_fastalloc.proofs.DebugLocationPlaces.{locations_stand, shows_labels}
+use Rattle.regalloc2_fastalloc.proofs.DebugLocationPlaces.{ShowsLabels, locations_stand, shows_labels}
 use Rattle.regalloc2_fastalloc.proofs.BranchSlots.{branch_slots_serve}
 use Rattle.regalloc2_fastalloc_proofs.proofs.Walk.BlocksCarryFromFreshState.{passed_slots}
 use Rattle.regalloc2_fastalloc_proofs.proofs.Safety.InitialState.{begun_machine}
