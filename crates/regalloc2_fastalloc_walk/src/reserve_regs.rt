@@ -227,7 +227,8 @@ impl<'a, A: Allocator> State<'a, A> {
         ensures awaited { inst_regs.new.awaited ≡ inst_regs.old.awaited }
         ensures err { IfErr result (IsResourceErrorIn self.now.slots) }
     {
-        if let Some((preg, positions)) = reserved_by(operands, k) {
+        if let Some(claim) = reserved_by(operands, k) {
+            let (preg, positions) = claim;
             return self.reserve_preg(inst_regs, claims, preg, positions);
         }
         remove_unclaimed(inst_regs, operands[k]);

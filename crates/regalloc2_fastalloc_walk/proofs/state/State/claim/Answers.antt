@@ -9,11 +9,11 @@ use Rattle.regalloc2_fastalloc_walk.proofs.state.State.claim.Goals as goal
 
 pub returns-in-Some-clause-outcome : goal.returns-in-Some-clause-outcome
 returns-in-Some-clause-outcome g c =
-    let is = claim_is c.args.operands.now c.args.k c.reserved_by.result c.reserved_by.ensures.some (c.in-Some.preg, c.in-Some.positions) c.in-Some.is in
+    let is = claim_is c.args.operands.now c.args.k c.reserved_by.result c.reserved_by.ensures.some c.in-Some.claim c.in-Some.is in
     outcome_of c.reserve_preg.result c.reserve_preg.ensures.ok c.reserve_preg.ensures.stops
-    (reserves_it (λ r p h. same_claim r p (c.in-Some.preg, c.in-Some.positions) c.reserved_by.result (c.reserved_by.ensures.all r p h) c.in-Some.is) c.requires is
+    (reserves_it (λ r p h. same_claim r p c.in-Some.claim c.reserved_by.result (c.reserved_by.ensures.all r p h) c.in-Some.is) c.requires is
     c.reserve_preg.ensures.shrinks c.reserve_preg.ensures.takes c.reserve_preg.ensures.grows c.reserve_preg.ensures.only)
-    (λ e stops lacks. record { register = c.in-Some.preg; positions = c.in-Some.positions; claims = is; stops = stops lacks })
+    (λ e stops lacks. record { register = c.in-Some.claim.0; positions = c.in-Some.claim.1; claims = is; stops = stops lacks })
 
 -- an operand that claims nothing
 pub returns-clause-outcome : goal.returns-clause-outcome
