@@ -10,7 +10,6 @@
 -- `few_slots` in `UnitsNeeded`, `are_few` in `RegistersForAll`, `has_room` in `RoomInTables`. `UsesReadNumbers` serves
 -- callers.
 pub mod ReadsAgree
-pub mod OldLive
 pub mod BranchSlots
 pub mod DebugLocationPlaces
 pub mod DebugLocationsFound
