@@ -103,7 +103,7 @@ zip_there ps xs n lt same = (
       ∙ pair_same (get_or_default ps n _ no_vreg lt) (get_or_default xs n _ no_vreg (omega (arith, lt, same))),
 )
   where
-    pair_same : {a b c d : VirtualRegister} → a ≡ b → c ≡ d → (a, c) ≡ (b, d)
+    pair_same : {a b c d : VirtualRegister} → a ≡ b → c ≡ d → ◌≡◌ {A = VirtualRegister × VirtualRegister} (a, c) (b, d)
     pair_same e g = rw (e, g) refl
 
 -- an edge out of a branch that defines v by the operand j
