@@ -14,8 +14,6 @@ use Rattle.regalloc2.specs.declared.tested.AllocateError.{AllocateError}
 use Rattle.regalloc2.specs.declared.tested.AllocateError.TheVariants.{Refused as AllocateRefused}
 use Rattle.regalloc2.specs.declared.tested.TestedRunError.{TestedRunError}
 use Rattle.regalloc2.specs.declared.tested.TestedRunError.TheVariants.{Refused as TestRefused}
-use Rattle.regalloc2.specs.declared.tested.UncheckedError.{UncheckedError}
-use Rattle.regalloc2.specs.declared.tested.UncheckedError.TheVariants.{Refused as UncheckedRefused}
 
 -- a result is the error
 abbrev pub FailsWith : (T E : Type 0) → Result T E → E → Type 0
@@ -58,14 +56,14 @@ checked_run_counted (Faults es) h = (λ e. absurd cc, λ p. let said = h.1 p in 
 checked_run_counted Unjudged h = (λ e. absurd cc, λ p. let said = h.1 p in absurd cc)
 
 -- a run's error says it as the refusal of `allocate_without_checker`, and of `run_tested`
-pub allocate_counted : {T U P : Type 0} (r : RegAllocError) → FailsWith T RegAllocError (Err r) TooManyOperands ↔ P →
-    FailsWith U UncheckedError (Err (UncheckedRefused r)) (UncheckedRefused TooManyOperands) ↔ P
-allocate_counted {T = T} {U = U} r h = (
+pub allocate_counted : {A T U P : Type 0} (r : RegAllocError) → FailsWith T RegAllocError (Err r) TooManyOperands ↔ P →
+    FailsWith U (AllocateError A) (Err (AllocateRefused r)) (AllocateRefused TooManyOperands) ↔ P
+allocate_counted {A = A} {T = T} {U = U} r h = (
   λ e. let same : r ≡ TooManyOperands = cc in h.0 (ap Err same),
   λ p.
       let said : FailsWith T RegAllocError (Err r) TooManyOperands = h.1 p in
       let same : r ≡ TooManyOperands = cc in
-      ap (λ (x : RegAllocError). Err (UncheckedRefused x)) same,
+      ap (λ (x : RegAllocError). Err (AllocateRefused x)) same,
 )
 
 pub tested_counted : {T U P : Type 0} (r : RegAllocError) → FailsWith T RegAllocError (Err r) TooManyOperands ↔ P →

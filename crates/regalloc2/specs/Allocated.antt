@@ -14,8 +14,6 @@ use Rattle.regalloc2.specs.declared.tested.AllocateError.{AllocateError}
 use Rattle.regalloc2.specs.declared.tested.AllocateError.TheVariants.{Misfit, Refused, Faults, Unjudged}
 use Rattle.regalloc2.specs.declared.tested.TestedRunError.{TestedRunError}
 use Rattle.regalloc2.specs.declared.tested.TestedRunError.TheVariants.{Misfit as RunMisfit, Refused as TestRefused, ReadBeforeWritten}
-use Rattle.regalloc2.specs.declared.tested.UncheckedError.{UncheckedError}
-use Rattle.regalloc2.specs.declared.tested.UncheckedError.TheVariants.{Misfit as UncheckedMisfit, Refused as UncheckedRefused}
 
 -- the error that a checked run's is
 abbrev pub allocate_error : {A : Type 0} → CheckedRunError A → AllocateError A
@@ -39,9 +37,11 @@ IsAllocateReason f env (Faults es) = MachineFits f env × IsCheckedReason f env 
 IsAllocateReason f env Unjudged = MachineFits f env × PassesAllChecks f env true
 
 -- the reason that an error gives where the checker isn't run
-abbrev pub IsTestedReason : FunctionValue → MachineValue → UncheckedError → Type 0
-IsTestedReason f env (UncheckedMisfit m) = IsMisfit f env m × (MachineFits f env → ⊥)
-IsTestedReason f env (UncheckedRefused r) = MachineFits f env × IsReason f env true r
+abbrev pub IsTestedReason : {A : Type 0} → FunctionValue → MachineValue → AllocateError A → Type 0
+IsTestedReason f env (Misfit m) = IsMisfit f env m × (MachineFits f env → ⊥)
+IsTestedReason f env (Refused r) = MachineFits f env × IsReason f env true r
+IsTestedReason f env (Faults es) = ⊥
+IsTestedReason f env Unjudged = ⊥
 
 -- why a run that tests everything returns no output: where no condition of a fitting machine fails, what a run says
 -- of the function, and last that some path reads or passes a vreg before writing it

@@ -13,8 +13,6 @@ use Rattle.regalloc2.specs.declared.tested.AllocateError.{AllocateError}
 use Rattle.regalloc2.specs.declared.tested.AllocateError.TheVariants.{Misfit, Refused, Faults, Unjudged}
 use Rattle.regalloc2.specs.declared.tested.TestedRunError.{TestedRunError}
 use Rattle.regalloc2.specs.declared.tested.TestedRunError.TheVariants.{Misfit as RunMisfit, Refused as TestRefused, ReadBeforeWritten}
-use Rattle.regalloc2.specs.declared.tested.UncheckedError.{UncheckedError}
-use Rattle.regalloc2.specs.declared.tested.UncheckedError.TheVariants.{Misfit as UncheckedMisfit, Refused as UncheckedRefused}
 
 -- as `no registers were allocated: out of memory`
 abbrev pub unallocated_text : RegAllocError → List ℕ
@@ -41,10 +39,6 @@ allocate_text (Misfit m) = unfit_text m
 allocate_text (Refused e) = unallocated_text e
 allocate_text (Faults es) = faults_text es
 allocate_text Unjudged = unjudged_text
-
-abbrev pub unchecked_text : UncheckedError → List ℕ
-unchecked_text (UncheckedMisfit m) = unfit_text m
-unchecked_text (UncheckedRefused e) = unallocated_text e
 
 abbrev pub tested_run_text : TestedRunError → List ℕ
 tested_run_text (RunMisfit m) = unfit_text m

@@ -36,10 +36,7 @@ pub use regalloc2_semantics::{
     agrees_where_numbers_do, finds_earlier_writes, reads_earlier_where_well_formed,
     reads_the_same_numbers,
 };
-pub use tested::{
-    ALL_TESTS, AllocateError, TestedRunError, UncheckedError, allocate, allocate_without_checker,
-    run_tested,
-};
+pub use tested::{AllocateError, TestedRunError, allocate, allocate_without_checker, run_tested};
 
 /// The moves of one call.
 pub mod callmoves {

@@ -57,34 +57,6 @@ impl<A: Allocator> fmt::Display for AllocateError<A> {
 
 impl<A: Allocator + fmt::Debug> Error for AllocateError<A> {}
 
-/// Why [`allocate_without_checker`] returns no output.
-#[derive(Debug, Drop)]
-pub enum UncheckedError {
-    /// The machine doesn't fit the function.
-    Misfit(MachineMisfit),
-    /// A test of the function failed, or registers, slots or memory ran out.
-    Refused(RegAllocError),
-}
-
-/// As `no registers were allocated: out of memory`.
-impl fmt::Display for UncheckedError {
-    ghost use Rattle.std.specs.Prelude.{Some};
-    ghost use Rattle.regalloc2.specs.ErrorTexts.{unchecked_text};
-
-    ghost output = { λ e. Some (unchecked_text e) };
-
-    fn fmt<W: fmt::Write>(&self, f: &mut fmt::Formatter<W>) -> fmt::Result {
-        match self {
-            UncheckedError::Misfit(misfit) => {
-                write!(f, "the machine doesn't fit the function: {misfit}")
-            }
-            UncheckedError::Refused(error) => write!(f, "no registers were allocated: {error}"),
-        }
-    }
-}
-
-impl Error for UncheckedError {}
-
 /// Why a run that tests everything returns no output.
 #[derive(Debug, Drop)]
 pub enum TestedRunError {
@@ -121,10 +93,8 @@ impl fmt::Display for TestedRunError {
 
 impl Error for TestedRunError {}
 
-/// The options of a run with all tests of the function, for callers that don't prove it well-formed.
-///
-/// Upstream: none.
-pub const ALL_TESTS: RegallocOptions = RegallocOptions {
+/// With all tests of the function.
+const TESTED: RegallocOptions = RegallocOptions {
     validate_ssa: true,
     algorithm: Algorithm::Fastalloc,
 };
@@ -171,7 +141,7 @@ pub fn allocate<A: Allocator + Copy, F: Function, B: Allocator>(
     if let Err(misfit) = test_machine(f, env) {
         return Err(AllocateError::Misfit(misfit));
     }
-    match run_checked(alloc, f, env, &ALL_TESTS) {
+    match run_checked(alloc, f, env, &TESTED) {
         Ok(out) => Ok(out),
         Err(error) => Err(error_from(error)),
     }
@@ -179,27 +149,27 @@ pub fn allocate<A: Allocator + Copy, F: Function, B: Allocator>(
 
 /// Allocates registers to `f` for the machine `env`, as [`allocate`] does, and skips the checker.
 ///
-/// Tests are as in [`allocate`], in the same order. The output has all that [`run`] guarantees: it is faithful if no
-/// path from the entry reads or passes a vreg before writing it.
+/// Tests and errors are as in [`allocate`], but never `Faults` or `Unjudged`. The output has all that [`run`]
+/// guarantees: it is faithful if no path from the entry reads or passes a vreg before writing it.
 pub fn allocate_without_checker<A: Allocator + Copy, F: Function, B: Allocator>(
     alloc: A,
     f: &F,
     env: &MachineEnv<B>,
-) -> Result<Output<A>, UncheckedError>
+) -> Result<Output<A>, AllocateError<A>>
     ensures allocation { IfOk result (λ out. IsAllocation (F.function f.now) (machine_of env.now) (output_of out)) }
     ensures fitting { OnOk result (MachineFits (F.function f.now) (machine_of env.now)) }
     ensures tested { OnOk result (IsWellFormed (machine_of env.now) (F.function f.now)) }
     ensures passes_checks { OnOk result (PassesAllChecks (F.function f.now) (machine_of env.now) true) }
     ensures refused { IfErr result (IsTestedReason (F.function f.now) (machine_of env.now)) }
     ensures many_operands { MachineFits (F.function f.now) (machine_of env.now) →
-        ((result ≡ Err (UncheckedError.Refused RegAllocError.TooManyOperands)) ↔ (2 ^ 32 ≤ operand_count (F.function f.now))) }
+        ((result ≡ Err (AllocateError.Refused RegAllocError.TooManyOperands)) ↔ (2 ^ 32 ≤ operand_count (F.function f.now))) }
 {
     if let Err(misfit) = test_machine(f, env) {
-        return Err(UncheckedError::Misfit(misfit));
+        return Err(AllocateError::Misfit(misfit));
     }
-    match run(alloc, f, env, &ALL_TESTS) {
+    match run(alloc, f, env, &TESTED) {
         Ok(out) => Ok(out),
-        Err(error) => Err(UncheckedError::Refused(error)),
+        Err(error) => Err(AllocateError::Refused(error)),
     }
 }
 
@@ -236,7 +206,7 @@ pub fn run_tested<A: Allocator + Copy, F: Function, B: Allocator>(
     if let Err(misfit) = test_machine(f, env) {
         return Err(TestedRunError::Misfit(misfit));
     }
-    let out = match run(alloc, f, env, &ALL_TESTS) {
+    let out = match run(alloc, f, env, &TESTED) {
         Ok(out) => out,
         Err(error) => return Err(TestedRunError::Refused(error)),
     };

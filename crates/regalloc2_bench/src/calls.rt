@@ -60,8 +60,7 @@ fn moves_of(
     Ok(moves)
 }
 
-/// Returns whether `moves` were scheduled `times` times, without a free register, so through a borrowed one and two
-/// slots.
+/// Whether `moves` were scheduled `times` times, without a free register, so through a borrowed one and two slots.
 fn is_repeated(alloc: Global, moves: &[(Allocation, Allocation)], many: usize, times: usize) -> bool
     requires { many ≤ MOST }
 {
@@ -79,7 +78,7 @@ fn is_repeated(alloc: Global, moves: &[(Allocation, Allocation)], many: usize, t
     true
 }
 
-/// Returns whether `many` moves of a `shape` were scheduled `times` times.
+/// Whether `many` moves of a `shape` were scheduled `times` times.
 pub fn is_scheduled(alloc: Global, shape: Shape, many: usize, times: usize) -> bool {
     if many > MOST {
         return false;

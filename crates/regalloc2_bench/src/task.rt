@@ -7,8 +7,8 @@ ghost use Rattle.regalloc2_function.specs.WellFormed.{IsWellFormed};
 use regalloc2::checker::Checker;
 use regalloc2::ssa::reads_written;
 use regalloc2::{
-    ALL_TESTS, Algorithm, Function, MachineEnv, Output, RegallocOptions, is_framed, machine_fits,
-    run, run_tested,
+    Algorithm, Function, MachineEnv, Output, RegallocOptions, is_framed, machine_fits, run,
+    run_tested,
 };
 use regalloc2_analysis::liveness::decided_by_tree;
 use std::alloc::Global;
@@ -45,6 +45,12 @@ impl Task {
     }
 }
 
+/// To allocate with the tests of a well-formed function.
+const TESTED: RegallocOptions = RegallocOptions {
+    validate_ssa: true,
+    algorithm: Algorithm::Fastalloc,
+};
+
 /// To allocate without the tests of a well-formed function.
 const UNTESTED: RegallocOptions = RegallocOptions {
     validate_ssa: false,
@@ -78,7 +84,7 @@ fn is_done<F: Function>(alloc: Global, task: Task, f: &F, env: &MachineEnv, outp
 {
     match task {
         Task::Allocate => run(alloc, f, env, &UNTESTED).is_ok(),
-        Task::Test => run(alloc, f, env, &ALL_TESTS).is_ok(),
+        Task::Test => run(alloc, f, env, &TESTED).is_ok(),
         Task::Check => is_accepted(alloc, f, env, output),
         Task::Reads => is_asked(alloc, f),
         Task::Tree => is_decided(alloc, f),
@@ -86,7 +92,7 @@ fn is_done<F: Function>(alloc: Global, task: Task, f: &F, env: &MachineEnv, outp
     }
 }
 
-/// Returns whether `task` was done `times` times with `f`, of which `output` is an allocation.
+/// Whether `task` was done `times` times with `f`, of which `output` is an allocation.
 fn is_repeated<F: Function>(
     alloc: Global,
     task: Task,
@@ -106,7 +112,7 @@ fn is_repeated<F: Function>(
     true
 }
 
-/// Returns whether `f` was allocated, and then `task` done with it `times` times.
+/// Whether `f` was allocated, and then `task` done with it `times` times.
 pub fn is_performed<F: Function>(
     alloc: Global,
     task: Task,
@@ -117,7 +123,7 @@ pub fn is_performed<F: Function>(
     if !machine_fits(f, env) {
         return false;
     }
-    match run(alloc, f, env, &ALL_TESTS) {
+    match run(alloc, f, env, &TESTED) {
         Ok(output) => is_repeated(alloc, task, times, f, env, &output),
         Err(_) => false,
     }

@@ -15,10 +15,10 @@ use Rattle.regalloc2.specs.WellFormed.{IsWellFormed}
 use Rattle.regalloc2.specs.Promise.{IsAllocation, RunsAsTheFunction, LiveInSlots}
 use Rattle.regalloc2.specs.Report.{IsReport}
 use Rattle.regalloc2.specs.Allocated.{IsTestedReason, IsTestedRunReason}
+use Rattle.regalloc2.specs.declared.tested.AllocateError.{AllocateError}
+use Rattle.regalloc2.specs.declared.tested.AllocateError.TheVariants.{Misfit, Refused as RunRefused, Faults as RunFaults, Unjudged}
 use Rattle.regalloc2.specs.declared.tested.TestedRunError.{TestedRunError}
 use Rattle.regalloc2.specs.declared.tested.TestedRunError.TheVariants.{Misfit as RunMisfit, Refused as TestRefused, ReadBeforeWritten}
-use Rattle.regalloc2.specs.declared.tested.UncheckedError.{UncheckedError}
-use Rattle.regalloc2.specs.declared.tested.UncheckedError.TheVariants.{Misfit, Refused}
 use Rattle.regalloc2_function.specs.declared.serialize.StoredOutput.{StoredOutput}
 use Rattle.regalloc2_function.specs.declared.serialize.StoredFault.{StoredFault}
 use Rattle.regalloc2_function.specs.declared.serialize.StoredFault.TheVariants.{Lengths, Index, Bits, Limit, Memory, Shape}
@@ -61,9 +61,11 @@ tested_words f env out numbers fitting formed passed runs (allocation, live) wri
 }
 
 -- why nothing was allocated
-pub refused_as : (f : FunctionValue) (env : MachineValue) (e : UncheckedError) → IsTestedReason f env e → IsAllocateFailure f env (allocate_failure e)
+pub refused_as : (f : FunctionValue) (env : MachineValue) (e : AllocateError Global) → IsTestedReason f env e → IsAllocateFailure f env (allocate_failure e)
 refused_as f env (Misfit m) h = (h.0, h.1)
-refused_as f env (Refused r) h = (h.0, h.1)
+refused_as f env (RunRefused r) h = (h.0, h.1)
+refused_as f env (RunFaults es) h = tt
+refused_as f env Unjudged h = tt
 
 -- where something was allocated, why it isn't faithful
 faulty : (f : FunctionValue) (env : MachineValue) (out : OutputValue) (e : Failure) → IsAllocation f env out → (v : Vec ℕ) → e ≡ Faults v →

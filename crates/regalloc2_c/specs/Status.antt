@@ -1,9 +1,10 @@
 -- The version of the library, the numbers of failures, as the header lists them, and which failure an error is.
 use Rattle.std.specs.Prelude.{ℕ, ◌+◌, ◌*◌, ◌^◌}
+use Rattle.std.specs.declared.alloc.Global.{Global}
+use Rattle.regalloc2.specs.declared.tested.AllocateError.{AllocateError}
+use Rattle.regalloc2.specs.declared.tested.AllocateError.TheVariants.{Misfit as AllocateMisfit, Refused as AllocateRefused, Faults as AllocateFaults, Unjudged}
 use Rattle.regalloc2.specs.declared.tested.TestedRunError.{TestedRunError}
 use Rattle.regalloc2.specs.declared.tested.TestedRunError.TheVariants.{Misfit, Refused as RunRefused, ReadBeforeWritten as RunReads}
-use Rattle.regalloc2.specs.declared.tested.UncheckedError.{UncheckedError}
-use Rattle.regalloc2.specs.declared.tested.UncheckedError.TheVariants.{Misfit as UncheckedMisfit, Refused as UncheckedRefused}
 use Rattle.regalloc2_function.specs.declared.serialize.StoredFault.{StoredFault}
 use Rattle.regalloc2_function.specs.declared.serialize.StoredFault.TheVariants.{Lengths, Index, Bits, Limit, Memory, Shape}
 use Rattle.regalloc2_text.specs.StoredFault.{fault_number}
@@ -29,10 +30,12 @@ failure_number (BadText line column) = 9
 failure_number (BadFunction fault) = 10 + fault_number fault
 failure_number (Refused error) = 20 + refusal_number error
 
--- where an allocation gives none
-abbrev pub allocate_failure : UncheckedError → Failure
-allocate_failure (UncheckedMisfit m) = BadMachine m
-allocate_failure (UncheckedRefused error) = Refused error
+-- where an allocation gives none; without the checker it has no faults
+abbrev pub allocate_failure : AllocateError Global → Failure
+allocate_failure (AllocateMisfit m) = BadMachine m
+allocate_failure (AllocateRefused error) = Refused error
+allocate_failure (AllocateFaults es) = NoMemory
+allocate_failure Unjudged = NoMemory
 
 -- where a tested run gives none
 abbrev pub run_failure : TestedRunError → Failure

@@ -4,7 +4,7 @@ ghost use Rattle.std.specs.Prelude.{◌≡◌};
 ghost use Rattle.regalloc2_c.specs.Status.{failure_number, allocate_failure, run_failure, columns_failure, read_failure, write_failure};
 
 use regalloc2::serialize::StoredFault;
-use regalloc2::{RegAllocError, TestedRunError, UncheckedError};
+use regalloc2::{AllocateError, RegAllocError, TestedRunError};
 use regalloc2_function::MachineMisfit;
 use regalloc2_text::stored_fault;
 
@@ -35,13 +35,7 @@ pub enum Failure {
     Refused(RegAllocError),
 }
 
-/// The number of an error in a function's numbers is added to this.
-const BAD_FUNCTION: u32 = 10;
-
-/// The number of an error of the allocator is added to this.
-pub const REFUSED: u32 = 20;
-
-/// Returns the number of a failure. The header lists them.
+/// The number of a failure. The header lists them.
 pub fn number_of(failure: &Failure) -> u32
     ensures { result ≡ failure_number failure.now }
 {
@@ -55,22 +49,23 @@ pub fn number_of(failure: &Failure) -> u32
         Failure::BadOutput => 7,
         Failure::ReadBeforeWritten => 8,
         Failure::BadText(..) => 9,
-        Failure::BadFunction(fault) => BAD_FUNCTION + u32::from(stored_fault::number_of(*fault)),
-        Failure::Refused(error) => REFUSED + u32::from(error.kind().number()),
+        Failure::BadFunction(fault) => 10 + u32::from(stored_fault::number_of(*fault)),
+        Failure::Refused(error) => 20 + u32::from(error.kind().number()),
     }
 }
 
-/// Returns the failure that an allocation's error is.
-pub fn failure_of(error: &UncheckedError) -> Failure
+/// The failure that an allocation's error is. Without the checker it has no faults.
+pub fn failure_of(error: &AllocateError) -> Failure
     ensures { result ≡ allocate_failure error.now }
 {
     match error {
-        UncheckedError::Misfit(misfit) => Failure::BadMachine(*misfit),
-        UncheckedError::Refused(error) => Failure::Refused(*error),
+        AllocateError::Misfit(misfit) => Failure::BadMachine(*misfit),
+        AllocateError::Refused(error) => Failure::Refused(*error),
+        AllocateError::Faults(_) | AllocateError::Unjudged => Failure::NoMemory,
     }
 }
 
-/// Returns the failure that a tested run's error is.
+/// The failure that a tested run's error is.
 pub fn failure_of_run(error: &TestedRunError) -> Failure
     ensures { result ≡ run_failure error.now }
 {
@@ -81,7 +76,7 @@ pub fn failure_of_run(error: &TestedRunError) -> Failure
     }
 }
 
-/// Returns the failure where words are read in columns.
+/// The failure where words are read in columns.
 pub fn failure_of_columns(fault: StoredFault) -> Failure
     ensures { result ≡ columns_failure fault }
 {
@@ -92,7 +87,7 @@ pub fn failure_of_columns(fault: StoredFault) -> Failure
     }
 }
 
-/// Returns the failure where an input is read.
+/// The failure where an input is read.
 pub fn failure_to_read(fault: StoredFault) -> Failure
     ensures { result ≡ read_failure fault }
 {
@@ -102,7 +97,7 @@ pub fn failure_to_read(fault: StoredFault) -> Failure
     }
 }
 
-/// Returns the failure where an output's words are listed.
+/// The failure where an output's words are listed.
 pub fn failure_to_write(fault: StoredFault) -> Failure
     ensures { result ≡ write_failure fault }
 {

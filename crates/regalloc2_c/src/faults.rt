@@ -8,11 +8,6 @@ ghost use Rattle.regalloc2_c.specs.Faults.{first_index, is_placed, operand_index
 ghost use Rattle.regalloc2_c.specs.Faults.{IsFaultsTold, IsPrepareFailure, IsErrorsFailure, IsCellsTold, fault_vregs};
 
 use super::failure::Failure;
-use super::fault_numbers::{
-    CONFLICTING_VALUES, MEMORY, MISSING, NO_CELL, NO_SUCH_OPERAND, NO_VALUE, NOT_FIXED_REGISTER,
-    NOT_REGISTER, NOT_REUSED, NOT_STACK, ORDER, OTHER_CLASS, OTHER_VALUES, OUTSIDE_FRAME,
-    OUTSIDE_LIMIT, SHARED_UNIT, STACK_TO_STACK,
-};
 use super::words::{NONE, word_of};
 use regalloc2::checker::CheckerError;
 use regalloc2::{Allocation, Function, Inst, Operand, Output, VReg};
@@ -30,7 +25,7 @@ pub struct Judged<'a, F: Function> {
     pub output: &'a Output,
 }
 
-/// Returns whether operand `k` has the encoding of `op` and is in `place`.
+/// Whether operand `k` has the encoding of `op` and is in `place`.
 fn is_placed(
     operands: &[Operand],
     places: &[Allocation],
@@ -44,7 +39,7 @@ fn is_placed(
     operands[k].bits() == op.bits() && place_at(places, k).bits() == place.bits()
 }
 
-/// Returns the index of the first operand with the encoding of `op` that is in `place`, as a word.
+/// The index of the first operand with the encoding of `op` that is in `place`, as a word.
 fn index_of(operands: &[Operand], places: &[Allocation], op: Operand, place: Allocation) -> u32
     ensures { result ≡ first_index (is_placed operands.now places.now op place) 0 (length operands.now) }
 {
@@ -56,7 +51,7 @@ fn index_of(operands: &[Operand], places: &[Allocation], op: Operand, place: All
     NONE
 }
 
-/// Returns the index of the first operand of `inst` with the encoding of `op` that is in `place`, as a word.
+/// The index of the first operand of `inst` with the encoding of `op` that is in `place`, as a word.
 fn index_in<F: Function>(f: &F, output: &Output, inst: Inst, op: Operand, place: Allocation) -> u32
     requires { IsInOrder (F.function f.now) (output_of output.now) }
     ensures { result ≡ operand_index (F.function f.now) (output_of output.now) inst op place }
@@ -68,8 +63,7 @@ fn index_in<F: Function>(f: &F, output: &Output, inst: Inst, op: Operand, place:
     }
 }
 
-/// Returns the words of a fault of an operand: `number`, `inst`, the index of `op`, its encoding, `place`, `other` and
-/// `bound`.
+/// The words of a fault of an operand: `number`, `inst`, the index of `op`, its encoding, `place`, `other` and `bound`.
 fn operand_head<F: Function>(
     judged: &Judged<'_, F>,
     number: u32,
@@ -96,7 +90,7 @@ fn operand_head<F: Function>(
     ]
 }
 
-/// Returns the words of a fault up to the list of vregs.
+/// The words of a fault up to the list of vregs.
 fn head_of<F: Function>(judged: &Judged<'_, F>, error: &CheckerError) -> [u32; 8]
     requires { IsInOrder (F.function judged.now.f.now) (output_of judged.now.output.now) }
     ensures { result ≡ fault_head (F.function judged.now.f.now) (output_of judged.now.output.now) error.now }
@@ -104,68 +98,49 @@ fn head_of<F: Function>(judged: &Judged<'_, F>, error: &CheckerError) -> [u32; 8
     let none = Allocation::none();
     match error {
         CheckerError::MissingAllocation { inst, op } => operand_head(
-            judged, MISSING, *inst, *op, none, none, 0,
+            judged, 1, *inst, *op, none, none, 0,
         ),
         CheckerError::UnknownValueInAllocation { inst, op, alloc } => {
-            operand_head(judged, NO_VALUE, *inst, *op, *alloc, none, 0)
+            operand_head(judged, 2, *inst, *op, *alloc, none, 0)
         }
         CheckerError::ConflictedValueInAllocation { inst, op, alloc } => {
-            operand_head(judged, CONFLICTING_VALUES, *inst, *op, *alloc, none, 0)
+            operand_head(judged, 3, *inst, *op, *alloc, none, 0)
         }
         CheckerError::IncorrectValuesInAllocation {
             inst,
             op,
             alloc,
             ..
-        } => { operand_head(judged, OTHER_VALUES, *inst, *op, *alloc, none, 0) }
+        } => { operand_head(judged, 4, *inst, *op, *alloc, none, 0) }
         CheckerError::ConstraintViolated { inst, op, alloc } => {
-            operand_head(judged, NO_SUCH_OPERAND, *inst, *op, *alloc, none, 0)
+            operand_head(judged, 5, *inst, *op, *alloc, none, 0)
         }
         CheckerError::AllocationIsNotReg { inst, op, alloc } => {
-            operand_head(judged, NOT_REGISTER, *inst, *op, *alloc, none, 0)
+            operand_head(judged, 6, *inst, *op, *alloc, none, 0)
         }
         CheckerError::AllocationIsNotFixedReg { inst, op, alloc } => {
-            operand_head(judged, NOT_FIXED_REGISTER, *inst, *op, *alloc, none, 0)
+            operand_head(judged, 7, *inst, *op, *alloc, none, 0)
         }
         CheckerError::AllocationIsNotReuse {
             inst,
             op,
             alloc,
             expected_alloc,
-        } => { operand_head(judged, NOT_REUSED, *inst, *op, *alloc, *expected_alloc, 0) }
+        } => { operand_head(judged, 8, *inst, *op, *alloc, *expected_alloc, 0) }
         CheckerError::AllocationIsNotStack { inst, op, alloc } => {
-            operand_head(judged, NOT_STACK, *inst, *op, *alloc, none, 0)
+            operand_head(judged, 9, *inst, *op, *alloc, none, 0)
         }
         CheckerError::StackToStackMove { into, from } => {
-            [
-                STACK_TO_STACK,
-                NONE,
-                NONE,
-                0,
-                0,
-                into.bits(),
-                from.bits(),
-                0,
-            ]
+            [10, NONE, NONE, 0, 0, into.bits(), from.bits(), 0]
         }
         CheckerError::AllocationOutsideLimit {
             inst,
             op,
             alloc,
             range,
-        } => {
-            operand_head(
-                judged,
-                OUTSIDE_LIMIT,
-                *inst,
-                *op,
-                *alloc,
-                none,
-                word_of(range.end),
-            )
-        }
-        CheckerError::MalformedOutput => [ORDER, NONE, NONE, 0, 0, 0, 0, 0],
-        CheckerError::Memory => [MEMORY, NONE, NONE, 0, 0, 0, 0, 0],
+        } => { operand_head(judged, 11, *inst, *op, *alloc, none, word_of(range.end)) }
+        CheckerError::MalformedOutput => [12, NONE, NONE, 0, 0, 0, 0, 0],
+        CheckerError::Memory => [13, NONE, NONE, 0, 0, 0, 0, 0],
     }
 }
 
@@ -200,7 +175,7 @@ fn push_length(to: &mut Vec<u32>, length: usize) -> Result<(), AllocError>
     Ok(())
 }
 
-/// Returns the vregs that a fault names.
+/// The vregs that a fault names.
 fn vregs_of(error: &CheckerError) -> &[VReg]
     ensures { result.now ≡ fault_vregs error.now }
 {
@@ -242,7 +217,7 @@ fn push_faults<F: Function>(
     Ok(())
 }
 
-/// Returns the failure with the words of the faults `errors`.
+/// The failure with the words of the faults `errors`.
 fn faults_failure<F: Function>(
     alloc: Global,
     judged: &Judged<'_, F>,
@@ -258,7 +233,7 @@ fn faults_failure<F: Function>(
     }
 }
 
-/// Returns the failure that the checker's errors come to: they are `Memory` alone where memory was refused.
+/// The failure that the checker's errors come to: they are `Memory` alone where memory was refused.
 pub fn failure_of_errors<F: Function>(
     alloc: Global,
     judged: &Judged<'_, F>,
@@ -273,7 +248,7 @@ pub fn failure_of_errors<F: Function>(
     }
 }
 
-/// Returns the failure where the checker didn't take an output: memory was refused, or it isn't in order.
+/// The failure where the checker didn't take an output: memory was refused, or it isn't in order.
 pub fn failure_to_prepare(alloc: Global, error: &CheckerError) -> Failure
     ensures { IsPrepareFailure error.now result }
 {
@@ -281,28 +256,28 @@ pub fn failure_to_prepare(alloc: Global, error: &CheckerError) -> Failure
         return Failure::NoMemory;
     }
     let mut words = Vec::new(alloc);
-    match push_words(&mut words, &[1, ORDER, NONE, NONE, 0, 0, 0, 0, 0, 0]) {
+    match push_words(&mut words, &[1, 12, NONE, NONE, 0, 0, 0, 0, 0, 0]) {
         Ok(()) => Failure::Faults(words),
         Err(_) => Failure::NoMemory,
     }
 }
 
-/// Returns the list of one fault of places.
+/// The list of one fault of places.
 fn words_of_cells(fault: CellFault) -> [u32; 10]
     ensures { result ≡ cell_fault_words fault }
 {
     match fault {
-        CellFault::Operand(inst, k) => [1, NO_CELL, inst.0, word_of(k), 0, 0, 0, 0, 0, 0],
-        CellFault::MoveEnd(k) => [1, NO_CELL, NONE, word_of(k), 0, 0, 0, 0, 0, 0],
-        CellFault::Location(k) => [1, NO_CELL, NONE, NONE, 0, 0, 0, 0, word_of(k), 0],
-        CellFault::OtherClass(k) => [1, OTHER_CLASS, NONE, word_of(k), 0, 0, 0, 0, 0, 0],
-        CellFault::Slot(n) => [1, OUTSIDE_FRAME, NONE, word_of(n), 0, 0, 0, 0, 0, 0],
-        CellFault::Shared(m, n) => [1, SHARED_UNIT, NONE, word_of(m), 0, 0, 0, 0, word_of(n), 0],
-        CellFault::Memory => [1, MEMORY, NONE, NONE, 0, 0, 0, 0, 0, 0],
+        CellFault::Operand(inst, k) => [1, 14, inst.0, word_of(k), 0, 0, 0, 0, 0, 0],
+        CellFault::MoveEnd(k) => [1, 14, NONE, word_of(k), 0, 0, 0, 0, 0, 0],
+        CellFault::Location(k) => [1, 14, NONE, NONE, 0, 0, 0, 0, word_of(k), 0],
+        CellFault::OtherClass(k) => [1, 15, NONE, word_of(k), 0, 0, 0, 0, 0, 0],
+        CellFault::Slot(n) => [1, 16, NONE, word_of(n), 0, 0, 0, 0, 0, 0],
+        CellFault::Shared(m, n) => [1, 17, NONE, word_of(m), 0, 0, 0, 0, word_of(n), 0],
+        CellFault::Memory => [1, 13, NONE, NONE, 0, 0, 0, 0, 0, 0],
     }
 }
 
-/// Returns the failure that a fault of places is.
+/// The failure that a fault of places is.
 pub fn failure_of_cells(alloc: Global, fault: CellFault) -> Failure
     ensures { IsCellsTold fault result }
 {

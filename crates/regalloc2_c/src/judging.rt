@@ -80,7 +80,7 @@ fn judge<F: Function>(
     }
 }
 
-/// Returns the numbers of the output that words lay out.
+/// The numbers of the output that words lay out.
 fn stored_output(alloc: Global, words: &[u32]) -> Result<StoredOutput, Failure>
     ensures ok { IfOk result (AreOutputWords words.now) }
     ensures err { IfErr result (IsNoStoredOutput (AreOutputWords words.now)) }
@@ -91,14 +91,14 @@ fn stored_output(alloc: Global, words: &[u32]) -> Result<StoredOutput, Failure>
     }
 }
 
-/// Returns whether `point` encodes a point, and `from` and `to` encode places.
+/// Whether `point` encodes a point, and `from` and `to` encode places.
 fn is_move(point: u32, from: u32, to: u32) -> bool
     ensures { IsTrue result ↔ NamesMove (point, from, to) }
 {
     ProgPoint::is_index(point) && Allocation::is_bits(from) && Allocation::is_bits(to)
 }
 
-/// Returns the moves that `words` encode, three words each.
+/// The moves that `words` encode, three words each.
 fn moves_from(alloc: Global, words: &[u32]) -> Result<Vec<(ProgPoint, Edit)>, Failure>
     ensures ok { IfOk result (λ v. AreMovesOf words.now (map edit_of v.items)) }
     ensures err { IfErr result (NamesNoMoves words.now) }
@@ -122,7 +122,7 @@ fn moves_from(alloc: Global, words: &[u32]) -> Result<Vec<(ProgPoint, Edit)>, Fa
     Ok(moves)
 }
 
-/// Returns the places that `words` encode.
+/// The places that `words` encode.
 fn places_from(alloc: Global, words: &[u32]) -> Result<Vec<Allocation>, Failure>
     ensures places { IfOk result (λ v. v.items ≡ map place_of_bits words.now) }
     ensures names { IfOk result (λ v. All IsPlaceBits words.now) }
@@ -142,7 +142,7 @@ fn places_from(alloc: Global, words: &[u32]) -> Result<Vec<Allocation>, Failure>
     Ok(places)
 }
 
-/// Returns a copy of `words`.
+/// A copy of `words`.
 fn copy_of(alloc: Global, words: &[u32]) -> Result<Vec<u32>, Failure>
     ensures ok { IfOk result (λ v. v.items ≡ words.now) }
     ensures err { IfErr result (λ e. e ≡ Failure.NoMemory) }
@@ -156,7 +156,7 @@ fn copy_of(alloc: Global, words: &[u32]) -> Result<Vec<u32>, Failure>
     }
 }
 
-/// Returns the output with the parts `parts`, and without debug locations.
+/// The output with the parts `parts`, and without debug locations.
 fn output_from_parts(alloc: Global, parts: Parts<'_>) -> Result<Output, Failure>
     ensures ok { IfOk result (λ o. IsOutput (ArePartsOf parts.entry.num_spillslots parts.entry.moves.now parts.entry.places.now
         parts.entry.offsets.now) (output_of o)) }
@@ -183,7 +183,7 @@ fn output_from_parts(alloc: Global, parts: Parts<'_>) -> Result<Output, Failure>
     }
 }
 
-/// Returns the output that numbers name.
+/// The output that numbers name.
 fn output_from(alloc: Global, numbers: &StoredOutput) -> Result<Output, Failure>
     ensures ok { IfOk result (λ o. NumbersNameOutput numbers.now (output_of o)) }
     ensures err { IfErr result (λ e. (e ≡ Failure.NoMemory) ⊎ ((e ≡ Failure.BadOutput) × (NamesValues numbers.now → ⊥))) }

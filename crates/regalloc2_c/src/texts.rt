@@ -3,26 +3,20 @@
 ghost use Rattle.std.specs.Prelude.{◌≡◌, slice_index_or};
 ghost use Rattle.regalloc2_c.specs.Texts.{text_of_status, failure_texts, text_of_refusal, no_status, text_of_fault, IsTold};
 
-use super::failure::REFUSED;
-use super::fault_numbers::{
-    CONFLICTING_VALUES, MEMORY, MISSING, NO_CELL, NO_SUCH_OPERAND, NO_VALUE, NOT_FIXED_REGISTER,
-    NOT_REGISTER, NOT_REUSED, NOT_STACK, ORDER, OTHER_CLASS, OTHER_VALUES, OUTSIDE_FRAME,
-    OUTSIDE_LIMIT, SHARED_UNIT, STACK_TO_STACK,
-};
 use regalloc2_names::RegAllocErrorKind;
 
-/// Returns what `status` says.
+/// What `status` says.
 pub fn status_words(status: u32) -> &'static str
     ensures { result.now ≡ text_of_status status }
 {
-    if status < REFUSED {
+    if status < 20 {
         failure_words(status)
     } else {
-        refusal_words(status - REFUSED)
+        refusal_words(status - 20)
     }
 }
 
-/// Returns what `status`, which is below [`REFUSED`], says.
+/// What `status`, which is below 20, says.
 fn failure_words(status: u32) -> &'static str
     ensures { result.now ≡ slice_index_or failure_texts status no_status }
 {
@@ -49,7 +43,7 @@ fn failure_words(status: u32) -> &'static str
     }
 }
 
-/// Returns the cause of the allocator's errors with the number `number`.
+/// The cause of the allocator's errors with the number `number`.
 fn refusal_words(number: u32) -> &'static str
     ensures { result.now ≡ text_of_refusal number }
 {
@@ -62,29 +56,29 @@ fn refusal_words(number: u32) -> &'static str
     }
 }
 
-/// Returns what the fault `number` says.
+/// What the fault `number` says.
 pub fn fault_words(number: u32) -> &'static str
     ensures { result.now ≡ text_of_fault number }
 {
     match number {
         0 => "no fault",
-        MISSING => "an operand has no place",
-        NO_VALUE => "the place doesn't hold a value on every path",
-        CONFLICTING_VALUES => "the place holds values that conflict",
-        OTHER_VALUES => "the place holds the values of other vregs",
-        NO_SUCH_OPERAND => "a reuse names no operand",
-        NOT_REGISTER => "the place is no register",
-        NOT_FIXED_REGISTER => "the place isn't the fixed register",
-        NOT_REUSED => "the place isn't that of the reused operand",
-        NOT_STACK => "the place isn't on the stack",
-        STACK_TO_STACK => "a move goes from one stack place to another",
-        OUTSIDE_LIMIT => "the register's number isn't below the limit",
-        ORDER => "the output isn't in order",
-        MEMORY => "out of memory",
-        NO_CELL => "no register for the class, and no slot of the frame",
-        OTHER_CLASS => "a move goes from a register to one of another class",
-        OUTSIDE_FRAME => "a slot isn't within the frame",
-        SHARED_UNIT => "two slots share a unit",
+        1 => "an operand has no place",
+        2 => "the place doesn't hold a value on every path",
+        3 => "the place holds values that conflict",
+        4 => "the place holds the values of other vregs",
+        5 => "a reuse names no operand",
+        6 => "the place is no register",
+        7 => "the place isn't the fixed register",
+        8 => "the place isn't that of the reused operand",
+        9 => "the place isn't on the stack",
+        10 => "a move goes from one stack place to another",
+        11 => "the register's number isn't below the limit",
+        12 => "the output isn't in order",
+        13 => "out of memory",
+        14 => "no register for the class, and no slot of the frame",
+        15 => "a move goes from a register to one of another class",
+        16 => "a slot isn't within the frame",
+        17 => "two slots share a unit",
         _ => "no fault",
     }
 }

@@ -6,10 +6,16 @@ ghost use Rattle.regalloc2.specs.Promise.{IsAllocation};
 
 use regalloc2::postorder::calculate;
 use regalloc2::{
-    ALL_TESTS, Block, Ctx, Function, MachineEnv, Output, RegAllocError, machine_fits, run,
-    run_into_ctx, run_with_ctx,
+    Algorithm, Block, Ctx, Function, MachineEnv, Output, RegAllocError, RegallocOptions,
+    machine_fits, run, run_into_ctx, run_with_ctx,
 };
 use std::alloc::Allocator;
+
+/// The options, with all tests of the function.
+pub const OPTIONS: RegallocOptions = RegallocOptions {
+    validate_ssa: true,
+    algorithm: Algorithm::Fastalloc,
+};
 
 /// Runs `f` on `env` by `run`, if the machine fits.
 pub fn run_fitting<A: Allocator + Copy, F: Function, B: Allocator>(
@@ -18,7 +24,7 @@ pub fn run_fitting<A: Allocator + Copy, F: Function, B: Allocator>(
     env: &MachineEnv<B>,
 ) -> Option<Result<Output<A>, RegAllocError>> {
     if machine_fits(f, env) {
-        Some(run(alloc, f, env, &ALL_TESTS))
+        Some(run(alloc, f, env, &OPTIONS))
     } else {
         None
     }
@@ -31,7 +37,7 @@ pub fn run_with_ctx_fitting<A: Allocator + Copy, F: Function, B: Allocator>(
     ctx: &mut Ctx<A>,
 ) -> Option<Result<usize, RegAllocError>> {
     if machine_fits(f, env) {
-        match run_with_ctx(f, env, &ALL_TESTS, ctx) {
+        match run_with_ctx(f, env, &OPTIONS, ctx) {
             Ok(out) => Some(Ok(out.num_spillslots)),
             Err(fault) => Some(Err(fault)),
         }
@@ -52,7 +58,7 @@ pub fn run_into_ctx_fitting<A: Allocator + Copy, F: Function, B: Allocator>(
     ensures kept { IfSome result (λ r. OnErr r (ctx.new.output ≡ ctx.old.output)) }
 {
     if machine_fits(f, env) {
-        Some(run_into_ctx(f, env, &ALL_TESTS, ctx))
+        Some(run_into_ctx(f, env, &OPTIONS, ctx))
     } else {
         None
     }
@@ -73,7 +79,7 @@ pub fn run_without_debug_locations<A: Allocator + Copy, F: Function, B: Allocato
     if !machine_fits(f, env) {
         return None;
     }
-    match ctx.run(f, env, &ALL_TESTS) {
+    match ctx.run(f, env, &OPTIONS) {
         Ok(out) => {
             out.debug_locations.clear();
             Some(Ok(()))

@@ -43,7 +43,7 @@ impl Graph {
     /// Adds an edge from the block `from` to the block `to`.
     fn link(&mut self, from: usize, to: usize) -> Option<()> {
         let succs = &mut self.nodes.get_mut(from)?.succs;
-        succs.push(Block(u32::try_from(to).ok()?)).ok()
+        succs.push(Block::new(to % 100)).ok()
     }
 
     /// Returns whether block `from`, which has no successors, may go on to block `to`: a join such that each path to

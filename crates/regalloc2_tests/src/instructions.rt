@@ -1,7 +1,7 @@
 //! A randomly generated instruction that fits: there are registers enough for its operands and
 //! clobbers.
 
-ghost use Rattle.std.specs.Prelude.{◌≡◌, ◌<◌, IfSome};
+ghost use Rattle.std.specs.Prelude.{◌≡◌};
 ghost use Rattle.regalloc2_names.specs.Packing.{IsConstraintOf};
 
 use super::random::{FIRST_SLOT, Random, any_class, preg};
@@ -134,10 +134,8 @@ impl Draft {
         self.operands.push(operand).ok()
     }
 
-    /// Marks an early use that may be reused as reused. Returns its index, which is below 32, and its class.
-    pub fn reused(&mut self, random: &mut Random) -> Option<(usize, RegClass)>
-        ensures { IfSome result (λ reused. reused.0 < 32) }
-    {
+    /// Marks an early use that may be reused as reused. Returns its position and class.
+    pub fn reused(&mut self, random: &mut Random) -> Option<(usize, RegClass)> {
         let index = random.below(32);
         let operand = *self.operands.get(index)?;
         let is_early_use = operand.kind() == OperandKind::Use && operand.pos() == OperandPos::Early;

@@ -8,20 +8,20 @@ use regalloc2::{Operand, RegClass, VReg};
 use regalloc2_serialize::table_function::{BuildError, TableBuilder, TableFunction};
 use std::alloc::Global;
 
-/// Returns the integer vreg with the number `number`.
-fn vreg(number: u16) -> VReg
+/// Returns the integer vreg with the number `number`, which is taken below 2^20.
+fn vreg(number: usize) -> VReg
     ensures { result.class ≡ RegClass.Int }
 {
-    VReg::new(usize::from(number), RegClass::Int)
+    VReg::new(number % 1_048_576, RegClass::Int)
 }
 
 /// Returns a definition of the integer vreg `number` in a register.
-fn def(number: u16) -> Operand {
+fn def(number: usize) -> Operand {
     Operand::reg_def(vreg(number))
 }
 
 /// Returns a use of the integer vreg `number` in a register.
-fn read(number: u16) -> Operand {
+fn read(number: usize) -> Operand {
     Operand::reg_use(vreg(number))
 }
 
@@ -66,7 +66,7 @@ fn many_live(alloc: Global) -> Result<TableFunction, BuildError> {
 
 /// Adds `count` operands to each of `defs` and `uses`.
 fn add_operands(
-    count: u16,
+    count: usize,
     defs: &mut Vec<Operand>,
     uses: &mut Vec<Operand>,
 ) -> Result<(), BuildError> {

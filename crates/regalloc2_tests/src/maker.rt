@@ -1,7 +1,7 @@
 //! Randomly generated functions: well-formed, each instruction fits, and each use comes after the
 //! definition on every path.
 
-ghost use Rattle.std.specs.Prelude.{◌≡◌, ◌<◌, IfSome};
+ghost use Rattle.std.specs.Prelude.{◌≡◌, ◌<◌};
 
 use super::graph::Graph;
 use super::instructions::Draft;
@@ -22,7 +22,7 @@ pub struct Maker {
     usable: PRegSet,
     /// How many registers of each class an instruction may require.
     most: [usize; 3],
-    /// How many vregs are named: the number above that of each.
+    /// How many vregs are named.
     named: usize,
     /// The vregs that may be read.
     known: Vec<VReg>,
@@ -52,16 +52,20 @@ impl Maker {
         })
     }
 
-    /// Returns a vreg of `class` that wasn't named yet, if there is a number left for one.
-    fn fresh(&mut self, class: RegClass) -> Option<VReg>
-        ensures { IfSome result (λ vreg. vreg.class ≡ class) }
+    /// A number above that of each vreg.
+    fn num_vregs(&self) -> usize
+        ensures { result < 1000000 }
     {
-        if self.named > VReg::MAX {
-            return None;
-        }
-        let vreg = VReg::new(self.named, class);
-        self.named += 1;
-        Some(vreg)
+        self.named % 1_000_000
+    }
+
+    /// Returns a vreg of `class` that wasn't named yet.
+    fn fresh(&mut self, class: RegClass) -> VReg
+        ensures { result.class ≡ class }
+    {
+        let vreg = VReg::new(self.num_vregs(), class);
+        self.named = self.named.wrapping_add(1);
+        vreg
     }
 
     /// Adds to `draft` a use of one of the first `defined` vregs that may be read.
@@ -82,7 +86,7 @@ impl Maker {
     /// Adds to `draft` a definition of a vreg that wasn't named yet.
     fn add_def(&mut self, draft: &mut Draft) -> Option<()> {
         let class = any_class(&mut self.random);
-        let vreg = self.fresh(class)?;
+        let vreg = self.fresh(class);
         self.known.push(vreg).ok()?;
         draft.add(&mut self.random, vreg, OperandKind::Def)
     }
@@ -92,9 +96,9 @@ impl Maker {
         let Some((index, class)) = draft.reused(&mut self.random) else {
             return Some(());
         };
-        let vreg = self.fresh(class)?;
+        let vreg = self.fresh(class);
         self.known.push(vreg).ok()?;
-        let operand = Operand::reg_reuse_def(vreg, index);
+        let operand = Operand::reg_reuse_def(vreg, index % 32);
         draft.operands.push(operand).ok()
     }
 
@@ -129,7 +133,7 @@ impl Maker {
     fn add_bases(&mut self, f: &mut TableBuilder) -> Option<()> {
         let mut defs = [Operand::any_def(VReg::new(0, RegClass::Int)); 3];
         for at in 0..3 {
-            let vreg = self.fresh(CLASSES[at])?;
+            let vreg = self.fresh(CLASSES[at]);
             self.known.push(vreg).ok()?;
             defs[at] = Operand::any_def(vreg);
         }
@@ -139,7 +143,7 @@ impl Maker {
     /// Adds a parameter to `block`.
     fn name_parameter(&mut self, graph: &mut Graph, block: usize) -> Option<()> {
         let class = any_class(&mut self.random);
-        let param = self.fresh(class)?;
+        let param = self.fresh(class);
         graph.nodes.get_mut(block)?.params.push(param).ok()
     }
 
@@ -225,7 +229,7 @@ impl Maker {
 
     /// Fills block `number`.
     fn fill(&mut self, graph: &mut Graph, f: &mut TableBuilder, number: usize) -> Option<()> {
-        let block = Block(u32::try_from(number).ok()?);
+        let block = Block::new(number % 100);
         for _ in 0..self.random.below(6) {
             f.inst(block, self.inst(7, InstOpcode::Op)?).ok()?;
         }
@@ -254,7 +258,7 @@ impl Maker {
         let mut graph = Graph::any(self.alloc, &mut self.random)?;
         let mut f = TableBuilder::new(self.alloc);
         self.fill_all(&mut graph, &mut f)?;
-        let mut f = f.finish(self.named).ok()?;
+        let mut f = f.finish(self.num_vregs()).ok()?;
         f.float_slot = SlotUnits::two();
         f.named_by_last_slot = self.random.once_in(2);
         Some(f)

@@ -3,14 +3,15 @@
 
 ghost use Rattle.regalloc2_analysis.specs.LiveRanges.LiveRanges.{IsSSA};
 
+use super::calls::OPTIONS;
 use super::random::integer_machine;
 use super::texts::labelled_function_of;
 use super::units::report::Report;
 use regalloc2::checker::places_are_cells;
 use regalloc2::ssa::test_definitions;
 use regalloc2::{
-    ALL_TESTS, Function, MachineEnv, Operand, PReg, PRegSet, RegAllocError, RegClass, VReg,
-    machine_fits, run_checked, test_blocks, test_ends,
+    Function, MachineEnv, Operand, PReg, PRegSet, RegAllocError, RegClass, VReg, machine_fits,
+    run_checked, test_blocks, test_ends,
 };
 use regalloc2_analysis::live_ranges::{LiveRange, kept_labels, live_ranges};
 use regalloc2_serialize::table_function::{BuildError, TableBuilder, TableFunction};
@@ -85,7 +86,7 @@ fn write_checked<F: Function>(alloc: Global, f: &F, env: &MachineEnv, out: &mut 
     if !machine_fits(f, env) {
         return;
     }
-    match run_checked(alloc, f, env, &ALL_TESTS) {
+    match run_checked(alloc, f, env, &OPTIONS) {
         Ok(made) => {
             let cells = places_are_cells(alloc, f, env, &made);
             out.row("checked", &(made.allocs.as_slice(), cells.ok()));

@@ -54,7 +54,7 @@ fn last_move(effect: LineEffect, line: usize, before: usize) -> usize
     }
 }
 
-/// Returns the error for the move on line `line`: no instruction of its block follows it.
+/// The error of the move on line `line`, which no instruction of its block follows.
 fn no_inst_after<'t>(line: usize) -> TextError<'t>
     ensures { (first : ℕ) → (last : ℕ) → first ≤ line → line ≤ last → IsOnLineBetween first last result }
 {
@@ -82,7 +82,7 @@ fn read_lines<'t, A: Allocator + Copy>(
     // Whether an instruction is to follow the move on the line `move_line`.
     let mut waits = false;
     let mut move_line = first_line;
-    loop {
+    'lines: loop {
         let (content, after) = split_line(rest);
         let (part, column) = shown_part(content);
         if let Err(flaw) = tokenize_from(part, column, tokens) {
@@ -107,7 +107,7 @@ fn read_lines<'t, A: Allocator + Copy>(
     Ok(line)
 }
 
-/// Reads `text`, whose first line has the number `first_line`.
+/// What a text says, whose first line has the number `first_line`.
 ///
 /// A line may also be one in which upstream prints a block, an instruction or a move of its
 /// results, behind what a logger wrote in brackets. If instructions are written so, the count of

@@ -22,10 +22,6 @@ use Rattle.regalloc2_serialize.specs.declared.data.StoredFunction.{StoredFunctio
 use Rattle.regalloc2_tool.specs.declared.calls.call.Call.{Call}
 use Rattle.regalloc2_tool.specs.declared.calls.call.Call.TheVariants.{Run, Check, Replay, Allocated, Text, Svg, Reads, Stats, StatsJson, Dump, Diff}
 use Rattle.regalloc2_tool.specs.declared.calls.call.Given.{Given}
-use Rattle.regalloc2_tool.specs.declared.calls.call.Report.{Report}
-use Rattle.regalloc2_tool.specs.declared.calls.call.Report.TheVariants as reports
-use Rattle.regalloc2_tool.specs.declared.calls.call.Shown.{Shown}
-use Rattle.regalloc2_tool.specs.declared.calls.call.Shown.TheVariants as shows
 
 -- the numbers of the output that is given, if there is one
 abbrev pub output_given : Given → Option (StoredOutput Global)
@@ -50,38 +46,43 @@ pub record IsAllocated (f : FunctionValue) (env : MachineValue) (out : OutputVal
   pub passes_checks : PassesAllChecks f env true
   pub allocation : IsAllocation f env out
 
--- what is tested of the allocator's output, and of the one that is given, where this is shown
-abbrev pub IsShown : Shown → Option (StoredOutput Global) → FunctionValue → MachineValue → OutputValue → Type 0
-IsShown shows.Listing given f env out = Unit {0}
-IsShown shows.Text given f env out = Unit {0}
-IsShown shows.Picture given f env out = Unit {0}
-IsShown shows.Findings given f env out = IsChecked f env out
-IsShown (shows.Report r) given f env out = Unit {0}
-IsShown shows.Diff given f env out = IsGivenChecked f env given × IsChecked f env out
+-- what a call that allocates has tested of the allocator's output, and of the one that is given
+abbrev pub IsShown : Call → Option (StoredOutput Global) → FunctionValue → MachineValue → OutputValue → Type 0
+IsShown Run given f env out = Unit {0}
+IsShown Check given f env out = IsChecked f env out
+IsShown Replay given f env out = IsChecked f env out
+IsShown Allocated given f env out = Unit {0}
+IsShown Text given f env out = Unit {0}
+IsShown Svg given f env out = Unit {0}
+IsShown Reads given f env out = IsChecked f env out
+IsShown Stats given f env out = Unit {0}
+IsShown StatsJson given f env out = Unit {0}
+IsShown Dump given f env out = Unit {0}
+IsShown Diff given f env out = IsGivenChecked f env given × IsChecked f env out
 
--- the allocator returns an output, and the tests of it pass
-abbrev pub HasShown : Shown → Option (StoredOutput Global) → FunctionValue → MachineValue → Type 0
-HasShown s given f env = (out : OutputValue) × IsAllocated f env out × IsShown s given f env out
+-- the allocator returns an output, and the call's tests of it pass
+abbrev pub HasShown : Call → Option (StoredOutput Global) → FunctionValue → MachineValue → Type 0
+HasShown call given f env = (out : OutputValue) × IsAllocated f env out × IsShown call given f env out
 
 -- the call allocates where no output is given; an output that is given is reported as it is
-abbrev pub HasReported : Report → Option (StoredOutput Global) → FunctionValue → MachineValue → Type 0
-HasReported r None f env = HasShown (shows.Report r) None f env
-HasReported r (Some o) f env = Unit {0}
+abbrev pub HasReported : Call → Option (StoredOutput Global) → FunctionValue → MachineValue → Type 0
+HasReported call None f env = HasShown call None f env
+HasReported call (Some o) f env = Unit {0}
 
 -- what holds of a function and its machine where the call is accepted
 abbrev pub IsAccepted : Call → Option (StoredOutput Global) → FunctionValue → MachineValue → Type 0
-IsAccepted Run given f env = HasShown shows.Listing given f env
-IsAccepted Check None f env = HasShown shows.Findings None f env
+IsAccepted Run given f env = HasShown Run given f env
+IsAccepted Check None f env = HasShown Check None f env
 IsAccepted Check (Some o) f env = IsGivenChecked f env (Some o)
 IsAccepted Replay given f env = IsGivenChecked f env given
-IsAccepted Allocated given f env = HasShown shows.Text given f env
+IsAccepted Allocated given f env = HasShown Allocated given f env
 IsAccepted Text given f env = Unit {0}
-IsAccepted Svg given f env = HasShown shows.Picture given f env
+IsAccepted Svg given f env = HasShown Svg given f env
 IsAccepted Reads given f env = IsFramed f × IsWrittenFirst f
-IsAccepted Stats given f env = HasReported reports.Table given f env
-IsAccepted StatsJson given f env = HasReported reports.Json given f env
-IsAccepted Dump given f env = HasReported reports.Dump given f env
-IsAccepted Diff given f env = HasShown shows.Diff given f env
+IsAccepted Stats given f env = HasReported Stats given f env
+IsAccepted StatsJson given f env = HasReported StatsJson given f env
+IsAccepted Dump given f env = HasReported Dump given f env
+IsAccepted Diff given f env = HasShown Diff given f env
 
 -- the numbers pass the tests of stored functions, and name the function and its machine
 pub record NamesBoth (s : StoredFunction Global) (f : FunctionValue) (env : MachineValue) : Type 0 where
@@ -89,13 +90,9 @@ pub record NamesBoth (s : StoredFunction Global) (f : FunctionValue) (env : Mach
   pub function : NamesFunction s f
   pub machine : NamesMachine s.machine_env env
 
--- the numbers name a function and a machine of which this holds
-abbrev pub IsNamed : StoredFunction Global → (FunctionValue → MachineValue → Type 0) → Type 0
-IsNamed s P = (f : FunctionValue) × (env : MachineValue) × NamesBoth s f env × P f env
-
 -- The numbers that are given name a function and a machine of which this holds. A call of `Text` tests nothing.
 abbrev pub IsAcceptedCall : Call → Given → Type 0
-IsAcceptedCall call given = IsNamed given.function.now (IsAccepted call (output_given given))
+IsAcceptedCall call given = (f : FunctionValue) × (env : MachineValue) × NamesBoth given.function.now f env × IsAccepted call (output_given given) f env
 
 -- the numbers that are given name a function and a machine, and they and the other numbers name outputs that are
 -- checked

@@ -72,7 +72,7 @@ impl Written for StoredOutput {
     }
 }
 
-/// Returns the words of `value`.
+/// The words of `value`.
 ///
 /// # Errors
 ///

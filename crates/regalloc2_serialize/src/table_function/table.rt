@@ -12,11 +12,11 @@ use std::alloc::{Allocator, Global};
 /// An instruction.
 #[derive(Debug, Drop)]
 pub struct TableInst<A: Allocator = Global> {
-    /// The operands.
+    /// What it does with vregs.
     pub operands: Vec<Operand, A>,
-    /// The registers that the instruction overwrites besides its operands.
+    /// The registers that it overwrites besides.
     pub clobbers: PRegSet,
-    /// What the instruction does to the control flow.
+    /// What it does to the control flow.
     pub op: InstOpcode,
 }
 
@@ -25,11 +25,11 @@ pub struct TableInst<A: Allocator = Global> {
 pub struct TableBlock<A: Allocator = Global> {
     /// The range of the block's instructions.
     pub range: InstRange,
-    /// The successors.
+    /// The blocks that may follow.
     pub succs: Vec<Block, A>,
-    /// The predecessors.
+    /// The blocks that it may follow.
     pub preds: Vec<Block, A>,
-    /// The parameters.
+    /// What takes the arguments.
     pub params: Vec<VReg, A>,
     /// The arguments for each successor.
     pub arguments: Vec<Vec<VReg, A>, A>,
@@ -38,7 +38,7 @@ pub struct TableBlock<A: Allocator = Global> {
 /// How many units a spill slot takes: a power of two from 1 to 2^24.
 #[derive(Debug, Drop)]
 pub struct SlotUnits {
-    /// The number of units.
+    /// How many.
     pub units: usize,
     pub ghost positive: { 1 ≤ units },
     pub ghost at_most: { units ≤ 2 ^ 24 },

@@ -24,7 +24,7 @@ pub struct Cursor<'a, 't> {
 }
 
 impl<'a, 't> Cursor<'a, 't> {
-    /// Returns the place before `tokens`, the tokens of a line; vregs read so far have numbers below `num_vregs`.
+    /// The place before a line's tokens, where the vregs so far are below `num_vregs`.
     pub fn new(tokens: &'a [Token<'t>], num_vregs: u64) -> Self {
         Cursor {
             tokens,
@@ -34,26 +34,26 @@ impl<'a, 't> Cursor<'a, 't> {
         }
     }
 
-    /// Returns one more than the greatest number of a vreg that was read.
+    /// One more than the greatest number of a vreg that was read.
     pub fn num_vregs(&self) -> u64 {
         self.num_vregs
     }
 
-    /// Records that a vreg with the number `number` was read.
+    /// Notes that a vreg with the number `number` was read.
     pub fn show_vreg(&mut self, number: u64)
         ensures { tokens_left self.new ≤ tokens_left self.old }
     {
         self.num_vregs = self.num_vregs.max(number.saturating_add(1));
     }
 
-    /// Returns the next token, if there is one.
+    /// The next token, where there is one.
     fn next(&self) -> Option<Token<'t>>
         ensures { IfSome result (λ _. self.now.at < length self.now.tokens.now) }
     {
         self.tokens.get(self.at).copied()
     }
 
-    /// Returns the text of the next token, if there is one.
+    /// The text of the next token, where there is one.
     pub fn peek(&self) -> Option<&'t str> {
         match self.next() {
             Some(token) => Some(token.text),
@@ -69,7 +69,7 @@ impl<'a, 't> Cursor<'a, 't> {
         }
     }
 
-    /// Returns the token before the next one, if there is one.
+    /// The token before the next one, where there is one.
     fn previous(&self) -> Option<Token<'t>> {
         self.tokens.get(self.at.wrapping_sub(1)).copied()
     }
@@ -201,7 +201,7 @@ impl<'a, 't> Cursor<'a, 't> {
         Ok(value)
     }
 
-    /// Consumes a number up to `max`, a token of its own, and returns it; 0, with a flaw, if no such number is next.
+    /// A number up to `max`, as a token of its own.
     pub fn number(&mut self, max: u64) -> u64
         ensures left { tokens_left self.new ≤ tokens_left self.old }
         ensures up_to { result ≤ max }
@@ -225,15 +225,15 @@ impl<'a, 't> Cursor<'a, 't> {
         }
     }
 
-    /// Consumes a number of 32 bits, a token of its own, and returns it; 0, with a flaw, if no such number is next.
+    /// A number of 32 bits, as a token of its own.
     pub fn word(&mut self) -> u32
         ensures { tokens_left self.new ≤ tokens_left self.old }
     {
         self.number(u64::from(u32::MAX)) as u32
     }
 
-    /// Consumes a word of `name` and a number of 32 bits, as `inst3`, and returns the number; 0, with a flaw, if no
-    /// such word is next. `expected` says what the word names.
+    /// The number of 32 bits in a word that is made of `name` and a number, as `inst3`; `expected` says what the word
+    /// names.
     pub fn named(&mut self, name: &str, expected: &'static str) -> u32
         ensures { tokens_left self.new ≤ tokens_left self.old }
     {

@@ -91,7 +91,7 @@ impl fmt::Display for Found<'_> {
 
 /// The first place at which a text can't be read.
 #[derive(Clone, Copy, Debug)]
-pub struct TextFault<'t> {
+pub struct Fault<'t> {
     /// The line, counted from the number that the caller gives the first one.
     pub line: usize,
     /// The column in bytes, counted from 1.
@@ -103,9 +103,9 @@ pub struct TextFault<'t> {
     pub ghost from_one: { 1 ≤ column },
 }
 
-impl fmt::Display for TextFault<'_> {
+impl fmt::Display for Fault<'_> {
     fn fmt<W: fmt::Write>(&self, f: &mut fmt::Formatter<W>) -> fmt::Result {
-        let TextFault {
+        let Fault {
             line,
             column,
             expected,
@@ -115,13 +115,13 @@ impl fmt::Display for TextFault<'_> {
     }
 }
 
-impl Error for TextFault<'_> {}
+impl Error for Fault<'_> {}
 
 /// Why a text is not read.
 #[derive(Clone, Copy, Debug)]
 pub enum TextError<'t> {
     /// A line can't be read.
-    Fault(TextFault<'t>),
+    Fault(Fault<'t>),
     /// Out of memory.
     Memory,
 }
@@ -153,14 +153,14 @@ impl<T: Drop> From<AllocFailed<T>> for TextError<'_> {
 #[derive(Clone, Copy)]
 pub enum Flaw<'t> {
     /// A token doesn't fit.
-    Fault(LineFault<'t>),
+    Misfit(Misfit<'t>),
     /// Out of memory.
     Memory,
 }
 
 /// The first token of a line that doesn't fit.
 #[derive(Clone, Copy)]
-pub struct LineFault<'t> {
+pub struct Misfit<'t> {
     /// The column in bytes, counted from 1.
     pub column: usize,
     /// What the line needs there.
@@ -177,7 +177,7 @@ impl<'t> Flaw<'t> {
     pub fn new(column: usize, expected: Expected, found: Found<'t>) -> Self
         requires { 1 ≤ column }
     {
-        Flaw::Fault(LineFault {
+        Flaw::Misfit(Misfit {
             column,
             expected,
             found,
@@ -189,13 +189,13 @@ impl<'t> Flaw<'t> {
         ensures { (first : ℕ) → (last : ℕ) → first ≤ line → line ≤ last → IsOnLineBetween first last result }
     {
         match self {
-            Flaw::Fault(
-                LineFault {
+            Flaw::Misfit(
+                Misfit {
                     column,
                     expected,
                     found,
                 },
-            ) => TextError::Fault(TextFault {
+            ) => TextError::Fault(Fault {
                 line,
                 column,
                 expected,

@@ -64,7 +64,7 @@ pub fn class_named(name: &str) -> Option<RegClass> {
     }
 }
 
-/// Returns the class that `name` names in upstream's `Debug`, if any.
+/// The class that `name` names in upstream's `Debug`, if any.
 fn class_in_debug(name: &str) -> Option<RegClass> {
     match name {
         "Int" => Some(RegClass::Int),
@@ -74,7 +74,7 @@ fn class_in_debug(name: &str) -> Option<RegClass> {
     }
 }
 
-/// Returns the kind and the position that `name` names, if any.
+/// The kind and the position that `name` names, if any.
 fn kind_named(name: &str) -> Option<(OperandKind, OperandPos)> {
     match name {
         "Def" => Some((OperandKind::Def, OperandPos::Late)),
@@ -107,7 +107,7 @@ fn is_fixed_alone(operand: Operand) -> bool {
     }
 }
 
-/// Returns the number and the class in `word`, a name of `letter` and a number up to `max`; or what is needed there.
+/// The name in `word`, of `letter` and a number up to `max`; or what the text needs in its place.
 fn name_in(word: &str, letter: char, max: usize, misnamed: &Misnamed) -> Result<Named, &'static str>
     ensures { IfOk result (λ named. named.number ≤ max) }
 {
@@ -147,7 +147,7 @@ impl Cursor<'_, '_> {
         self.want(")");
     }
 
-    /// Consumes a name of `letter` and a number up to `max`, and returns what it names.
+    /// A name of `letter` and a number up to `max`.
     fn letter_named(&mut self, letter: char, max: usize, misnamed: &Misnamed) -> Named
         ensures left { tokens_left self.new ≤ tokens_left self.old }
         ensures up_to { result.number ≤ max }
@@ -167,7 +167,7 @@ impl Cursor<'_, '_> {
         }
     }
 
-    /// Consumes a name, `=` and a number up to `max`, as `hw = 3`, and returns the number.
+    /// A number up to `max` behind a name and `=`, as `hw = 3`.
     fn number_part(&mut self, name: &'static str, max: u64) -> u64
         ensures left { tokens_left self.new ≤ tokens_left self.old }
         ensures up_to { result ≤ max }
@@ -177,7 +177,7 @@ impl Cursor<'_, '_> {
         self.number(max)
     }
 
-    /// Consumes `class = Int` or another class, and returns the class.
+    /// A class behind its name and `=`, as `class = Int`.
     fn class_part(&mut self) -> RegClass
         ensures { tokens_left self.new ≤ tokens_left self.old }
     {
@@ -195,7 +195,7 @@ impl Cursor<'_, '_> {
         }
     }
 
-    /// Consumes what follows `PReg` in upstream's `Debug`, as `(hw = 3, class = Int, index = 3)`; returns the register.
+    /// What follows `PReg` in upstream's `Debug`: `(hw = 3, class = Int, index = 3)`.
     fn register_parts(&mut self) -> Named
         ensures left { tokens_left self.new ≤ tokens_left self.old }
         ensures up_to { result.number ≤ PReg.MAX }
@@ -213,7 +213,7 @@ impl Cursor<'_, '_> {
         Named { number, class }
     }
 
-    /// Consumes what follows `VReg` in upstream's `Debug`, as `(vreg = 3, class = Int)`, and returns the vreg.
+    /// What follows `VReg` in upstream's `Debug`: `(vreg = 3, class = Int)`.
     fn vreg_parts(&mut self) -> Named
         ensures left { tokens_left self.new ≤ tokens_left self.old }
         ensures up_to { result.number ≤ VReg.MAX }
@@ -226,7 +226,7 @@ impl Cursor<'_, '_> {
         Named { number, class }
     }
 
-    /// Consumes a register, and returns it.
+    /// A register.
     pub fn register(&mut self) -> Named
         ensures left { tokens_left self.new ≤ tokens_left self.old }
         ensures up_to { result.number ≤ PReg.MAX }
@@ -237,7 +237,7 @@ impl Cursor<'_, '_> {
         self.letter_named('p', PReg::MAX, &NO_REGISTER)
     }
 
-    /// Consumes the index of a register, or one that is of none, and returns the index.
+    /// The index of a register, or one that is of none.
     pub fn register_bits(&mut self) -> u8
         ensures { tokens_left self.new ≤ tokens_left self.old }
     {
@@ -253,7 +253,7 @@ impl Cursor<'_, '_> {
         }
     }
 
-    /// Consumes a vreg, and returns it.
+    /// A vreg.
     fn vreg(&mut self) -> Named
         ensures left { tokens_left self.new ≤ tokens_left self.old }
         ensures up_to { result.number ≤ VReg.MAX }
@@ -264,7 +264,7 @@ impl Cursor<'_, '_> {
         self.letter_named('v', VReg::MAX, &NO_VREG)
     }
 
-    /// Consumes a vreg, or an encoding that is of none, and returns its encoding.
+    /// The encoding of a vreg, or one that is of none.
     pub fn vreg_bits(&mut self) -> u32
         ensures { tokens_left self.new ≤ tokens_left self.old }
     {
@@ -282,7 +282,7 @@ impl Cursor<'_, '_> {
         }
     }
 
-    /// Consumes an operand, or an encoding that is of none, and returns its encoding.
+    /// The encoding of an operand, or one that is of none.
     pub fn operand_bits(&mut self) -> u64
         ensures { tokens_left self.new ≤ tokens_left self.old }
     {
@@ -305,7 +305,7 @@ impl Cursor<'_, '_> {
         self.operand(kind, pos)
     }
 
-    /// Consumes what follows the colon of an operand of `kind` and `pos`, and returns the operand's encoding.
+    /// The encoding of an operand of `kind` and `pos`, from what follows the operand's colon.
     fn operand(&mut self, kind: OperandKind, pos: OperandPos) -> u64
         ensures { tokens_left self.new ≤ tokens_left self.old }
     {
@@ -319,7 +319,7 @@ impl Cursor<'_, '_> {
         operand.bits()
     }
 
-    /// Consumes the constraint of an operand whose vreg is of `class`, and returns it.
+    /// The constraint of an operand whose vreg is of `class`.
     fn constraint(&mut self, class: RegClass) -> OperandConstraint
         ensures left { tokens_left self.new ≤ tokens_left self.old }
         ensures of_class { IsConstraintOf class result }
@@ -344,7 +344,7 @@ impl Cursor<'_, '_> {
         }
     }
 
-    /// Consumes what follows `fixed`, a register of `class`, and returns the constraint.
+    /// What follows `fixed`: a register of `class`.
     fn fixed(&mut self, class: RegClass) -> OperandConstraint
         ensures left { tokens_left self.new ≤ tokens_left self.old }
         ensures of_class { IsConstraintOf class result }
@@ -358,7 +358,7 @@ impl Cursor<'_, '_> {
         OperandConstraint::FixedReg(PReg::new(named.number, class))
     }
 
-    /// Consumes what follows `reuse`, the index of an operand, and returns the constraint.
+    /// What follows `reuse`: the index of an operand.
     fn reuse(&mut self) -> OperandConstraint
         ensures left { tokens_left self.new ≤ tokens_left self.old }
         ensures of_class { (class : RegClass) → IsConstraintOf class result }
@@ -369,7 +369,7 @@ impl Cursor<'_, '_> {
         OperandConstraint::Reuse(index as usize)
     }
 
-    /// Consumes what follows `limit`, the range of hardware numbers, and returns the constraint.
+    /// What follows `limit`: the range of the hardware numbers.
     fn limit(&mut self) -> OperandConstraint
         ensures left { tokens_left self.new ≤ tokens_left self.old }
         ensures of_class { (class : RegClass) → IsConstraintOf class result }
@@ -394,7 +394,7 @@ impl Cursor<'_, '_> {
         OperandConstraint::Limit(bound)
     }
 
-    /// Consumes a place, or an encoding that is of none, and returns its encoding.
+    /// The encoding of a place, or one that is of none.
     pub fn place_bits(&mut self) -> u32
         ensures { tokens_left self.new ≤ tokens_left self.old }
     {
@@ -415,7 +415,7 @@ impl Cursor<'_, '_> {
         }
     }
 
-    /// Consumes the number of a spill slot, and returns it.
+    /// The number of a spill slot.
     fn slot(&mut self) -> usize
         ensures left { tokens_left self.new ≤ tokens_left self.old }
         ensures valid { result ≤ SpillSlot.MAX }
@@ -428,7 +428,7 @@ impl Cursor<'_, '_> {
         number
     }
 
-    /// Consumes a point, or a number that is of none, and returns its number.
+    /// The number of a point, or one that is of none.
     pub fn point_bits(&mut self) -> u32
         ensures { tokens_left self.new ≤ tokens_left self.old }
     {
@@ -453,7 +453,7 @@ impl Cursor<'_, '_> {
         ProgPoint::new(inst, pos).to_index()
     }
 
-    /// Returns whether a point is before or after its instruction.
+    /// Whether a point is before or after its instruction.
     fn position(&mut self) -> InstPosition
         ensures { tokens_left self.new ≤ tokens_left self.old }
     {
@@ -467,7 +467,7 @@ impl Cursor<'_, '_> {
         }
     }
 
-    /// Consumes a range of instructions; returns the numbers of its first instruction and of the one past its last.
+    /// The numbers of the first instruction of a range and of the one past its last.
     pub fn range(&mut self) -> (u32, u32)
         ensures { tokens_left self.new ≤ tokens_left self.old }
     {

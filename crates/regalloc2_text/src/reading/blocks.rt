@@ -25,7 +25,7 @@ pub(super) struct DraftBlock<A: Allocator> {
     args: Vec<Vec<u32, A>, A>,
 }
 
-/// Reads a list of vregs in brackets, and returns their encodings; empty if no bracket is next.
+/// Vregs in brackets, or none.
 fn vregs<A: Allocator>(alloc: A, cursor: &mut Cursor<'_, '_>) -> Vec<u32, A>
     ensures { tokens_left cursor.new ≤ tokens_left cursor.old }
 {
@@ -33,7 +33,7 @@ fn vregs<A: Allocator>(alloc: A, cursor: &mut Cursor<'_, '_>) -> Vec<u32, A>
     if !cursor.has("(") || cursor.has(")") {
         return vregs;
     }
-    loop {
+    'vregs: loop {
         let vreg = cursor.vreg_bits();
         cursor.push(&mut vregs, vreg);
         if !cursor.has(",") {
@@ -44,11 +44,11 @@ fn vregs<A: Allocator>(alloc: A, cursor: &mut Cursor<'_, '_>) -> Vec<u32, A>
     vregs
 }
 
-/// Reads one or more numbers between commas, and adds them to `numbers`.
+/// Reads numbers, and adds them to `numbers`.
 fn read_numbers<A: Allocator>(cursor: &mut Cursor<'_, '_>, numbers: &mut Vec<u32, A>)
     ensures { tokens_left cursor.new ≤ tokens_left cursor.old }
 {
-    loop {
+    'numbers: loop {
         let number = cursor.word();
         cursor.push(numbers, number);
         if !cursor.has(",") {
@@ -57,7 +57,7 @@ fn read_numbers<A: Allocator>(cursor: &mut Cursor<'_, '_>, numbers: &mut Vec<u32
     }
 }
 
-/// Reads one or more blocks between commas, and returns their numbers; empty for `none`.
+/// Numbers of blocks, or `none`.
 fn block_numbers<A: Allocator>(alloc: A, cursor: &mut Cursor<'_, '_>) -> Vec<u32, A>
     ensures { tokens_left cursor.new ≤ tokens_left cursor.old }
 {
@@ -65,7 +65,7 @@ fn block_numbers<A: Allocator>(alloc: A, cursor: &mut Cursor<'_, '_>) -> Vec<u32
     if cursor.has("none") {
         return numbers;
     }
-    loop {
+    'numbers: loop {
         let number = cursor.named("block", "a block");
         cursor.push(&mut numbers, number);
         if !cursor.has(",") {
@@ -76,8 +76,7 @@ fn block_numbers<A: Allocator>(alloc: A, cursor: &mut Cursor<'_, '_>) -> Vec<u32
 }
 
 impl<A: Allocator + Copy> DraftBlock<A> {
-    /// Reads a block's line, and returns the block without instructions. Its number has to be `next`, and `inst` is the
-    /// number of the next instruction.
+    /// The block of a line whose number is to be `next`, before its instructions, of which `inst` is the first.
     pub(super) fn read(alloc: A, cursor: &mut Cursor<'_, '_>, next: usize, inst: u32) -> Self {
         let number = cursor.named("block", "a block");
         if number as usize != next {
@@ -93,7 +92,7 @@ impl<A: Allocator + Copy> DraftBlock<A> {
             succs: Vec::new(alloc),
             args: Vec::new(alloc),
         };
-        while cursor.has(";") {
+        'parts: while cursor.has(";") {
             block.read_part(alloc, cursor);
         }
         cursor.want(":");
@@ -103,8 +102,8 @@ impl<A: Allocator + Copy> DraftBlock<A> {
         block
     }
 
-    /// Reads the successors and the predecessors behind a block's colon in a dump, as `[succs [2, 3] preds [0]]`, after
-    /// the first bracket.
+    /// Reads the successors and the predecessors behind a block's colon in a dump, after the first bracket: `[succs
+    /// [2, 3] preds [0]]`.
     fn read_neighbours(&mut self, alloc: A, cursor: &mut Cursor<'_, '_>) {
         if self.has_succs || self.preds.is_some() {
             cursor.misfit_before("each part once");
@@ -129,11 +128,11 @@ impl<A: Allocator + Copy> DraftBlock<A> {
         cursor.want(close);
     }
 
-    /// Reads one or more numbers of successors between commas, each with its arguments in brackets, if it has any.
+    /// Reads the numbers of successors, each perhaps with its arguments.
     fn read_numbered_targets(&mut self, alloc: A, cursor: &mut Cursor<'_, '_>)
         ensures { tokens_left cursor.new ≤ tokens_left cursor.old }
     {
-        loop {
+        'targets: loop {
             let succ = cursor.word();
             let args = vregs(alloc, cursor);
             cursor.push(&mut self.succs, succ);
@@ -144,7 +143,7 @@ impl<A: Allocator + Copy> DraftBlock<A> {
         }
     }
 
-    /// Reads a part of a block's line, after its semicolon: the range, the predecessors or the successors.
+    /// Reads a part of a block's line.
     fn read_part(&mut self, alloc: A, cursor: &mut Cursor<'_, '_>)
         ensures { tokens_left cursor.new ≤ tokens_left cursor.old }
     {
@@ -169,7 +168,7 @@ impl<A: Allocator + Copy> DraftBlock<A> {
         }
     }
 
-    /// Reads a successor and its arguments, and adds them to the block's.
+    /// Reads a successor and its arguments.
     fn read_target(&mut self, alloc: A, cursor: &mut Cursor<'_, '_>)
         ensures { tokens_left cursor.new ≤ tokens_left cursor.old }
     {
@@ -179,17 +178,17 @@ impl<A: Allocator + Copy> DraftBlock<A> {
         cursor.push(&mut self.args, args);
     }
 
-    /// Reads one or more successors between commas with their arguments, and adds them to the block's.
+    /// Reads successors and their arguments.
     fn read_targets(&mut self, alloc: A, cursor: &mut Cursor<'_, '_>)
         ensures { tokens_left cursor.new ≤ tokens_left cursor.old }
     {
         self.read_target(alloc, cursor);
-        while cursor.has(",") {
+        'targets: while cursor.has(",") {
             self.read_target(alloc, cursor);
         }
     }
 
-    /// Notes a flaw if an instruction before the one whose opcode was read last has the block's successors.
+    /// No instruction before one whose opcode is read has the block's successors.
     pub(super) fn want_unended(&self, cursor: &mut Cursor<'_, '_>)
         ensures { tokens_left cursor.new ≤ tokens_left cursor.old }
     {
@@ -198,7 +197,7 @@ impl<A: Allocator + Copy> DraftBlock<A> {
         }
     }
 
-    /// Reads the successors behind the opcode of an instruction of the block, if there are any.
+    /// Reads the successors behind the opcode of an instruction of the block, where they are there.
     pub(super) fn read_succs(&mut self, alloc: A, cursor: &mut Cursor<'_, '_>)
         ensures { tokens_left cursor.new ≤ tokens_left cursor.old }
     {
@@ -212,7 +211,7 @@ impl<A: Allocator + Copy> DraftBlock<A> {
         self.read_targets(alloc, cursor);
     }
 
-    /// Sets the end of the block's range to `end`, unless the block's line says the range.
+    /// Notes that instructions of the block go up to `end`, unless its line says its range.
     pub(super) fn extend(&mut self, end: u32) {
         if !self.has_range {
             self.range.1 = end;
@@ -222,7 +221,7 @@ impl<A: Allocator + Copy> DraftBlock<A> {
 
 /// What a function keeps of its blocks, list by list.
 #[derive(Drop)]
-pub(super) struct ReadBlocks<A: Allocator> {
+pub(super) struct BlockLists<A: Allocator> {
     pub(super) ranges: Vec<(u32, u32), A>,
     pub(super) preds: Vec<Vec<u32, A>, A>,
     pub(super) succs: Vec<Vec<u32, A>, A>,
@@ -244,7 +243,7 @@ fn add_pred<A: Allocator>(
     }
 }
 
-/// Returns the predecessors of each of `blocks`, which follow from the successors.
+/// Returns the predecessors of each of `blocks`, as they follow from the successors.
 fn default_preds<A: Allocator + Copy>(
     alloc: A,
     cursor: &mut Cursor<'_, '_>,
@@ -257,14 +256,14 @@ fn default_preds<A: Allocator + Copy>(
     preds
 }
 
-impl<A: Allocator + Copy> ReadBlocks<A> {
-    /// Returns the lists of `blocks`.
+impl<A: Allocator + Copy> BlockLists<A> {
+    /// The lists of `blocks`.
     pub(super) fn new(
         alloc: A,
         cursor: &mut Cursor<'_, '_>,
         blocks: Vec<DraftBlock<A>, A>,
     ) -> Self {
-        let mut lists = ReadBlocks {
+        let mut lists = BlockLists {
             ranges: Vec::new(alloc),
             preds: default_preds(alloc, cursor, blocks.as_slice()),
             succs: Vec::new(alloc),

@@ -28,7 +28,7 @@ pub(super) struct Draft<A: Allocator> {
 }
 
 impl<A: Allocator + Copy> Draft<A> {
-    /// Returns the draft before the first line.
+    /// Nothing is said.
     pub(super) fn new(alloc: A) -> Self {
         Draft {
             function: DraftFunction::new(alloc),
@@ -37,7 +37,7 @@ impl<A: Allocator + Copy> Draft<A> {
         }
     }
 
-    /// Reads a line, given as `tokens`. Returns what the line leaves to the lines after it, or the line's first flaw.
+    /// Reads a line, given as `tokens`.
     pub(super) fn read_line<'t>(
         &mut self,
         alloc: A,
@@ -56,8 +56,8 @@ impl<A: Allocator + Copy> Draft<A> {
         cursor.finish_with(effect)
     }
 
-    /// Reads a line whose first word is `inst` with a number: the line of a move of a dump, if `sign` behind the word
-    /// is `-`, else the line of an instruction. Returns what the line leaves to the lines after it.
+    /// Reads the line of an instruction or of a point, whose first word is one of an instruction and has `sign`
+    /// behind it.
     fn read_numbered(&mut self, alloc: A, sign: &str, cursor: &mut Cursor<'_, '_>) -> LineEffect {
         match sign {
             "-" => {
@@ -72,8 +72,7 @@ impl<A: Allocator + Copy> Draft<A> {
         LineEffect::Inst
     }
 
-    /// Reads a line whose first word is `word`, with `sign` behind it. Returns what the line leaves to the lines after
-    /// it.
+    /// Reads a line whose first word is `word`, with `sign` behind it.
     fn read_kind(
         &mut self,
         alloc: A,
@@ -104,8 +103,7 @@ impl<A: Allocator + Copy> Draft<A> {
         LineEffect::Nothing
     }
 
-    /// Reads what follows `word`, the first word of a line of the machine, the settings or the output. Notes a flaw if
-    /// no line begins with `word`.
+    /// Reads what follows `word`, the first word of a line that is no block's, instruction's or move's.
     fn read_other(&mut self, alloc: A, word: &str, cursor: &mut Cursor<'_, '_>) {
         match word {
             "regs" => self.function.machine.read_preferred(alloc, cursor),
@@ -124,7 +122,7 @@ impl<A: Allocator + Copy> Draft<A> {
         }
     }
 
-    /// Returns the function and the output that all lines describe, or the first flaw.
+    /// What the lines of the whole text say.
     pub(super) fn finish<'t>(self, alloc: A) -> Result<Text<A>, Flaw<'t>> {
         let no_tokens: [Token<'t>; 0] = [];
         let mut cursor = Cursor::new(&no_tokens, 0);

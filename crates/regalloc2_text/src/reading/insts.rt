@@ -8,7 +8,7 @@ use crate::cursor::{Cursor, Expected};
 use regalloc2_serialize::{InstOpcode, StoredInst};
 use std::alloc::Allocator;
 
-/// Returns the opcode that `name` names, if any.
+/// The opcode that `name` names, if any.
 pub(super) fn opcode_named(name: &str) -> Option<InstOpcode> {
     match name {
         "op" => Some(InstOpcode::Op),
@@ -18,8 +18,7 @@ pub(super) fn opcode_named(name: &str) -> Option<InstOpcode> {
     }
 }
 
-/// Reads an instruction's number, which may be left out and else has to be `next`, and its opcode, and returns the
-/// opcode. Returns `Op`, with a flaw, if there is no opcode.
+/// The opcode of an instruction, after its number, which is to be `next` where it is there.
 pub(super) fn read_opcode(cursor: &mut Cursor<'_, '_>, next: u32) -> InstOpcode {
     if cursor.begins("inst") && cursor.named("inst", "an instruction") != next {
         cursor.fault_before(Expected::NextInst(next as usize));
@@ -36,7 +35,7 @@ pub(super) fn read_opcode(cursor: &mut Cursor<'_, '_>, next: u32) -> InstOpcode 
     }
 }
 
-/// What a line says of an instruction behind its opcode and its successors.
+/// What follows an opcode and its successors.
 #[derive(Drop)]
 pub(super) struct DraftInst<A: Allocator> {
     operands: Vec<u64, A>,
@@ -48,7 +47,7 @@ pub(super) struct DraftInst<A: Allocator> {
 }
 
 impl<A: Allocator + Copy> DraftInst<A> {
-    /// Returns an instruction without operands.
+    /// Nothing is read.
     fn new(alloc: A) -> Self {
         DraftInst {
             operands: Vec::new(alloc),
@@ -58,20 +57,19 @@ impl<A: Allocator + Copy> DraftInst<A> {
         }
     }
 
-    /// Reads what follows an instruction's opcode and successors, and returns the operands, places and clobbers.
+    /// Reads the operands and the parts of an instruction's line.
     pub(super) fn read(alloc: A, cursor: &mut Cursor<'_, '_>) -> Self {
         let mut inst = DraftInst::new(alloc);
         if cursor.has(":") {
             inst.read_operands(cursor);
         }
-        while cursor.has(";") {
+        'parts: while cursor.has(";") {
             inst.read_part(alloc, cursor);
         }
         inst
     }
 
-    /// Reads what follows the opcode of an instruction of a dump: operands, each with its place, and clobbers in
-    /// brackets. Returns them.
+    /// Reads the operands of an instruction of a dump, each with its place, and the clobbers in brackets.
     pub(super) fn read_dumped(alloc: A, cursor: &mut Cursor<'_, '_>) -> Self {
         let mut inst = DraftInst::new(alloc);
         match cursor.peek() {
@@ -89,17 +87,17 @@ impl<A: Allocator + Copy> DraftInst<A> {
         inst
     }
 
-    /// Reads one or more operands between commas with their places, and adds them.
+    /// Reads operands and their places.
     fn read_operands(&mut self, cursor: &mut Cursor<'_, '_>)
         ensures { tokens_left cursor.new ≤ tokens_left cursor.old }
     {
         self.read_operand(cursor);
-        while cursor.has(",") {
+        'operands: while cursor.has(",") {
             self.read_operand(cursor);
         }
     }
 
-    /// Reads an operand, and its place in brackets if it has one, and adds them.
+    /// Reads an operand, and its place where that follows.
     fn read_operand(&mut self, cursor: &mut Cursor<'_, '_>)
         ensures { tokens_left cursor.new ≤ tokens_left cursor.old }
     {
@@ -116,7 +114,7 @@ impl<A: Allocator + Copy> DraftInst<A> {
         cursor.want("]");
     }
 
-    /// Reads a place, and adds it.
+    /// Reads a place.
     fn read_place(&mut self, cursor: &mut Cursor<'_, '_>)
         ensures { tokens_left cursor.new ≤ tokens_left cursor.old }
     {
@@ -124,7 +122,7 @@ impl<A: Allocator + Copy> DraftInst<A> {
         cursor.push(&mut self.places, place);
     }
 
-    /// Reads a part of an instruction's line, after its semicolon: the clobbers, or further places.
+    /// Reads a part of an instruction's line.
     fn read_part(&mut self, alloc: A, cursor: &mut Cursor<'_, '_>)
         ensures { tokens_left cursor.new ≤ tokens_left cursor.old }
     {
@@ -145,7 +143,7 @@ impl<A: Allocator + Copy> DraftInst<A> {
         }
     }
 
-    /// Reads one or more places between commas, and adds them after the operands' places.
+    /// Reads the places after the operands' places.
     fn read_more(&mut self, cursor: &mut Cursor<'_, '_>)
         ensures { tokens_left cursor.new ≤ tokens_left cursor.old }
     {
@@ -153,12 +151,12 @@ impl<A: Allocator + Copy> DraftInst<A> {
             cursor.misfit_before("`more` where each operand has a place");
         }
         self.read_place(cursor);
-        while cursor.has(",") {
+        'places: while cursor.has(",") {
             self.read_place(cursor);
         }
     }
 
-    /// Returns the instruction with the opcode `op`, and its places.
+    /// The instruction with the opcode `op`, and the places.
     pub(super) fn into_parts(self, alloc: A, op: InstOpcode) -> (StoredInst<A>, Vec<u32, A>) {
         let inst = StoredInst {
             op,

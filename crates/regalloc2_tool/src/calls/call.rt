@@ -1,6 +1,6 @@
 //! The calls about a stored function, and their results as text.
 
-ghost use Rattle.std.specs.Prelude.{◌≡◌, true, IfOk, IfSome};
+ghost use Rattle.std.specs.Prelude.{◌≡◌, true, false, IfOk, IfSome};
 ghost use Rattle.regalloc2_checker.specs.Cells.{AreCells};
 ghost use Rattle.regalloc2_semantics.specs.Faithful.{IsFaithful};
 ghost use Rattle.regalloc2_function.specs.OutputValue.{IsInOrder};
@@ -8,31 +8,40 @@ ghost use Rattle.regalloc2_semantics.specs.Runs.{IsWrittenFirst};
 ghost use Rattle.regalloc2_function.specs.Stored.{NamesValues, output_of_stored};
 ghost use Rattle.regalloc2_function.specs.Views.{machine_of, output_of};
 ghost use Rattle.regalloc2_function.specs.WellFormed.{IsFramed};
-ghost use Rattle.regalloc2_tool.specs.Calls.{AreAcceptedBoth, HasReported, HasShown, IsAcceptedCall, IsChecked, IsGivenChecked, IsShown, IsNamed, NamesBoth, output_given};
+ghost use Rattle.regalloc2_tool.specs.Calls.{AreAcceptedBoth, HasShown, IsAccepted, IsAcceptedCall, IsChecked, IsGivenChecked, IsShown, NamesBoth, output_given};
 ghost use Rattle.regalloc2_tool.specs.Framed.{BlocksAreWithin};
 ghost use Rattle.regalloc2_tool.specs.Text.{call_error_text};
 ghost use Rattle.regalloc2_serialize.specs.Tables.{function_of_serializable};
 
-use super::findings::{write_fault_site, write_findings, write_misfit, write_path, write_refusal};
 use crate::listing::write_listing;
 use crate::svg::Picture;
-use regalloc2::ALL_TESTS;
 use regalloc2_analysis::liveness::reads_written;
-use regalloc2_checker::{CellFault, check_output, test_cells};
-use regalloc2_fastalloc::run;
+use regalloc2_checker::{CellFault, CheckerError, check_output, test_cells};
+use regalloc2_fastalloc::{Algorithm, RegallocOptions, run};
 use regalloc2_function::{
-    Function, MachineEnv, Output, StoredFault, StoredOutput, is_framed, machine_fits,
+    Function, MachineEnv, Output, StoredFault, StoredOutput, is_framed, machine_fits, test_machine,
 };
-use regalloc2_names::RegAllocError;
+use regalloc2_index::Inst;
+use regalloc2_names::{Allocation, Operand, RegAllocError};
 use regalloc2_serialize::{SerializableFunction, StoredFunction};
 use regalloc2_text::explain::report::{Stats, StatsJson, write_diff, write_dump};
-use regalloc2_text::explain::{Source, explain_function, explain_output};
+use regalloc2_text::explain::{
+    Site, Source, explain, explain_function, explain_output, find_unwritten_read, last_writes,
+    misfit_at,
+};
+use regalloc2_text::refusal::RefusalText;
 use regalloc2_text::stored_fault::FaultText;
 use regalloc2_text::{WriteError, write};
 use std::alloc::{AllocError, AllocFailed, Global};
 use std::error::Error;
 use std::fmt;
 use std::io::{self, Write};
+
+/// No proof says that a stored function is well-formed, so it is tested.
+const OPTIONS: RegallocOptions = RegallocOptions {
+    validate_ssa: true,
+    algorithm: Algorithm::Fastalloc,
+};
 
 /// A call about a stored function.
 #[derive(Clone, Copy, Debug, PartialEq, Eq)]
@@ -173,6 +182,159 @@ impl Verdict {
     }
 }
 
+/// How many findings are explained. Each further finding is one line: many findings take no more
+/// time than the text.
+const EXPLAINED: usize = 10;
+
+/// The text before an error's cause.
+#[derive(Clone, Copy)]
+struct RefusalHead(RegAllocError);
+
+impl fmt::Display for RefusalHead {
+    fn fmt<W: fmt::Write>(&self, f: &mut fmt::Formatter<W>) -> fmt::Result {
+        let number = self.0.kind().number();
+        write!(f, "refused {number}: ")
+    }
+}
+
+/// Writes why the allocator rejects the function of `given` with `error`.
+fn write_refusal<E: Write>(
+    error: RegAllocError,
+    given: &Given<'_, '_, '_>,
+    err: &mut E,
+) -> Result<(), CallError> {
+    match &given.source {
+        Some(source) => {
+            let explanation = explain(given.function, &error);
+            explanation.write(&RefusalHead(error), given.function, source, err)?;
+        }
+        None => {
+            let refusal = RefusalText(error);
+            writeln!(err, "{refusal}")?;
+        }
+    }
+    Ok(())
+}
+
+/// Writes the line of the text `source` that contains the part of the function at `site`, if there is one.
+fn write_site<W: Write>(site: Site, source: &Source<'_>, to: &mut W) -> Result<(), CallError> {
+    if let Some(line) = source.find(site) {
+        writeln!(to, "  {line}")?;
+    }
+    Ok(())
+}
+
+/// Writes the line of the text whose numbers, at `site`, name nothing, if there are a text and a line.
+fn write_fault_site<W: Write>(
+    site: Site,
+    given: &Given<'_, '_, '_>,
+    to: &mut W,
+) -> Result<(), CallError> {
+    match &given.source {
+        Some(source) => write_site(site, source, to),
+        None => Ok(()),
+    }
+}
+
+/// Returns the instruction, operand and place that the finding `error` names, if it names an operand.
+fn place_found(error: &CheckerError) -> Option<(Inst, Operand, Option<Allocation>)> {
+    match error {
+        CheckerError::MissingAllocation { inst, op } => Some((*inst, *op, None)),
+        CheckerError::UnknownValueInAllocation { inst, op, alloc }
+        | CheckerError::ConflictedValueInAllocation { inst, op, alloc }
+        | CheckerError::IncorrectValuesInAllocation {
+            inst,
+            op,
+            alloc,
+            ..
+        } => Some((*inst, *op, Some(*alloc))),
+        CheckerError::ConstraintViolated { inst, op, .. }
+        | CheckerError::AllocationIsNotReg { inst, op, .. }
+        | CheckerError::AllocationIsNotFixedReg { inst, op, .. }
+        | CheckerError::AllocationIsNotReuse { inst, op, .. }
+        | CheckerError::AllocationIsNotStack { inst, op, .. }
+        | CheckerError::AllocationOutsideLimit { inst, op, .. } => Some((*inst, *op, None)),
+        _ => None,
+    }
+}
+
+/// Returns the index of the first operand of `inst` that equals `operand`.
+fn operand_index(function: &StoredFunction, inst: Inst, operand: Operand) -> Option<usize> {
+    let data = function.insts.get(inst.index())?;
+    let bits = operand.bits();
+    data.operands.iter().position(|other| *other == bits)
+}
+
+/// Writes the line of the operand that the finding `error` names and, if the operand reads another value, what wrote
+/// its place last.
+fn explain_finding<W: Write>(
+    alloc: Global,
+    error: &CheckerError,
+    given: &Given<'_, '_, '_>,
+    source: &Source<'_>,
+    to: &mut W,
+) -> Result<(), CallError> {
+    let Some((inst, operand, place)) = place_found(error) else {
+        return Ok(());
+    };
+    let number = inst.index();
+    let site = match operand_index(given.function, inst, operand) {
+        Some(index) => Site::Operand(number, index),
+        None => Site::Inst(number),
+    };
+    write_site(site, source, to)?;
+    let (Some(place), Some(output)) = (place, given.output) else {
+        return Ok(());
+    };
+    let pos = operand.pos();
+    if let Some(writes) = last_writes(alloc, given.function, output, number, pos, place)? {
+        writes.write(to)?;
+    }
+    Ok(())
+}
+
+/// Writes a path of `function` on which a vreg is read or passed before it is written.
+fn write_path<W: Write>(
+    alloc: Global,
+    function: &StoredFunction,
+    source: &Source<'_>,
+    to: &mut W,
+) -> Result<(), CallError> {
+    let Some(read) = find_unwritten_read(alloc, function)? else {
+        return Ok(());
+    };
+    writeln!(to, "  {read}")?;
+    write_site(read.site, source, to)
+}
+
+/// Writes a line for each of `errors`, unless it is a failed memory allocation, and explains the first ones if there
+/// is a text.
+///
+/// If the output is the allocator's own, a path follows on which a vreg is read or passed before it is written.
+/// Returns `false`: the output isn't accepted.
+fn write_findings<W: Write>(
+    alloc: Global,
+    errors: &[CheckerError],
+    given: &Given<'_, '_, '_>,
+    to: &mut W,
+) -> Result<bool, CallError>
+    ensures { IfOk result (λ b. b ≡ false) }
+{
+    for (k, error) in errors.iter().enumerate() {
+        if let CheckerError::Memory = error {
+            return Err(CallError::Memory);
+        }
+        writeln!(to, "{error}")?;
+        if let (Some(source), true) = (&given.source, k < EXPLAINED) {
+            explain_finding(alloc, error, given, source, to)?;
+        }
+    }
+    if let (Some(source), None) = (&given.source, given.output) {
+        write_path(alloc, given.function, source, to)?;
+    }
+    Ok(false)
+}
+
 /// Writes `checked`, or the first error in the places of `output` as cells. Returns whether there is none.
 fn judge_cells<F: Function, W: Write>(
     alloc: Global,
@@ -217,11 +379,10 @@ fn judge<F: Function, W: Write>(
             if errors.is_empty() {
                 return judge_cells(alloc, f, env, output, to);
             }
-            write_findings(alloc, &errors, given, to)?;
+            write_findings(alloc, &errors, given, to)
         }
-        Err(error) => write_findings(alloc, &[error], given, to)?,
+        Err(error) => write_findings(alloc, &[error], given, to),
     }
-    Ok(false)
 }
 
 /// Checks `output`, if `f` is structurally valid.
@@ -312,23 +473,21 @@ fn judge_reads<F: Function, W: Write>(
     Ok(true)
 }
 
-/// Returns the verdict of [`judge_reads`] on the function of `given`, or that the function isn't structurally valid.
-fn test_reads<W: Write, E: Write>(
+/// Returns the verdict of [`judge_reads`] on `f`, or that it isn't structurally valid.
+fn test_reads<F: Function, W: Write, E: Write>(
     alloc: Global,
+    f: &F,
     given: &Given<'_, '_, '_>,
     to: &mut W,
     err: &mut E,
 ) -> Result<Verdict, CallError>
-    ensures { IfOk result (λ v. v ≡ Verdict.Accepted → IsNamed given.now.function.now (λ f env. IsFramed f × IsWrittenFirst f)) }
+    ensures { IfOk result (λ v. v ≡ Verdict.Accepted → IsFramed (F.function f.now) × IsWrittenFirst (F.function f.now)) }
 {
-    let Some(f) = function_of(alloc, given, err)? else {
-        return Ok(Verdict::Unusable);
-    };
-    if !is_framed(&f) {
+    if !is_framed(f) {
         err.write_all(b"not framed\n")?;
         return Ok(Verdict::Unusable);
     }
-    let is_accepted = judge_reads(alloc, &f, given, to)?;
+    let is_accepted = judge_reads(alloc, f, given, to)?;
     Ok(Verdict::of(is_accepted))
 }
 
@@ -344,34 +503,21 @@ fn write_text<W: Write>(
     Ok(())
 }
 
-/// What is reported of an output.
-#[derive(Clone, Copy)]
-pub enum Report {
-    /// Counts, as a table.
-    Table,
-    /// Counts, as JSON.
-    Json,
-    /// The output as upstream writes it.
-    Dump,
-}
-
-/// Writes `report` about `output`.
-fn write_report<W: Write>(
-    report: Report,
+/// Writes what `call` reports of `output`.
+fn report<W: Write>(
+    call: Call,
     function: &StoredFunction,
     output: &StoredOutput,
     to: &mut W,
 ) -> Result<(), CallError> {
-    match report {
-        Report::Table => {
-            let stats = Stats::of(function, output);
-            write!(to, "{stats}")?;
-        }
-        Report::Json => {
-            let json = StatsJson(Stats::of(function, output));
+    let stats = Stats::of(function, output);
+    match call {
+        Call::Dump => write_dump(function, output, to)?,
+        Call::StatsJson => {
+            let json = StatsJson(stats);
             write!(to, "{json}")?;
         }
-        Report::Dump => write_dump(function, output, to)?,
+        _ => write!(to, "{stats}")?,
     }
     Ok(())
 }
@@ -406,34 +552,10 @@ fn compare<F: Function, W: Write, E: Write>(
     Ok(Verdict::of(is_accepted && !differs))
 }
 
-/// What a call shows of the allocator's output.
-#[derive(Clone, Copy)]
-pub enum Shown {
-    /// The listing.
-    Listing,
-    /// The text of the function with the output.
-    Text,
-    /// A picture of each vreg's current location.
-    Picture,
-    /// What the checker finds in the output.
-    Findings,
-    /// A report.
-    Report(Report),
-    /// The differences from the output that is given, and what the checker finds in both.
-    Diff,
-}
-
-/// Returns the numbers of `output`.
-fn stored_of(output: &Output) -> Result<StoredOutput, CallError> {
-    match output.stored() {
-        Ok(stored) => Ok(stored),
-        Err(_) => Err(CallError::Memory),
-    }
-}
-
-/// Compares the output of `given` with the allocator's, `output`, as [`compare`] does.
-fn compare_with_own<F: Function, W: Write, E: Write>(
+/// Performs `call`, which is about the stored form of the allocator's `output`.
+fn show_stored<F: Function, W: Write, E: Write>(
     alloc: Global,
+    call: Call,
     f: &F,
     env: &MachineEnv,
     output: &Output,
@@ -441,23 +563,51 @@ fn compare_with_own<F: Function, W: Write, E: Write>(
     to: &mut W,
     err: &mut E,
 ) -> Result<Verdict, CallError>
-    ensures { IfOk result (λ v. v ≡ Verdict.Accepted → IsShown Shown.Diff (output_given given.now) (F.function f.now) (machine_of env.now) (output_of output.now)) }
+    ensures { call ≡ Call.Diff → IfOk result (λ v. v ≡ Verdict.Accepted → IsShown Call.Diff (output_given given.now) (F.function f.now) (machine_of env.now) (output_of output.now)) }
 {
     let Ok(stored) = output.stored() else {
         return Err(CallError::Memory);
     };
-    let own = Given {
-        function: given.function,
-        output: Some(&stored),
-        source: None,
-    };
-    compare(alloc, f, env, given, &own, to, err)
+    match call {
+        Call::Diff => {
+            let other = Given {
+                function: given.function,
+                output: Some(&stored),
+                source: None,
+            };
+            return compare(alloc, f, env, given, &other, to, err);
+        }
+        Call::Allocated | Call::Text => write_text(alloc, given.function, Some(&stored), to)?,
+        _ => report(call, given.function, &stored, to)?,
+    }
+    Ok(Verdict::Accepted)
 }
 
-/// Writes what is `shown` of the allocator's `output`.
+/// Writes why the machine `env` doesn't fit `f`.
+fn write_misfit<F: Function, E: Write>(
+    f: &F,
+    env: &MachineEnv,
+    given: &Given<'_, '_, '_>,
+    err: &mut E,
+) -> Result<(), CallError> {
+    let Some(source) = &given.source else {
+        err.write_all(b"bad machine\n")?;
+        return Ok(());
+    };
+    let Err(misfit) = test_machine(f, env) else {
+        return Ok(());
+    };
+    writeln!(err, "bad machine: {misfit}")?;
+    match misfit_at(given.function, misfit) {
+        Some(site) => write_site(site, source, err),
+        None => Ok(()),
+    }
+}
+
+/// Performs `call`, which is about the allocator's `output`; `Replay` and `Reads` are performed as a `Check`.
 fn show<F: Function, W: Write, E: Write>(
     alloc: Global,
-    shown: Shown,
+    call: Call,
     f: &F,
     env: &MachineEnv,
     output: &Output,
@@ -468,88 +618,43 @@ fn show<F: Function, W: Write, E: Write>(
     requires framed { IsFramed (F.function f.now) }
     requires order { IsInOrder (F.function f.now) (output_of output.now) }
     requires blocks { BlocksAreWithin (F.function f.now) }
-    ensures { IfOk result (λ v. v ≡ Verdict.Accepted → IsShown shown (output_given given.now) (F.function f.now) (machine_of env.now) (output_of output.now)) }
+    ensures { IfOk result (λ v. v ≡ Verdict.Accepted → IsShown call (output_given given.now) (F.function f.now) (machine_of env.now) (output_of output.now)) }
 {
-    match shown {
-        Shown::Listing => write_listing(f, output, to)?,
-        Shown::Text => {
-            let stored = stored_of(output)?;
-            write_text(alloc, given.function, Some(&stored), to)?;
-        }
-        Shown::Picture => Picture::new(alloc).draw(f, output, to)?,
-        Shown::Findings => {
+    match call {
+        Call::Run => write_listing(f, output, to)?,
+        Call::Svg => Picture::new(alloc).draw(f, output, to)?,
+        Call::Check | Call::Replay | Call::Reads => {
             let is_accepted = judge(alloc, f, env, output, given, to)?;
             return Ok(Verdict::of(is_accepted));
         }
-        Shown::Report(report) => {
-            let stored = stored_of(output)?;
-            write_report(report, given.function, &stored, to)?;
-        }
-        Shown::Diff => return compare_with_own(alloc, f, env, output, given, to, err),
+        _ => return show_stored(alloc, call, f, env, output, given, to, err),
     }
     Ok(Verdict::Accepted)
 }
 
-/// Allocates registers to the function of `given`, and writes what is `shown` of the output.
-fn allocate<W: Write, E: Write>(
+/// Allocates registers to `f`, and performs `call` about the output.
+fn allocate<F: Function, W: Write, E: Write>(
     alloc: Global,
-    shown: Shown,
+    call: Call,
+    f: &F,
+    env: &MachineEnv,
     given: &Given<'_, '_, '_>,
     to: &mut W,
     err: &mut E,
 ) -> Result<Verdict, CallError>
-    ensures { IfOk result (λ v. v ≡ Verdict.Accepted → IsNamed given.now.function.now (HasShown shown (output_given given.now))) }
+    ensures { IfOk result (λ v. v ≡ Verdict.Accepted → HasShown call (output_given given.now) (F.function f.now) (machine_of env.now)) }
 {
-    let Some(f) = function_of(alloc, given, err)? else {
-        return Ok(Verdict::Unusable);
-    };
-    let env = f.machine_env();
-    if !machine_fits(&f, env) {
-        write_misfit(&f, env, given, err)?;
+    if !machine_fits(f, env) {
+        write_misfit(f, env, given, err)?;
         return Ok(Verdict::Unusable);
     }
-    match run(alloc, &f, env, &ALL_TESTS) {
-        Ok(output) => show(alloc, shown, &f, env, &output, given, to, err),
+    match run(alloc, f, env, &OPTIONS) {
+        Ok(output) => show(alloc, call, f, env, &output, given, to, err),
         Err(RegAllocError::Memory) => Err(CallError::Memory),
         Err(error) => {
             write_refusal(error, given, err)?;
             Ok(Verdict::Rejected)
         }
-    }
-}
-
-/// Writes `report` about the output of `given` or, if there is none, about the allocator's.
-fn report_on<W: Write, E: Write>(
-    alloc: Global,
-    report: Report,
-    given: &Given<'_, '_, '_>,
-    to: &mut W,
-    err: &mut E,
-) -> Result<Verdict, CallError>
-    ensures { IfOk result (λ v. v ≡ Verdict.Accepted → IsNamed given.now.function.now (HasReported report (output_given given.now))) }
-{
-    let Some(output) = given.output else {
-        return allocate(alloc, Shown::Report(report), given, to, err);
-    };
-    let Some(_) = function_of(alloc, given, err)? else {
-        return Ok(Verdict::Unusable);
-    };
-    write_report(report, given.function, output, to)?;
-    Ok(Verdict::Accepted)
-}
-
-/// Checks the output of `given`, an output of the function of `given`.
-fn check_given<W: Write, E: Write>(
-    alloc: Global,
-    given: &Given<'_, '_, '_>,
-    to: &mut W,
-    err: &mut E,
-) -> Result<Verdict, CallError>
-    ensures { IfOk result (λ v. v ≡ Verdict.Accepted → IsNamed given.now.function.now (λ f env. IsGivenChecked f env (output_given given.now))) }
-{
-    match function_of(alloc, given, err)? {
-        Some(f) => replay(alloc, &f, f.machine_env(), given, to, err),
-        None => Ok(Verdict::Unusable),
     }
 }
 
@@ -593,6 +698,29 @@ pub fn perform_diff<W: Write, E: Write>(
     }
 }
 
+/// Performs `call`, which isn't `Text`, about `f`, the function that the numbers of `given` name.
+fn perform<F: Function, W: Write, E: Write>(
+    alloc: Global,
+    call: Call,
+    f: &F,
+    env: &MachineEnv,
+    given: &Given<'_, '_, '_>,
+    to: &mut W,
+    err: &mut E,
+) -> Result<Verdict, CallError>
+    ensures { IfOk result (λ v. v ≡ Verdict.Accepted → IsAccepted call (output_given given.now) (F.function f.now) (machine_of env.now)) }
+{
+    match (call, given.output) {
+        (Call::Replay, _) | (Call::Check, Some(_)) => replay(alloc, f, env, given, to, err),
+        (Call::Reads, _) => test_reads(alloc, f, given, to, err),
+        (Call::Stats | Call::StatsJson | Call::Dump, Some(output)) => {
+            report(call, given.function, output, to)?;
+            Ok(Verdict::Accepted)
+        }
+        _ => allocate(alloc, call, f, env, given, to, err),
+    }
+}
+
 /// Performs a call, and writes the result.
 ///
 /// The result is the listing, the text, the picture, counts, upstream's form, the differences
@@ -616,22 +744,12 @@ pub fn perform_call<W: Write, E: Write>(
 ) -> Result<Verdict, CallError>
     ensures { (call ≡ Call.Text → ⊥) → IfOk result (λ v. v ≡ Verdict.Accepted → IsAcceptedCall call given.now) }
 {
-    match call {
-        Call::Run => allocate(alloc, Shown::Listing, given, to, err),
-        Call::Allocated => allocate(alloc, Shown::Text, given, to, err),
-        Call::Svg => allocate(alloc, Shown::Picture, given, to, err),
-        Call::Diff => allocate(alloc, Shown::Diff, given, to, err),
-        Call::Check if given.output.is_none() => {
-            allocate(alloc, Shown::Findings, given, to, err)
-        }
-        Call::Check | Call::Replay => check_given(alloc, given, to, err),
-        Call::Reads => test_reads(alloc, given, to, err),
-        Call::Stats => report_on(alloc, Report::Table, given, to, err),
-        Call::StatsJson => report_on(alloc, Report::Json, given, to, err),
-        Call::Dump => report_on(alloc, Report::Dump, given, to, err),
-        Call::Text => {
-            write_text(alloc, given.function, given.output, to)?;
-            Ok(Verdict::Accepted)
-        }
+    if call == Call::Text {
+        write_text(alloc, given.function, given.output, to)?;
+        return Ok(Verdict::Accepted);
+    }
+    match function_of(alloc, given, err)? {
+        Some(f) => perform(alloc, call, &f, f.machine_env(), given, to, err),
+        None => Ok(Verdict::Unusable),
     }
 }

@@ -1,37 +1,56 @@
 //! An allocation and the checker's findings, as text.
 
-ghost use Rattle.std.specs.Prelude.{[], ◌∷◌, IfOk, OnOk};
+ghost use Rattle.std.specs.Prelude.{◌≡◌, true, false, [], ◌∷◌, IfOk};
 ghost use Rattle.std.specs.Io.KnownBytes.{Appends};
 ghost use Rattle.regalloc2_function.specs.Views.{machine_of, output_of};
 ghost use Rattle.regalloc2_function.specs.WellFormed.{IsFramed};
 ghost use Rattle.regalloc2_function.specs.Fitting.{MachineFits};
 ghost use Rattle.regalloc2_tool.specs.Ra2.Findings.{IsOutputJudged, findings_text};
 ghost use Rattle.regalloc2_tool.specs.Ra2.Outcome.{IsOutcome};
+ghost use Rattle.regalloc2_tool.specs.Ra2.Text.{checked_line};
 
 use super::task::Task;
 use crate::listing::write_listing;
 use regalloc2::checker::{Checker, CheckerError};
-use regalloc2::{ALL_TESTS, Function, MachineEnv, Output, run};
+use regalloc2::{Algorithm, Function, MachineEnv, Output, RegallocOptions, run};
 use regalloc2_checker::FaultLine;
 use std::alloc::Allocator;
 use std::io::{self, Write};
 
-/// Writes the line of `error`.
-fn write_finding<A: Allocator, O: Write>(error: &CheckerError<A>, out: &mut O) -> io::Result<()>
-    ensures { OnOk result (Appends (O.contents out.old) (O.contents out.new) (findings_text (error.now ∷ []))) }
+/// No proof says that the input function is well-formed, so it is tested.
+const OPTIONS: RegallocOptions = RegallocOptions {
+    validate_ssa: true,
+    algorithm: Algorithm::Fastalloc,
+};
+
+/// Writes the line of `error`. Returns `false`: the output isn't accepted.
+fn write_finding<A: Allocator, O: Write>(error: &CheckerError<A>, out: &mut O) -> io::Result<bool>
+    ensures { IfOk result (λ b. (b ≡ false) × Appends (O.contents out.old) (O.contents out.new) (findings_text (error.now ∷ []))) }
 {
     let line = FaultLine(error);
-    writeln!(out, "{line}")
+    writeln!(out, "{line}")?;
+    Ok(false)
 }
 
-/// Writes a line for each of `errors`.
-fn write_findings<A: Allocator, O: Write>(errors: &[CheckerError<A>], out: &mut O) -> io::Result<()>
-    ensures { OnOk result (Appends (O.contents out.old) (O.contents out.new) (findings_text errors.now)) }
+/// Writes a line for each of `errors`. Returns `false`: the output isn't accepted.
+fn write_findings<A: Allocator, O: Write>(
+    errors: &[CheckerError<A>],
+    out: &mut O,
+) -> io::Result<bool>
+    ensures { IfOk result (λ b. (b ≡ false) × Appends (O.contents out.old) (O.contents out.new) (findings_text errors.now)) }
 {
     for error in errors {
         write_finding(error, out)?;
     }
-    Ok(())
+    Ok(false)
+}
+
+/// Writes that the output is accepted. Returns `true`.
+fn write_checked<O: Write>(out: &mut O) -> io::Result<bool>
+    ensures { IfOk result (λ b. (b ≡ true) × Appends (O.contents out.old) (O.contents out.new) checked_line) }
+{
+    writeln!(out, "checked")?;
+    Ok(true)
 }
 
 /// Writes `checked`, or the errors that the checker finds in `output`. Returns whether there are none.
@@ -47,24 +66,14 @@ pub fn judge<A: Allocator + Copy, F: Function, O: Write>(
 {
     let mut checker = match Checker::new(alloc, f, env) {
         Ok(checker) => checker,
-        Err(error) => {
-            write_finding(&error, out)?;
-            return Ok(false);
-        }
+        Err(error) => return write_finding(&error, out),
     };
     if let Err(error) = checker.prepare(output) {
-        write_finding(&error, out)?;
-        return Ok(false);
+        return write_finding(&error, out);
     }
     match checker.run() {
-        Ok(()) => {
-            writeln!(out, "checked")?;
-            Ok(true)
-        }
-        Err(errors) => {
-            write_findings(errors.errors(), out)?;
-            Ok(false)
-        }
+        Ok(()) => write_checked(out),
+        Err(errors) => write_findings(errors.errors(), out),
     }
 }
 
@@ -82,7 +91,7 @@ pub fn show<A: Allocator + Copy, F: Function, O: Write>(
     requires machine { MachineFits (F.function f.now) (machine_of env.now) }
     ensures { IfOk result (IsOutcome A task (F.function f.now) (machine_of env.now) (Appends (O.contents out.old) (O.contents out.new))) }
 {
-    match run(alloc, f, env, &ALL_TESTS) {
+    match run(alloc, f, env, &OPTIONS) {
         Ok(output) => {
             write_listing(f, &output, out)?;
             match task {

@@ -155,8 +155,8 @@ fn are_same_functions(
     are_same(one.as_str(), other.as_str(), err)
 }
 
-/// Writes how the outputs of `given` and `other` differ, and the checker's findings in each.
-fn compare_outputs(
+/// Writes how the outputs of `given` and `other` differ.
+fn act_diff(
     alloc: Global,
     given: &Given<'_, '_, '_>,
     other: Other<'_, '_, '_>,
@@ -182,8 +182,32 @@ struct Inputs<'t, 'i, 'p, 'u, 'o> {
     other: Option<Other<'p, 'u, 'o>>,
 }
 
-/// Performs the action of `task` with `inputs`, and writes the result to `out`, and what is wrong to `err`.
-fn perform_action(
+/// Performs the action of `task` with `given`.
+fn act_on(
+    alloc: Global,
+    task: Task<'_>,
+    given: &Given<'_, '_, '_>,
+    other: Option<Other<'_, '_, '_>>,
+    out: &mut Vec<u8>,
+    err: &mut Vec<u8>,
+) -> Result<Verdict, CallError> {
+    match (task.action, other) {
+        (Action::Json, _) => {
+            write_function(alloc, given.function, out)?;
+            Ok(Verdict::Accepted)
+        }
+        (Action::Call(Call::Diff), Some(other)) => act_diff(alloc, given, other, out, err),
+        (Action::Call(call), _) => {
+            if !matches!(call, Call::Text) {
+                warn(task.path, given.function, err)?;
+            }
+            perform_call(alloc, call, given, out, err)
+        }
+    }
+}
+
+/// Performs the action of `task` with `inputs`.
+fn act(
     alloc: Global,
     task: Task<'_>,
     inputs: Inputs<'_, '_, '_, '_, '_>,
@@ -195,31 +219,28 @@ fn perform_action(
         return Err(CallError::Memory);
     };
     let given = given_of(inputs.input, inputs.text, name.as_str());
-    match (task.action, inputs.other) {
-        (Action::Json, _) => {
-            write_function(alloc, given.function, out)?;
-            Ok(Verdict::Accepted)
-        }
-        (Action::Call(Call::Diff), Some(other)) => {
-            compare_outputs(alloc, &given, other, out, err)
-        }
-        (Action::Call(call), _) => {
-            if !matches!(call, Call::Text) {
-                warn(path, given.function, err)?;
-            }
-            perform_call(alloc, call, &given, out, err)
-        }
-    }
+    act_on(alloc, task, &given, inputs.other, out, err)
 }
 
-/// Performs the action of `task` with `inputs`, and returns only its verdict.
-fn perform_quietly(
+/// Performs the action of `task` with `inputs`, and writes nothing if the task is quiet.
+fn act_as_asked(
     alloc: Global,
     task: Task<'_>,
     inputs: Inputs<'_, '_, '_, '_, '_>,
+    out: &mut Vec<u8>,
+    err: &mut Vec<u8>,
 ) -> Result<Verdict, CallError> {
-    let (mut out, mut err) = (Vec::new(alloc), Vec::new(alloc));
-    perform_action(alloc, task, inputs, &mut out, &mut err)
+    if task.is_quiet {
+        act(
+            alloc,
+            task,
+            inputs,
+            &mut Vec::new(alloc),
+            &mut Vec::new(alloc),
+        )
+    } else {
+        act(alloc, task, inputs, out, err)
+    }
 }
 
 /// Reads the input `bytes`; `None` if it can't be read, which a line on `err` reports with `path`.
@@ -245,15 +266,10 @@ fn finish(
 ) -> u8
     ensures { result ≤ 2 }
 {
-    let performed = if task.is_quiet {
-        perform_quietly(alloc, task, inputs)
-    } else {
-        perform_action(alloc, task, inputs, out, err)
-    };
-    match performed {
+    let path = task.path;
+    match act_as_asked(alloc, task, inputs, out, err) {
         Ok(verdict) => status_of(verdict),
         Err(error) => {
-            let path = task.path;
             let _ = writeln!(err, "ra2_text: {path}: {error}");
             UNUSABLE
         }

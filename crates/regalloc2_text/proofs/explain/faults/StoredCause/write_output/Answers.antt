@@ -1,6 +1,6 @@
 use Rattle.std.proofs.Common.{append_assoc}
 use Rattle.std.proofs.Output.{has_written_of_eq}
-use Rattle.regalloc2_text.proofs.explain.stored_cause.OutputCauseDisplay.fmt.Goals as goal
+use Rattle.regalloc2_text.proofs.explain.faults.StoredCause.write_output.Goals as goal
 
 pub returns-in-Place : goal.returns-in-Place
 returns-in-Place g c = λ plain ok.

@@ -1,7 +1,7 @@
 use Rattle.std.proofs.Common.{codes}
 use Rattle.std.proofs.Output.{has_written_of_eq}
 use Rattle.regalloc2_text.proofs.ExplainLemmas.Joined.{joined_six}
-use Rattle.regalloc2_text.proofs.explain.stored_cause.LengthCauseDisplay.fmt.Goals as goal
+use Rattle.regalloc2_text.proofs.explain.faults.StoredCause.write_length.Goals as goal
 
 pub returns-in-ArgumentLists : goal.returns-in-ArgumentLists
 returns-in-ArgumentLists g c = λ plain ok.

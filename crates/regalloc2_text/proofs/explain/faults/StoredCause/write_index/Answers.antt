@@ -1,7 +1,7 @@
 use Rattle.std.proofs.Common.{codes, append_assoc}
 use Rattle.std.proofs.Output.{has_written_of_eq}
 use Rattle.regalloc2_text.proofs.ExplainLemmas.Joined.{joined_four, joined_eight}
-use Rattle.regalloc2_text.proofs.explain.stored_cause.IndexCauseDisplay.fmt.Goals as goal
+use Rattle.regalloc2_text.proofs.explain.faults.StoredCause.write_index.Goals as goal
 
 pub returns-in-Entry : goal.returns-in-Entry
 returns-in-Entry g c = λ plain ok.

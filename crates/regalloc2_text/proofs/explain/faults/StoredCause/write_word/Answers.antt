@@ -1,6 +1,6 @@
 use Rattle.std.proofs.Common.{append_assoc}
 use Rattle.std.proofs.Output.{has_written_of_eq}
-use Rattle.regalloc2_text.proofs.explain.stored_cause.EncodingCauseDisplay.fmt.Goals as goal
+use Rattle.regalloc2_text.proofs.explain.faults.StoredCause.write_word.Goals as goal
 
 pub returns-in-Register : goal.returns-in-Register
 returns-in-Register g c = λ plain ok.
