@@ -10,13 +10,13 @@ use std::alloc::{Allocator, Global};
 /// Upstream: the fields of `MachineEnv`.
 #[derive(Debug, Drop)]
 pub struct StoredMachine<A: Allocator = Global> {
-    /// The registers of each class that are taken first.
+    /// The preferred registers of each class, which are allocated first.
     pub preferred_regs_by_class: Vec<Vec<u8, A>, A>,
-    /// The registers of each class that are taken where no preferred one is left.
+    /// The non-preferred registers of each class, which are allocated if no preferred register is left.
     pub non_preferred_regs_by_class: Vec<Vec<u8, A>, A>,
-    /// A register of each class through which moves may go, if one is set aside for that.
+    /// The scratch register of each class, if the class has one: stack-to-stack moves go through it.
     pub scratch_by_class: Vec<Option<u8>, A>,
-    /// Names of registers that stand for stack places.
+    /// The registers that stand for fixed stack slots.
     pub fixed_stack_slots: Vec<u8, A>,
 }
 
@@ -32,14 +32,14 @@ pub enum InstOpcode {
 }
 
 impl InstOpcode {
-    /// Whether the instruction goes on to a successor of its block.
+    /// Returns whether the instruction goes on to a successor of its block.
     pub fn is_branch(self) -> bool
         ensures { result ≡ is_branch self }
     {
         matches!(self, InstOpcode::Branch)
     }
 
-    /// Whether the instruction returns.
+    /// Returns whether the instruction returns.
     pub fn is_ret(self) -> bool
         ensures { result ≡ is_ret self }
     {
@@ -50,11 +50,11 @@ impl InstOpcode {
 /// An instruction with the numbers of its names.
 #[derive(Debug, Drop)]
 pub struct StoredInst<A: Allocator = Global> {
-    /// What it does to the control flow.
+    /// What the instruction does to the control flow.
     pub op: InstOpcode,
-    /// The words of its operands.
+    /// The words of the operands.
     pub operands: Vec<u64, A>,
-    /// The indexes of the registers that it overwrites besides.
+    /// The clobbers: the indexes of the registers that the instruction overwrites besides its operands.
     pub clobbers: Vec<u8, A>,
 }
 
@@ -73,7 +73,7 @@ pub struct StoredFunction<A: Allocator = Global> {
     pub block_preds: Vec<Vec<u32, A>, A>,
     /// The successors of each block.
     pub block_succs: Vec<Vec<u32, A>, A>,
-    /// For each block the words of the vregs that take the arguments.
+    /// For each block the words of its parameters.
     pub block_params_in: Vec<Vec<u32, A>, A>,
     /// For each block and each of its successors the words of the arguments.
     pub block_params_out: Vec<Vec<Vec<u32, A>, A>, A>,

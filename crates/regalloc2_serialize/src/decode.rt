@@ -19,7 +19,7 @@ use regalloc2_index::{Block, Inst, InstRange};
 use regalloc2_names::{Operand, PReg, PRegSet, VReg};
 use std::alloc::{AllocError, Allocator};
 
-/// The set of the registers with the indexes `indexes`.
+/// Returns the set of the registers with the indexes `indexes`.
 fn set_from(indexes: &[u8]) -> PRegSet
     requires { All IsRegisterIndex indexes.now }
     ensures { HasIndexes indexes.now result }
@@ -31,7 +31,7 @@ fn set_from(indexes: &[u8]) -> PRegSet
     set
 }
 
-/// The registers with the indexes `indexes`.
+/// Returns the registers with the indexes `indexes`.
 fn registers_from<A: Allocator>(alloc: A, indexes: &[u8]) -> Result<Vec<PReg, A>, AllocError>
     requires { All IsRegisterIndex indexes.now }
     ensures { IfOk result (λ registers. registers.items ≡ map register_of_bits indexes.now) }
@@ -43,7 +43,7 @@ fn registers_from<A: Allocator>(alloc: A, indexes: &[u8]) -> Result<Vec<PReg, A>
     Ok(registers)
 }
 
-/// The register with the index `index`, if there is one.
+/// Returns the register with the index `index`, if there is one.
 fn register_from(index: Option<u8>) -> Option<PReg>
     requires { IfSome index IsRegisterIndex }
     ensures { result ≡ option_map register_of_bits index }
@@ -51,7 +51,7 @@ fn register_from(index: Option<u8>) -> Option<PReg>
     index.map(|index| PReg::from_index(usize::from(index)))
 }
 
-/// The vregs that `words` encode.
+/// Returns the vregs that `words` encode.
 pub(crate) fn vregs_from<A: Allocator>(alloc: A, words: &[u32]) -> Result<Vec<VReg, A>, AllocError>
     requires { All IsVRegBits words.now }
     ensures { IfOk result (λ vregs. vregs.items ≡ map vreg_of_bits words.now) }
@@ -63,7 +63,7 @@ pub(crate) fn vregs_from<A: Allocator>(alloc: A, words: &[u32]) -> Result<Vec<VR
     Ok(vregs)
 }
 
-/// The operands that `words` encode.
+/// Returns the operands that `words` encode.
 fn operands_from<A: Allocator>(alloc: A, words: &[u64]) -> Result<Vec<Operand, A>, AllocError>
     requires { All IsOperandBits words.now }
     ensures { IfOk result (λ operands. operands.items ≡ map operand_of_bits words.now) }
@@ -75,7 +75,7 @@ fn operands_from<A: Allocator>(alloc: A, words: &[u64]) -> Result<Vec<Operand, A
     Ok(operands)
 }
 
-/// The blocks with the numbers `words`.
+/// Returns the blocks with the numbers `words`.
 pub(crate) fn blocks_from<A: Allocator>(
     alloc: A,
     words: &[u32],
@@ -89,7 +89,7 @@ pub(crate) fn blocks_from<A: Allocator>(
     Ok(blocks)
 }
 
-/// The vregs that each list of `lists` encodes.
+/// Returns the vregs that each list of `lists` encodes.
 fn lists_of_vregs_from<A: Allocator + Copy, B: Allocator>(
     alloc: A,
     lists: &[Vec<u32, B>],
@@ -105,7 +105,7 @@ fn lists_of_vregs_from<A: Allocator + Copy, B: Allocator>(
     Ok(vregs)
 }
 
-/// The labels with the numbers `labels`.
+/// Returns the labels with the numbers `labels`.
 fn labels_from<A: Allocator>(
     alloc: A,
     labels: &[(u32, u32, u32, u32)],
@@ -167,7 +167,7 @@ fn scratch_from(indexes: &[Option<u8>]) -> [Option<PReg>; 3]
     ]
 }
 
-/// The sets of the registers with the three lists of indexes of `lists`.
+/// Returns the sets of the registers with the three lists of indexes of `lists`.
 fn sets_from<B: Allocator>(lists: &[Vec<u8, B>]) -> [PRegSet; 3]
     requires three { length lists.now ≡ 3 }
     requires indexes { All (λ l. All IsRegisterIndex l.items) lists.now }
@@ -224,7 +224,7 @@ fn sizes_from(sizes: &[u64]) -> (SlotUnits, SlotUnits, SlotUnits)
     )
 }
 
-/// The block `block` of the function that stored numbers name.
+/// Returns the block `block` of the function that stored numbers name.
 fn block_from<A: Allocator + Copy, B: Allocator>(
     alloc: A,
     stored: &StoredFunction<B>,
@@ -339,7 +339,7 @@ impl<A: Allocator + Copy> SerializableFunction<A> {
 }
 
 impl<A: Allocator> SerializableFunction<A> {
-    /// The machine that the function is for.
+    /// Returns the machine that the function is for.
     pub fn machine_env(&self) -> &MachineEnv<A>
         ensures { machine_of result.now ≡ machine_of self.now.machine }
     {

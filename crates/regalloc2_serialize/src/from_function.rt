@@ -36,7 +36,7 @@ pub fn copied_arguments<F: Function, A: Allocator + Copy>(
     Ok(arguments)
 }
 
-/// A copy of `block`.
+/// Returns a copy of `block`.
 fn copied_block<F: Function, A: Allocator + Copy>(
     alloc: A,
     f: &F,
@@ -55,7 +55,7 @@ fn copied_block<F: Function, A: Allocator + Copy>(
     })
 }
 
-/// Copies of all blocks.
+/// Returns copies of all blocks.
 fn copied_blocks<F: Function, A: Allocator + Copy>(
     alloc: A,
     f: &F,
@@ -72,7 +72,7 @@ fn copied_blocks<F: Function, A: Allocator + Copy>(
     Ok(tables)
 }
 
-/// What an instruction does to the control flow: `returns`, or else `branches`.
+/// Returns what an instruction does to the control flow: `returns`, or else `branches`.
 fn opcode_of(branches: bool, returns: bool) -> InstOpcode
     ensures branch { is_branch result ≡ (not returns && branches) }
     ensures ret { is_ret result ≡ returns }
@@ -102,7 +102,7 @@ pub fn copied_inst<F: Function, A: Allocator + Copy>(
     })
 }
 
-/// Copies of all instructions.
+/// Returns copies of all instructions.
 fn copied_insts<F: Function, A: Allocator + Copy>(
     alloc: A,
     f: &F,

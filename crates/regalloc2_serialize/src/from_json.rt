@@ -140,7 +140,7 @@ impl<A: Allocator> FromValue<A> for bool {
     }
 }
 
-/// The member `name` of the object `value`.
+/// Returns the member `name` of the object `value`.
 pub(crate) fn member_from<T: FromValue<A>, A: Allocator>(
     alloc: A,
     value: &Value,
@@ -156,7 +156,7 @@ pub(crate) fn member_from<T: FromValue<A>, A: Allocator>(
     T::from_value(alloc, found)
 }
 
-/// The word at `index` of the array `value`, if the item there is one.
+/// Returns the word at `index` of the array `value`, if the item there is one.
 fn word_at(value: &Value, index: usize) -> Option<u32>
     ensures { result ≡ item_at index word (view value.now) }
 {

@@ -12,7 +12,7 @@ use regalloc2_names::{Operand, PReg, VReg};
 use std::alloc::Allocator;
 
 impl<A: Allocator> StoredMachine<A> {
-    /// Whether lists by class have three members.
+    /// Returns whether lists by class have three members.
     fn has_three_classes(&self) -> bool
         ensures { IsTrue result ↔ HasThreeClasses self.now }
     {
@@ -21,7 +21,7 @@ impl<A: Allocator> StoredMachine<A> {
             && self.scratch_by_class.len() == 3
     }
 
-    /// Whether each number is an index of a register.
+    /// Returns whether each number is an index of a register.
     fn names_registers(&self) -> bool
         ensures { IsTrue result ↔ NamesRegisters self.now }
     {
@@ -33,7 +33,7 @@ impl<A: Allocator> StoredMachine<A> {
 }
 
 impl<A: Allocator> StoredFunction<A> {
-    /// Whether the lists by block are equally long, as are each block's successors and arguments.
+    /// Returns whether the lists by block are equally long, as are each block's successors and arguments.
     fn has_all_of_each_block(&self) -> bool
         ensures { IsTrue result ↔ HasAllOfEachBlock self.now }
     {
@@ -53,7 +53,7 @@ impl<A: Allocator> StoredFunction<A> {
         )
     }
 
-    /// Whether lists are of the lengths that they should have.
+    /// Returns whether lists are of the lengths that they should have.
     pub(crate) fn has_equal_lengths(&self) -> bool
         ensures { IsTrue result ↔ HasLengths self.now }
     {
@@ -62,7 +62,7 @@ impl<A: Allocator> StoredFunction<A> {
             && self.spillslot_size.len() == 3
     }
 
-    /// Whether blocks, instructions and labelled vregs are in range.
+    /// Returns whether blocks, instructions and labelled vregs are in range.
     pub(crate) fn is_within(&self) -> bool
         ensures { IsTrue result ↔ AreNumbersWithin self.now }
     {
@@ -82,7 +82,7 @@ impl<A: Allocator> StoredFunction<A> {
         are_labels_below(self.debug_value_labels.as_slice(), self.num_vregs)
     }
 
-    /// Whether the numbers of parameters, arguments and labels encode vregs.
+    /// Returns whether the numbers of parameters, arguments and labels encode vregs.
     fn names_vregs(&self) -> bool
         ensures { IsTrue result ↔ NamesVRegs self.now }
     {
@@ -95,7 +95,7 @@ impl<A: Allocator> StoredFunction<A> {
         are_labels(self.debug_value_labels.as_slice())
     }
 
-    /// Whether each number that should name a register, a vreg or an operand does.
+    /// Returns whether each number that should name a register, a vreg or an operand does.
     pub(crate) fn names_all(&self) -> bool
         ensures { IsTrue result ↔ NamesAll self.now }
     {
@@ -108,7 +108,7 @@ impl<A: Allocator> StoredFunction<A> {
         self.names_vregs()
     }
 
-    /// Whether the limits of each function are kept.
+    /// Returns whether the limits of each function are kept.
     pub(crate) fn keeps_limits(&self) -> bool
         ensures { IsTrue result ↔ KeepsLimits self.now }
     {
@@ -119,7 +119,7 @@ impl<A: Allocator> StoredFunction<A> {
     }
 }
 
-/// Whether each of `lists` is as long as its counterpart among `others`.
+/// Returns whether each of `lists` is as long as its counterpart among `others`.
 fn are_as_long<A: Allocator>(lists: &[Vec<Vec<u32, A>, A>], others: &[Vec<u32, A>]) -> bool
     ensures { IsTrue result ↔ (map (λ l. length l.items) lists.now ≡ map (λ l. length l.items) others.now) }
 {
@@ -134,14 +134,14 @@ fn are_as_long<A: Allocator>(lists: &[Vec<Vec<u32, A>, A>], others: &[Vec<u32, A
     true
 }
 
-/// Whether `words` are numbers of blocks, of which there are `count`.
+/// Returns whether `words` are numbers of blocks, of which there are `count`.
 pub(crate) fn are_blocks(words: &[u32], count: usize) -> bool
     ensures { IsTrue result ↔ All (λ b. b < count) words.now }
 {
     words.iter().all(|word| (*word as usize) < count)
 }
 
-/// Whether `lists` are of numbers of blocks, of which there are `count`.
+/// Returns whether `lists` are of numbers of blocks, of which there are `count`.
 fn are_lists_of_blocks<A: Allocator>(lists: &[Vec<u32, A>], count: usize) -> bool
     ensures { IsTrue result ↔ All (λ l. All (λ b. b < count) l.items) lists.now }
 {
@@ -153,7 +153,7 @@ fn are_lists_of_blocks<A: Allocator>(lists: &[Vec<u32, A>], count: usize) -> boo
     true
 }
 
-/// Whether `ranges` don't fall and end within `count` instructions.
+/// Returns whether `ranges` don't fall and end within `count` instructions.
 fn are_ranges(ranges: &[(u32, u32)], count: usize) -> bool
     ensures { IsTrue result ↔ All (IsRangeWithin count) ranges.now }
 {
@@ -174,7 +174,7 @@ pub fn vreg_number(word: u32) -> u32
     word >> CLASS_BITS
 }
 
-/// Whether the number of each labelled vreg is below `num_vregs`.
+/// Returns whether the number of each labelled vreg is below `num_vregs`.
 fn are_labels_below(labels: &[(u32, u32, u32, u32)], num_vregs: u64) -> bool
     ensures { IsTrue result ↔ All (λ l. l.0 / 4 < num_vregs) labels.now }
 {
@@ -183,7 +183,7 @@ fn are_labels_below(labels: &[(u32, u32, u32, u32)], num_vregs: u64) -> bool
         .all(|label| u64::from(vreg_number(label.0)) < num_vregs)
 }
 
-/// Whether `indexes` are indexes of registers.
+/// Returns whether `indexes` are indexes of registers.
 fn are_registers(indexes: &[u8]) -> bool
     ensures { IsTrue result ↔ All IsRegisterIndex indexes.now }
 {
@@ -192,7 +192,7 @@ fn are_registers(indexes: &[u8]) -> bool
         .all(|index| PReg::is_index(usize::from(*index)))
 }
 
-/// Whether `lists` are of indexes of registers.
+/// Returns whether `lists` are of indexes of registers.
 fn are_lists_of_registers<A: Allocator>(lists: &[Vec<u8, A>]) -> bool
     ensures { IsTrue result ↔ All (λ l. All IsRegisterIndex l.items) lists.now }
 {
@@ -204,7 +204,7 @@ fn are_lists_of_registers<A: Allocator>(lists: &[Vec<u8, A>]) -> bool
     true
 }
 
-/// Whether `index` is `None` or an index of a register.
+/// Returns whether `index` is `None` or an index of a register.
 fn is_scratch_register(index: Option<u8>) -> bool
     ensures { IsTrue result ↔ IfSome index IsRegisterIndex }
 {
@@ -214,14 +214,14 @@ fn is_scratch_register(index: Option<u8>) -> bool
     }
 }
 
-/// Whether each of `indexes` is `None` or an index of a register.
+/// Returns whether each of `indexes` is `None` or an index of a register.
 fn are_scratch_registers(indexes: &[Option<u8>]) -> bool
     ensures { IsTrue result ↔ All (λ o. IfSome o IsRegisterIndex) indexes.now }
 {
     indexes.iter().all(|index| is_scratch_register(*index))
 }
 
-/// Whether `words` encode operands.
+/// Returns whether `words` encode operands.
 fn are_operands(words: &[u64]) -> bool
     ensures { IsTrue result ↔ All IsOperandBits words.now }
 {
@@ -237,7 +237,7 @@ impl<A: Allocator> StoredInst<A> {
     }
 }
 
-/// Whether the numbers of each of `insts` name operands and registers.
+/// Returns whether the numbers of each of `insts` name operands and registers.
 fn are_insts<A: Allocator>(insts: &[StoredInst<A>]) -> bool
     ensures { IsTrue result ↔ All (λ i. NamesOperands i) insts.now }
 {
@@ -249,14 +249,14 @@ fn are_insts<A: Allocator>(insts: &[StoredInst<A>]) -> bool
     true
 }
 
-/// Whether `words` encode vregs.
+/// Returns whether `words` encode vregs.
 pub(crate) fn are_vregs(words: &[u32]) -> bool
     ensures { IsTrue result ↔ All IsVRegBits words.now }
 {
     words.iter().all(|word| VReg::is_bits(*word))
 }
 
-/// Whether the words of each of `lists` encode vregs.
+/// Returns whether the words of each of `lists` encode vregs.
 fn are_lists_of_vregs<A: Allocator>(lists: &[Vec<u32, A>]) -> bool
     ensures { IsTrue result ↔ All (λ l. All IsVRegBits l.items) lists.now }
 {
@@ -268,7 +268,7 @@ fn are_lists_of_vregs<A: Allocator>(lists: &[Vec<u32, A>]) -> bool
     true
 }
 
-/// Whether the words of each list in `lists` encode vregs.
+/// Returns whether the words of each list in `lists` encode vregs.
 fn are_arguments<A: Allocator>(lists: &[Vec<Vec<u32, A>, A>]) -> bool
     ensures { IsTrue result ↔ All (λ l. All (λ k. All IsVRegBits k.items) l.items) lists.now }
 {
@@ -280,21 +280,21 @@ fn are_arguments<A: Allocator>(lists: &[Vec<Vec<u32, A>, A>]) -> bool
     true
 }
 
-/// Whether the first word of each of `labels` encodes a vreg.
+/// Returns whether the first word of each of `labels` encodes a vreg.
 fn are_labels(labels: &[(u32, u32, u32, u32)]) -> bool
     ensures { IsTrue result ↔ All (λ l. IsVRegBits l.0) labels.now }
 {
     labels.iter().all(|label| VReg::is_bits(label.0))
 }
 
-/// Whether `size` is a power of two from 1 to 2^24.
+/// Returns whether `size` is a power of two from 1 to 2^24.
 fn is_slot_size(size: u64) -> bool
     ensures { IsTrue result ↔ IsSlotSize size }
 {
     1 <= size && size <= LARGEST_SLOT as u64 && size.is_power_of_two()
 }
 
-/// Whether `sizes` are powers of two from 1 to 2^24.
+/// Returns whether `sizes` are powers of two from 1 to 2^24.
 fn are_slot_sizes(sizes: &[u64]) -> bool
     ensures { IsTrue result ↔ All IsSlotSize sizes.now }
 {

@@ -16,7 +16,7 @@ pub fn halves(number: u64) -> [u32; 2]
     [(number & LOWER_HALF) as u32, (number >> WORD_BITS) as u32]
 }
 
-/// The number with the halves `low` and `high`.
+/// Returns the number with the halves `low` and `high`.
 pub(crate) fn from_halves(low: u32, high: u32) -> u64
     ensures { result ≡ low + high * 2 ^ 32 }
 {

@@ -16,7 +16,7 @@ pub struct Words<'a> {
 }
 
 impl<'a> Words<'a> {
-    /// The next word. `Shape` if there is none.
+    /// Returns the next word. `Shape` if there is none.
     fn next(&mut self) -> Result<u32, StoredFault>
         ensures ok { IfOk result (λ n. self.old.rest.now ≡ n ∷ self.new.rest.now) }
         ensures err { IfErr result (λ e. (e ≡ StoredFault.Shape) × (self.old.rest.now ≡ [])) }
@@ -135,7 +135,7 @@ impl<T: Flat + Drop> Flat for Vec<T> {
     }
 }
 
-/// The value with the words `words`.
+/// Returns the value with the words `words`.
 ///
 /// # Errors
 ///

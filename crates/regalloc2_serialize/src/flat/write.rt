@@ -72,7 +72,7 @@ impl Written for StoredOutput {
     }
 }
 
-/// The words of `value`.
+/// Returns the words of `value`.
 ///
 /// # Errors
 ///

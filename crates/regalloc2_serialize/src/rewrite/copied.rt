@@ -16,7 +16,7 @@ use regalloc2_index::{Block, Inst};
 use regalloc2_names::{RegClass, VReg};
 use std::alloc::{AllocError, Allocator};
 
-/// Copies of the instructions of `block`.
+/// Returns copies of the instructions of `block`.
 pub(crate) fn copied_insts<F: Function, A: Allocator + Copy>(
     alloc: A,
     f: &F,
@@ -28,16 +28,15 @@ pub(crate) fn copied_insts<F: Function, A: Allocator + Copy>(
         (range_with_len (block_at (F.function f.now) block).range.first ((block_at (F.function f.now) block).range.end - (block_at (F.function f.now) block).range.first))) }
 {
     let range = f.block_insns(block);
-    let first = range.first().index();
     let mut insts = Vec::with_capacity(alloc, range.len())?;
-    for k in 0..range.len() {
-        let copy = copied_inst(alloc, f, Inst::new(first + k))?;
+    for inst in range.iter() {
+        let copy = copied_inst(alloc, f, inst)?;
         insts.push(copy)?;
     }
     Ok(insts)
 }
 
-/// The function of the blocks `drafts`, with `entry`, `labels` and the rest of `f`.
+/// Returns the function of the blocks `drafts` with the given `entry` and `labels`; all else is as in `f`.
 pub(crate) fn laid_like<F: Function, A: Allocator + Copy>(
     alloc: A,
     f: &F,

@@ -14,7 +14,7 @@ use regalloc2_function::{Function, is_framed};
 use regalloc2_index::Block;
 use std::alloc::{AllocError, Allocator};
 
-/// Whether each of `numbers` is a number.
+/// Returns whether each of `numbers` is a number.
 fn all_numbered(numbers: &[Block]) -> bool
     ensures { IsTrue result ↔ All (λ n. n ≢ 2 ^ 32 - 1) numbers.now }
 {
@@ -50,7 +50,7 @@ fn numbers_in<A: Allocator>(
     Ok(numbers)
 }
 
-/// The new numbers of the blocks `succs`: `numbers[b]` for block `b`.
+/// Returns the new numbers of the blocks `succs`: `numbers[b]` for block `b`.
 fn renamed_succs<A: Allocator>(
     alloc: A,
     succs: &[Block],
@@ -87,7 +87,7 @@ fn renamed_block<F: Function, A: Allocator + Copy>(
     })
 }
 
-/// The blocks in `order`, with the new `numbers` of their successors.
+/// Returns the blocks in `order`, with the new `numbers` of their successors.
 fn renamed_blocks<F: Function, A: Allocator + Copy>(
     alloc: A,
     f: &F,

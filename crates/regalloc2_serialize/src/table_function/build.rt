@@ -11,7 +11,7 @@ use regalloc2_index::{Block, InstRange};
 use regalloc2_names::{Operand, PRegSet};
 use std::alloc::{AllocError, Allocator};
 
-/// An instruction with the operands `operands` and no clobbers.
+/// Returns an instruction with the operands `operands` and no clobbers.
 fn inst<A: Allocator + Copy>(
     alloc: A,
     operands: &[Operand],
@@ -28,7 +28,7 @@ fn inst<A: Allocator + Copy>(
     })
 }
 
-/// An instruction with the operands `operands` that goes on to the next one.
+/// Returns an instruction with the operands `operands` that goes on to the next one.
 pub fn op<A: Allocator + Copy>(alloc: A, operands: &[Operand]) -> Result<TableInst<A>, AllocError>
     ensures operands { IfOk result (λ i. i.operands.items ≡ operands.now) }
     ensures clobbers { IfOk result (λ i. (r : Register) → has_register i.clobbers r ≡ false) }
@@ -37,7 +37,7 @@ pub fn op<A: Allocator + Copy>(alloc: A, operands: &[Operand]) -> Result<TableIn
     inst(alloc, operands, InstOpcode::Op)
 }
 
-/// A branch with the operands `operands`: an instruction that goes on to a successor of its block.
+/// Returns a branch with the operands `operands`: an instruction that goes on to a successor of its block.
 pub fn branch<A: Allocator + Copy>(
     alloc: A,
     operands: &[Operand],
@@ -49,7 +49,7 @@ pub fn branch<A: Allocator + Copy>(
     inst(alloc, operands, InstOpcode::Branch)
 }
 
-/// A return with the operands `operands`.
+/// Returns a return with the operands `operands`.
 pub fn ret<A: Allocator + Copy>(alloc: A, operands: &[Operand]) -> Result<TableInst<A>, AllocError>
     ensures operands { IfOk result (λ i. i.operands.items ≡ operands.now) }
     ensures clobbers { IfOk result (λ i. (r : Register) → has_register i.clobbers r ≡ false) }
@@ -59,7 +59,7 @@ pub fn ret<A: Allocator + Copy>(alloc: A, operands: &[Operand]) -> Result<TableI
 }
 
 impl<A: Allocator + Copy> TableBlock<A> {
-    /// A block of the instructions of `range` that no block follows or precedes, without parameters.
+    /// Returns a block of the instructions of `range` that no block follows or precedes, without parameters.
     pub fn alone(alloc: A, range: InstRange) -> TableBlock<A>
         ensures { block_of_table result ≡ record { range = range; succs = []; preds = []; params = []; arguments = [] } }
     {
@@ -74,7 +74,7 @@ impl<A: Allocator + Copy> TableBlock<A> {
 }
 
 impl SlotUnits {
-    /// The size of `units` units, a power of two from 1 to 2^24.
+    /// Returns the size of `units` units, a power of two from 1 to 2^24.
     pub fn new(units: usize) -> SlotUnits
         requires positive { 1 ≤ units }
         requires at_most { units ≤ 2 ^ 24 }
@@ -84,14 +84,14 @@ impl SlotUnits {
         SlotUnits { units }
     }
 
-    /// The size of one unit.
+    /// Returns the size of one unit.
     pub fn one() -> SlotUnits
         ensures { result.units ≡ 1 }
     {
         SlotUnits::new(1)
     }
 
-    /// The size of two units.
+    /// Returns the size of two units.
     pub fn two() -> SlotUnits
         ensures { result.units ≡ 2 }
     {
@@ -100,9 +100,9 @@ impl SlotUnits {
 }
 
 impl<A: Allocator> TableFunction<A> {
-    /// The function of `blocks` and `insts` that starts at block 0. `slots` has the sizes of slots for integers,
-    /// floating-point numbers and vectors, which are named by their first units. Vregs are below `num_vregs` and have
-    /// one definition, and there are no labels.
+    /// Returns the function of `blocks` and `insts` that starts at block 0. `slots` has the sizes of slots for
+    /// integers, floating-point numbers and vectors, which are named by their first units. Vregs are below `num_vregs`
+    /// and have one definition, and there are no labels.
     pub fn of_blocks(
         alloc: A,
         num_vregs: usize,

@@ -75,11 +75,11 @@ impl<T: Drop> From<AllocFailed<T>> for BuildError {
 /// A partial block.
 #[derive(Drop)]
 pub struct BlockDraft<A: Allocator = Global> {
-    /// What takes the arguments.
+    /// The parameters.
     pub params: Vec<VReg, A>,
     /// The instructions of the block.
     pub insts: Vec<TableInst<A>, A>,
-    /// The blocks that may follow.
+    /// The successors.
     pub succs: Vec<Block, A>,
     /// The arguments for each successor.
     pub arguments: Vec<Vec<VReg, A>, A>,
@@ -90,14 +90,14 @@ pub struct BlockDraft<A: Allocator = Global> {
 /// The function starts at block 0. A call that returns an error leaves the builder unchanged.
 #[derive(Drop)]
 pub struct TableBuilder<A: Allocator = Global> {
-    /// What is built in.
+    /// The allocator of all that is built.
     alloc: A,
     /// The blocks so far, by number.
     pub blocks: Vec<BlockDraft<A>, A>,
 }
 
 impl<A: Allocator + Copy> TableBuilder<A> {
-    /// A builder without blocks.
+    /// Returns a builder without blocks.
     pub fn new(alloc: A) -> TableBuilder<A>
         ensures { drafts_of result ≡ [] }
     {
@@ -208,7 +208,7 @@ impl<A: Allocator + Copy> TableBuilder<A> {
         Ok(())
     }
 
-    /// The function, with slots of one unit and vregs below `num_vregs`, without labels.
+    /// Returns the function, with slots of one unit and vregs below `num_vregs`, without labels.
     ///
     /// The blocks' ranges follow one another. A block's predecessors are the blocks that go on to it, by their
     /// numbers, each listed once for each edge.

@@ -12,11 +12,11 @@ use std::alloc::{Allocator, Global};
 /// An instruction.
 #[derive(Debug, Drop)]
 pub struct TableInst<A: Allocator = Global> {
-    /// What it does with vregs.
+    /// The operands.
     pub operands: Vec<Operand, A>,
-    /// The registers that it overwrites besides.
+    /// The registers that the instruction overwrites besides its operands.
     pub clobbers: PRegSet,
-    /// What it does to the control flow.
+    /// What the instruction does to the control flow.
     pub op: InstOpcode,
 }
 
@@ -25,11 +25,11 @@ pub struct TableInst<A: Allocator = Global> {
 pub struct TableBlock<A: Allocator = Global> {
     /// The range of the block's instructions.
     pub range: InstRange,
-    /// The blocks that may follow.
+    /// The successors.
     pub succs: Vec<Block, A>,
-    /// The blocks that it may follow.
+    /// The predecessors.
     pub preds: Vec<Block, A>,
-    /// What takes the arguments.
+    /// The parameters.
     pub params: Vec<VReg, A>,
     /// The arguments for each successor.
     pub arguments: Vec<Vec<VReg, A>, A>,
@@ -38,7 +38,7 @@ pub struct TableBlock<A: Allocator = Global> {
 /// How many units a spill slot takes: a power of two from 1 to 2^24.
 #[derive(Debug, Drop)]
 pub struct SlotUnits {
-    /// How many.
+    /// The number of units.
     pub units: usize,
     pub ghost positive: { 1 ≤ units },
     pub ghost at_most: { units ≤ 2 ^ 24 },

@@ -133,7 +133,7 @@ pub struct Header {
 }
 
 impl Header {
-    /// The header of `words`.
+    /// Returns the header of `words`.
     fn of(words: &[u32]) -> Header
         requires { 15 ≤ length words.now }
         ensures { result ≡ header_of words.now }
@@ -156,42 +156,42 @@ impl Header {
         }
     }
 
-    /// The logarithm of the size of an integer's slot.
+    /// Returns the logarithm of the size of an integer's slot.
     pub fn int_log(self) -> u32
         ensures { result ≡ int_log self.sizes }
     {
         self.sizes & LOG_MASK
     }
 
-    /// The logarithm of the size of a floating-point number's slot.
+    /// Returns the logarithm of the size of a floating-point number's slot.
     pub fn float_log(self) -> u32
         ensures { result ≡ float_log self.sizes }
     {
         (self.sizes >> LOG_BITS) & LOG_MASK
     }
 
-    /// The logarithm of the size of a vector's slot.
+    /// Returns the logarithm of the size of a vector's slot.
     pub fn vector_log(self) -> u32
         ensures { result ≡ vector_log self.sizes }
     {
         self.sizes >> (2 * LOG_BITS)
     }
 
-    /// Whether a slot is named by its last unit.
+    /// Returns whether a slot is named by its last unit.
     pub fn is_named_by_last_slot(self) -> bool
         ensures { result ≡ nat_eq (self.flags % 2) 1 }
     {
         self.flags % MULTIPLE_DEFS == NAMED_BY_LAST
     }
 
-    /// Whether a vreg may have several definitions.
+    /// Returns whether a vreg may have several definitions.
     pub fn allows_multiple_defs(self) -> bool
         ensures { result ≡ nat_eq (self.flags / 2) 1 }
     {
         self.flags / MULTIPLE_DEFS == 1
     }
 
-    /// How many words the header and each column take.
+    /// Returns how many words the header and each column take.
     fn widths(self) -> [usize; COLUMNS]
         ensures widths { result ≡ widths self }
         ensures small { All (λ w. w < 2 ^ 35) result }
@@ -223,7 +223,7 @@ impl Header {
     }
 }
 
-/// Where the header and each column begin, by their `widths`, and where the last column ends.
+/// Returns where the header and each column begin, by their `widths`, and where the last column ends.
 fn starts_of(widths: [usize; COLUMNS]) -> [usize; COLUMNS + 1]
     requires { All (λ w. w < 2 ^ 35) widths }
     ensures { (k : ℕ) → k < 20 → slice_index result k ≡ sum (take k widths) }
@@ -249,7 +249,7 @@ pub struct Cut<'a> {
 }
 
 impl<'a> Cut<'a> {
-    /// The columns of `words`, if they are laid out in columns. Allocates nothing.
+    /// Returns the columns of `words`, if they are laid out in columns. Allocates nothing.
     pub fn of(words: &'a [u32]) -> Option<Cut<'a>>
         ensures { MatchOption result (AreInColumns words.now → ⊥) (λ c. AreInColumns words.now × (c.words.now ≡ words.now)) }
     {
@@ -271,14 +271,14 @@ impl<'a> Cut<'a> {
         })
     }
 
-    /// The header.
+    /// Returns the header.
     pub fn header(&self) -> Header
         ensures { result ≡ header_of self.now.words.now }
     {
         self.header
     }
 
-    /// The column with the number `k`, from 1.
+    /// Returns the column with the number `k`, from 1.
     pub fn column(&self, k: usize) -> &'a [u32]
         requires { k < 19 }
         ensures column { result.now ≡ column self.now.words.now k }

@@ -17,7 +17,7 @@ pub struct Pieces<T, A: Allocator = Global> {
 }
 
 impl<T, A: Allocator> Pieces<T, A> {
-    /// The list of owner `k`.
+    /// Returns the list of owner `k`.
     pub fn part(&self, k: usize) -> &[T]
         requires { k + 1 < vec_len self.now.bounds }
         ensures { result.now ≡ part self.now.items.items self.now.bounds.items k }

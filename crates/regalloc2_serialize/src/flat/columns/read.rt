@@ -52,7 +52,7 @@ fn operands_from<A: Allocator + Copy>(
     pieces_of(alloc, items, cut.column(OPERAND_ENDS))
 }
 
-/// The blocks with the numbers `words`, in parts that end at `ends`.
+/// Returns the blocks with the numbers `words`, in parts that end at `ends`.
 fn blocks_in<A: Allocator + Copy>(
     alloc: A,
     words: &[u32],
@@ -66,7 +66,7 @@ fn blocks_in<A: Allocator + Copy>(
     pieces_of(alloc, items, ends)
 }
 
-/// The vregs that `words` encode, in parts that end at `ends`.
+/// Returns the vregs that `words` encode, in parts that end at `ends`.
 fn vregs_in<A: Allocator + Copy>(
     alloc: A,
     words: &[u32],
@@ -197,7 +197,7 @@ impl<A: Allocator + Copy> FlatFunction<A> {
 }
 
 impl<A: Allocator> FlatFunction<A> {
-    /// The machine that the function is for.
+    /// Returns the machine that the function is for.
     pub fn machine_env(&self) -> &MachineEnv<A>
         ensures { machine_of result.now ≡ machine_of self.now.machine }
     {

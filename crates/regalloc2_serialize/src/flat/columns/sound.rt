@@ -18,7 +18,7 @@ use crate::validate::{are_blocks, are_vregs, vreg_number};
 use regalloc2_function::StoredFault;
 use regalloc2_names::{Operand, PReg, VReg};
 
-/// Whether `ends` don't fall, and the last one, or 0 where there is none, is `count`.
+/// Returns whether `ends` don't fall, and the last one, or 0 where there is none, is `count`.
 fn covers(ends: &[u32], count: u32) -> bool
     ensures { IsTrue result ↔ Covers ends.now count }
 {
@@ -32,14 +32,14 @@ fn covers(ends: &[u32], count: u32) -> bool
     at == count
 }
 
-/// Whether the number of the set of clobbers in each of `kinds` is at most `count`.
+/// Returns whether the number of the set of clobbers in each of `kinds` is at most `count`.
 fn are_set_numbers(kinds: &[u32], count: u32) -> bool
     ensures { IsTrue result ↔ All (λ k. k / 4 ≤ count) kinds.now }
 {
     kinds.iter().all(|kind| *kind / SET_STEP <= count)
 }
 
-/// Whether each of `kinds` says what an instruction is.
+/// Returns whether each of `kinds` says what an instruction is.
 fn are_kinds(kinds: &[u32]) -> bool
     ensures { IsTrue result ↔ All (λ k. k % 4 < 3) kinds.now }
 {
@@ -56,21 +56,21 @@ fn is_scratch_word(word: u32) -> bool
     }
 }
 
-/// Whether each of `words` is 0 or one more than an index of a register.
+/// Returns whether each of `words` is 0 or one more than an index of a register.
 fn are_scratch_words(words: &[u32]) -> bool
     ensures { IsTrue result ↔ All (λ r. r ≤ 192) words.now }
 {
     words.iter().all(|word| is_scratch_word(*word))
 }
 
-/// Whether `words` are indexes of registers.
+/// Returns whether `words` are indexes of registers.
 fn are_register_words(words: &[u32]) -> bool
     ensures { IsTrue result ↔ All IsRegisterIndex words.now }
 {
     words.iter().all(|word| PReg::is_index(*word as usize))
 }
 
-/// The 64-bit number in the two words from `words[2 * k]` on, the lower half first.
+/// Returns the 64-bit number in the two words from `words[2 * k]` on, the lower half first.
 pub fn long(words: &[u32], k: usize) -> u64
     requires { 2 * k + 1 < length words.now }
     ensures { result ≡ long_at words.now k }
@@ -78,7 +78,7 @@ pub fn long(words: &[u32], k: usize) -> u64
     from_halves(words[2 * k], words[2 * k + 1])
 }
 
-/// Whether `words` encode `count` operands, two words each.
+/// Returns whether `words` encode `count` operands, two words each.
 fn are_operand_words(words: &[u32], count: usize) -> bool
     requires { length words.now ≡ 2 * count }
     ensures { IsTrue result ↔ ((k : ℕ) → k < count → IsOperandBits (long_at words.now k)) }
@@ -91,7 +91,7 @@ fn are_operand_words(words: &[u32], count: usize) -> bool
     true
 }
 
-/// Whether the number of the vreg of each of `count` labels is below `vregs`. A label is four words.
+/// Returns whether the number of the vreg of each of `count` labels is below `vregs`. A label is four words.
 fn are_labels_below(words: &[u32], count: usize, vregs: u32) -> bool
     requires { length words.now ≡ 4 * count }
     ensures { IsTrue result ↔ ((k : ℕ) → k < count → slice_index words.now (4 * k) / 4 < vregs) }
@@ -104,7 +104,7 @@ fn are_labels_below(words: &[u32], count: usize, vregs: u32) -> bool
     true
 }
 
-/// Whether the first word of each of `count` labels encodes a vreg. A label is four words.
+/// Returns whether the first word of each of `count` labels encodes a vreg. A label is four words.
 fn are_labels_of_vregs(words: &[u32], count: usize) -> bool
     requires { length words.now ≡ 4 * count }
     ensures { IsTrue result ↔ ((k : ℕ) → k < count → IsVRegBits (slice_index words.now (4 * k))) }
@@ -118,7 +118,7 @@ fn are_labels_of_vregs(words: &[u32], count: usize) -> bool
 }
 
 impl Header {
-    /// Whether the limits of each function are kept.
+    /// Returns whether the limits of each function are kept.
     fn keeps_limits(self) -> bool
         ensures { IsTrue result ↔ (self.insts < 2 ^ 30) × (self.blocks < 2 ^ 32 - 1) × (self.vregs < 2 ^ 30) × (int_log self.sizes ≤ most_log)
             × (float_log self.sizes ≤ most_log) × (vector_log self.sizes ≤ most_log) }
@@ -133,7 +133,7 @@ impl Header {
 }
 
 impl<'a> Cut<'a> {
-    /// Whether ends don't fall, and their last ones are the lengths of columns.
+    /// Returns whether ends don't fall, and their last ones are the lengths of columns.
     fn is_covered(&self) -> bool
         ensures { IsTrue result ↔ AllCovered self.now.words.now }
     {
@@ -146,7 +146,7 @@ impl<'a> Cut<'a> {
             && covers(self.column(ARGUMENT_ENDS), header.arguments)
     }
 
-    /// Whether blocks, sets of clobbers and labelled vregs are in range.
+    /// Returns whether blocks, sets of clobbers and labelled vregs are in range.
     fn is_within(&self) -> bool
         ensures { IsTrue result ↔ AreColumnsWithin self.now.words.now }
     {
@@ -166,14 +166,14 @@ impl<'a> Cut<'a> {
         are_labels_below(self.column(LABELS), header.labels as usize, header.vregs)
     }
 
-    /// Whether the machine's numbers are indexes of registers.
+    /// Returns whether the machine's numbers are indexes of registers.
     fn names_registers(&self) -> bool
         ensures { IsTrue result ↔ ColumnsNameRegisters self.now.words.now }
     {
         are_scratch_words(self.column(SCRATCH)) && are_register_words(self.column(SLOTS))
     }
 
-    /// Whether the numbers of parameters, arguments and labels encode vregs.
+    /// Returns whether the numbers of parameters, arguments and labels encode vregs.
     fn names_vregs(&self) -> bool
         ensures { IsTrue result ↔ ColumnsNameVRegs self.now.words.now }
     {
@@ -186,7 +186,7 @@ impl<'a> Cut<'a> {
         are_labels_of_vregs(self.column(LABELS), self.header().labels as usize)
     }
 
-    /// Whether each number that should be a name is one.
+    /// Returns whether each number that should be a name is one.
     fn names_all(&self) -> bool
         ensures { IsTrue result ↔ ColumnsNameAll self.now.words.now }
     {
@@ -202,7 +202,7 @@ impl<'a> Cut<'a> {
         self.names_vregs()
     }
 
-    /// Whether the limits of each function are kept.
+    /// Returns whether the limits of each function are kept.
     fn is_limited(&self) -> bool
         ensures { IsTrue result ↔ ColumnsKeepLimits self.now.words.now }
     {

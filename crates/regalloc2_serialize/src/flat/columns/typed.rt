@@ -18,7 +18,7 @@ use regalloc2_index::Inst;
 use regalloc2_names::{Operand, PReg, PRegSet, VReg};
 use std::alloc::{AllocError, Allocator};
 
-/// The set of the registers whose bits are 1 in the six words `words`.
+/// Returns the set of the registers whose bits are 1 in the six words `words`.
 fn set_of(words: &[u32]) -> PRegSet
     requires { length words.now ≡ 6 }
     ensures { HasBits words.now result }
@@ -26,7 +26,7 @@ fn set_of(words: &[u32]) -> PRegSet
     PRegSet::from_words([long(words, 0), long(words, 1), long(words, 2)])
 }
 
-/// The three sets of `words`, six words each.
+/// Returns the three sets of `words`, six words each.
 pub fn class_sets(words: &[u32]) -> [PRegSet; 3]
     requires { length words.now ≡ 18 }
     ensures { HaveBits words.now 3 result }
@@ -38,7 +38,7 @@ pub fn class_sets(words: &[u32]) -> [PRegSet; 3]
     ]
 }
 
-/// The `count` sets of `words`, six words each, by their numbers from 1; number 0 is the empty set.
+/// Returns the `count` sets of `words`, six words each, by their numbers from 1; number 0 is the empty set.
 pub fn numbered_sets<A: Allocator>(
     alloc: A,
     words: &[u32],
@@ -64,7 +64,7 @@ fn scratch_of(word: u32) -> Option<PReg>
         .map(|index| PReg::from_index(index as usize))
 }
 
-/// The scratch registers of `words`, by class.
+/// Returns the scratch registers of `words`, by class.
 pub fn scratches_of(words: &[u32]) -> [Option<PReg>; 3]
     requires three { length words.now ≡ 3 }
     requires words { All (λ r. r ≤ 192) words.now }
@@ -77,7 +77,7 @@ pub fn scratches_of(words: &[u32]) -> [Option<PReg>; 3]
     ]
 }
 
-/// The registers with the indexes `words`.
+/// Returns the registers with the indexes `words`.
 pub fn registers_of<A: Allocator>(alloc: A, words: &[u32]) -> Result<Vec<PReg, A>, AllocError>
     requires { All IsRegisterIndex words.now }
     ensures { IfOk result (λ registers. registers.items ≡ map register_of_bits words.now) }
@@ -89,7 +89,7 @@ pub fn registers_of<A: Allocator>(alloc: A, words: &[u32]) -> Result<Vec<PReg, A
     Ok(registers)
 }
 
-/// The `count` operands of `words`, two words each.
+/// Returns the `count` operands of `words`, two words each.
 pub fn operands_of<A: Allocator>(
     alloc: A,
     words: &[u32],
@@ -106,7 +106,7 @@ pub fn operands_of<A: Allocator>(
     Ok(operands)
 }
 
-/// The `count` labels of `words`, four words each.
+/// Returns the `count` labels of `words`, four words each.
 pub fn labels_of<A: Allocator>(
     alloc: A,
     words: &[u32],
@@ -126,7 +126,7 @@ pub fn labels_of<A: Allocator>(
     Ok(labels)
 }
 
-/// The bounds of the parts that end at `ends`.
+/// Returns the bounds of the parts that end at `ends`.
 pub fn bounds_of<A: Allocator>(alloc: A, ends: &[u32]) -> Result<Vec<u32, A>, AllocError>
     ensures { IfOk result (λ bounds. bounds.items ≡ 0 ∷ ends.now) }
 {
@@ -136,7 +136,7 @@ pub fn bounds_of<A: Allocator>(alloc: A, ends: &[u32]) -> Result<Vec<u32, A>, Al
     Ok(bounds)
 }
 
-/// The list `items` in parts that end at `ends`.
+/// Returns the list `items` in parts that end at `ends`.
 pub fn pieces_of<T: Drop, A: Allocator>(
     alloc: A,
     items: Vec<T, A>,
@@ -149,7 +149,7 @@ pub fn pieces_of<T: Drop, A: Allocator>(
     Ok(Pieces { items, bounds })
 }
 
-/// The size of a slot with the logarithm `log`.
+/// Returns the size of a slot with the logarithm `log`.
 fn units_of(log: u32) -> SlotUnits
     requires { log ≤ most_log }
     ensures { result.units ≡ 2 ^ log }
