@@ -2,7 +2,7 @@
 
 ghost use Rattle.std.specs.Prelude.{None, Some, false, ◌≡◌, ℕ, ◌+◌, ◌%◌, ◌<◌, ◌≤◌, ◌↔◌, IsTrue};
 ghost use Rattle.regalloc2_names.specs.PlaceBits.{IsPlaceBits, bits_of_place, index_of_place, place_of_bits};
-ghost use Rattle.regalloc2_names.specs.Place.{NoPlace, InRegister, InSlot, invalid_slot, is_in_register, is_in_slot, is_memory, is_no_place};
+ghost use Rattle.regalloc2_names.specs.Place.{NoPlace, InRegister, InSlot, invalid_slot, is_in_register, is_in_slot, is_memory, is_no_place, is_place};
 ghost use Rattle.regalloc2_names.specs.Place.{kind_of_place, register_of_place, slot_limit, slot_of_place};
 
 use super::{AllocationKind, PReg, PRegSet};
@@ -175,6 +175,14 @@ impl Allocation {
         ensures { IsTrue result ↔ (is_no_place self ≡ false) }
     {
         self.kind() != AllocationKind::None
+    }
+
+    /// Returns `true` if the place is `other`.
+    pub fn is_same(self, other: Allocation) -> bool
+        ensures test { result ≡ is_place self other }
+        ensures same { IsTrue result ↔ (self ≡ other) }
+    {
+        self == other
     }
 
     /// Returns `true` if the place is a register.

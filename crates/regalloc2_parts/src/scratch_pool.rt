@@ -76,11 +76,11 @@ impl ScratchPair {
     {
         match (self.first, self.second) {
             (None, _) => 0,
-            (Some(first), None) => { if first == next { 0 } else { 1 } }
+            (Some(first), None) => { if first.is_same(next) { 0 } else { 1 } }
             (Some(first), Some(second)) => {
-                if first == next {
+                if first.is_same(next) {
                     0
-                } else if second == next {
+                } else if second.is_same(next) {
                     1
                 } else {
                     2
