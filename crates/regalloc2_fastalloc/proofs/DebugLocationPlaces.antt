@@ -1,5 +1,5 @@
 -- The places of debug locations: each is one where its label's vreg may be, and so they are as `run` guarantees them.
-use Rattle.std.proofs.Common.{if◌then◌else◌, ℕ, ◌≡◌, ◌≢◌, ◌+◌, ◌<◌, false, inl, inr, List, length, map, nat_eq, refl, sym, ap, ◌∙◌, subst, arith, slice_index}
+use Rattle.std.proofs.Common.{if◌then◌else◌, ℕ, ◌≡◌, ◌≢◌, ◌+◌, ◌<◌, ◌⊎◌, false, inl, inr, List, length, map, nat_eq, refl, sym, ap, ◌∙◌, subst, arith, slice_index}
 use Rattle.std.proofs.Common.{slice_index_or}
 use Rattle.std.specs.Prelude.{All, None, Option, Some}
 use Rattle.std.proofs.lemmas.Bool.{ne_eqb, and_right}

@@ -193,15 +193,15 @@ module _ (walk : WholeWalk) (taken : AreTaken walk.f) (in_place : (i : ℕ) → 
     live = λ ws k path v live. (owned_by ws k path v live, λ p arrives_at. by_arrival ws k path v live p arrives_at);
   }
     where
+      whole : IsWhole last
+      whole = (at_walks_end walk (processes_branch_between f)).whole
+
       owned_by : (ws : List Way) (k : ℕ) → IsPath f (ToSuccessor k ∷ ws) → (v : VirtualRegister) → IsLive f v (end_of f (ToSuccessor k ∷ ws)) →
           owns.owned.owner (number_of (slot_in last v.number)) ≡ OfVReg v
       owned_by ws k path v live =
           let made : Made f v = live_made written (ToSuccessor k ∷ ws) path refl v live in
           owns.vregs v (number_of (slot_in last v.number)) made
           (is_numbered last.slots.count (slot_in last v.number) (whole.below v.number) (made_live_slots written (ToSuccessor k ∷ ws) path refl v live))
-
-      whole : IsWhole last
-      whole = (at_walks_end walk (processes_branch_between f)).whole
 
       arrive : Arrive f (allocs_of out) (slots_at last) standing
       arrive = vregs_arrive env f ok (allocs_of out) (slots_at last)
