@@ -6,10 +6,10 @@ ghost use Rattle.regalloc2_checker_sets.specs.declared.notes.Noted.{Noted};
 use std::alloc::{AllocError, Allocator};
 use std::marker::Model;
 
-/// How many sets are noted at most until that many were: a small function fills no large table.
+/// The length of `entries` until `ROOM_AT_FIRST` sets were noted, so that a small function fills no large table.
 const ROOM_AT_FIRST: usize = 64;
 
-/// How many sets are noted at most later.
+/// The length of `entries` later.
 const ROOM: usize = 256;
 
 /// A set that was made of the set `from`, and of `other`: bits, or a third set.

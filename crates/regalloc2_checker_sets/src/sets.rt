@@ -32,10 +32,10 @@ pub struct Sets<A: Allocator> {
     alloc: A,
 }
 
-/// How many kept sets can be found by their members while at most so many are kept: a small function fills no large table.
+/// The length of `known` while at most `KNOWN_AT_FIRST` sets are kept, so that a small function fills no large table.
 const KNOWN_AT_FIRST: usize = 256;
 
-/// How many kept sets can be found by their members once more than `KNOWN_AT_FIRST` are kept.
+/// The length of `known` once more than `KNOWN_AT_FIRST` sets are kept.
 const KNOWN: usize = 1024;
 
 impl<A: Allocator> Model for Sets<A> {

@@ -255,7 +255,7 @@ pub record PushesAllClasses (point : ℕ) (inst_regs : InstRegs) (ints floats ve
   pub float : Pushes point inst_regs Float floats after_ints after_floats
   pub vector : Pushes point inst_regs Vector vectors after_floats new
 
--- the moves of all three classes are pushed, or those of one class lack a register
+-- the moves of all three classes are pushed, or the moves of one class lack a register
 abbrev pub PushAllClasses : ℕ → InstRegs → Moves → Moves → Moves → StateValue → Outcome (Unit {0}) → Type 0
 PushAllClasses point inst_regs ints floats vectors old (next x new) = PushesAllClasses point inst_regs ints floats vectors old new
 PushAllClasses point inst_regs ints floats vectors old no_register =

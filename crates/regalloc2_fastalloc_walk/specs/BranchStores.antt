@@ -101,7 +101,7 @@ pub record PushesStores (point : ℕ) (from_stack : Bool) (ms : List StoreMove) 
 abbrev pub LacksStoreReg : StateValue → List StoreMove → Type 0
 LacksStoreReg t ms = (m : StoreMove) × Contains ms m × NoneIsFrom t.allocatable m.class 0
 
--- the stores from the stack, or those from registers, are pushed at a point, or one lacks a register
+-- the stores from the stack, or the stores from registers, are pushed at a point, or one lacks a register
 abbrev pub PushStores : ℕ → Bool → List StoreMove → StateValue → Outcome (Unit {0}) → Type 0
 PushStores point from_stack ms old (next x new) = PushesStores point from_stack ms old new
 PushStores point from_stack ms old no_register = LacksStoreReg old ms

@@ -23,8 +23,8 @@ left_at f placesf e j = place_at (placesf (last_of (block_at f e))) j
 abbrev pub IsUsedBeyondBranch : FunctionValue → VirtualRegister → Type 0
 IsUsedBeyondBranch f v = (b e k : ℕ) → IsEdgeInto f b e k → IsOwnDef f e v → IsUsedElsewhere f v
 
--- The places that hold vregs at a block's start: those that the branch into it defines in the places of its operands,
--- the parameters to which they are passed there too, and all others in their slots. A vreg that only its own branch
+-- The places that hold vregs at a block's start: what the branch into it defines is in the places of its operands,
+-- the parameters to which it is passed are there too, and all others are in their slots. A vreg that only its own branch
 -- passes is nowhere.
 pub record Arrive (f : FunctionValue) (placesf : ℕ → List Place) (F : ℕ → Option Place) (stand : ℕ → VirtualRegister → Option Place) : Type 0 where
   pub own : (b e k j : ℕ) (v : VirtualRegister) → IsEdgeInto f b e k → DefinesNumber (branch_operands f e) v.number j → IsUsedElsewhere f v →
