@@ -137,16 +137,12 @@ made_by f v i point lt le (inl p) =
     let same : slice_index_or (block_at f p.0).params p.3.0 no_vreg ≡ v = get_or_default (block_at f p.0).params p.3.0 no_vreg v p.3.1 ∙ p.3.2 in
     MadeBefore.by_param p.0 p.3.0 (record { block = p.1; param = p.3.1; number = ap (λ (w : VirtualRegister). w.number) same }) same
 made_by f v i point lt le (inr o) =
-    let same : slice_index_or (inst_at f o.0).operands o.1 o.2 ≡ op_at (inst_at f o.0).operands o.1 =
-    get_or_default (inst_at f o.0).operands o.1 o.2 no_operand
-    o.4 in
-    let is : (op_at (inst_at f o.0).operands o.1).vreg ≡ v = ap (λ (x : OperandValue). x.vreg) (sym same) ∙ o.6 in
-    by_earlier o.0 o.1 (omega (arith, o.3, le)) (record {
-      inst = omega (arith, o.3, le, lt);
-      operand = o.4;
-      definition = ap (λ (x : OperandValue). is_def x.kind) (sym same) ∙ o.5;
-      number = ap (λ (w : VirtualRegister). w.number) is;
-    }) is
+    by_earlier o.0 o.1 (omega (arith, o.2, le)) (record {
+      inst = omega (arith, o.2, le, lt);
+      operand = o.3;
+      definition = o.4;
+      number = ap (λ (w : VirtualRegister). w.number) o.5;
+    }) o.5
 
 -- a vreg that is defined before an instruction of the function is made before it
 pub made_before : (f : FunctionValue) (v : VirtualRegister) (i : ℕ) → i < length f.insts → IsDefinedUpTo f v (before i) → MadeBefore f v i
@@ -230,4 +226,4 @@ reads_defined f some follow uses i lt k less read =
     let last : ℕ = length f.blocks - 1 in
     let end : (block_at f last).range.end ≡ length f.insts = (follow last (omega arith)).3 (omega arith) in
     let b = within_blocks f follow last i (omega arith) (omega (arith, end, lt)) in
-    (uses b.0 b.1).0 i b.2 b.3 k no_operand less read
+    (uses b.0 b.1).0 i b.2 b.3 k less read

@@ -216,7 +216,7 @@ fn is_scratch<B: Allocator>(env: &MachineEnv<B>, class: RegClass, place: Allocat
     ensures { IsTrue result ↔ ((r : Register) × (scratch_of (machine_of env.now) class ≡ Some r) × (place ≡ InRegister r)) }
 {
     match env.scratch_by_class[class as usize] {
-        Some(reg) => place.is_same(Allocation::reg(reg)),
+        Some(reg) => place == Allocation::reg(reg),
         None => false,
     }
 }
@@ -267,7 +267,7 @@ fn is_operand_cell<B: Allocator, C: Allocator>(
         return is_cell_of(env, regs, output, op.class(), place);
     }
     match op.as_fixed_nonallocatable() {
-        Some(reg) => place.is_same(Allocation::reg(reg)),
+        Some(reg) => place == Allocation::reg(reg),
         None => is_cell_of(env, regs, output, op.class(), place),
     }
 }

@@ -77,7 +77,7 @@ fn check_reuse<A: Allocator>(
         return Some(CheckerError::ConstraintViolated { inst, op, alloc });
     }
     let expected_alloc = place_at(places, index);
-    if alloc.is_same(expected_alloc) {
+    if alloc == expected_alloc {
         return None;
     }
     Some(CheckerError::AllocationIsNotReuse {
@@ -145,7 +145,7 @@ pub fn check_constraint<A: Allocator>(
             }
         }
         OperandConstraint::FixedReg(reg) => {
-            if alloc.is_same(Allocation::reg(reg)) {
+            if alloc == Allocation::reg(reg) {
                 None
             } else {
                 Some(CheckerError::AllocationIsNotFixedReg { inst, op, alloc })

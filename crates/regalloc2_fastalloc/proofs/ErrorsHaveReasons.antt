@@ -36,19 +36,8 @@ no_soundness_fault f env w (elsewhere h) = h w.entry.0
 no_soundness_fault f env w (livein z h) = h w.entry.1
 no_soundness_fault f env w (open_end b entry h) = h.1 (w.end b h.0)
 no_soundness_fault f env w (arguments b entry end h) = h.1 (w.classes b h.0)
-no_soundness_fault f env w (repeated d earlier later entry end fit is single fails) =
-    let repeat : IsFirstRepeat f d.vreg d.inst = record {
-      site = d;
-      vreg = refl;
-      inst = refl;
-      earlier = earlier;
-      later = later;
-      is = is;
-      single = single;
-      fails = fails;
-    } in
-    let e : SSA d.vreg d.inst ≡ Memory = only_memory f w.follow (omega (arith, w.successors.0)) w.defined_once w.uses_defined (SSA d.vreg d.inst)
-    (inl repeat) in absurd cc
+no_soundness_fault f env w (repeated v i entry end fit repeat) =
+    let e : SSA v i ≡ Memory = only_memory f w.follow (omega (arith, w.successors.0)) w.defined_once w.uses_defined (SSA v i) (inl repeat) in absurd cc
 no_soundness_fault f env w (undefined u entry end fit once h) =
     let e : SSA u.vreg u.inst ≡ Memory = only_memory f w.follow (omega (arith, w.successors.0)) w.defined_once w.uses_defined (SSA u.vreg u.inst)
     (inr (once, (u.point, h))) in absurd cc

@@ -24,13 +24,11 @@ defined_small_by f once v point (inl p) =
     let same : slice_index_or (block_at f p.0).params p.3.0 no_vreg ≡ v = get_or_default (block_at f p.0).params p.3.0 no_vreg v p.3.1 ∙ p.3.2 in
     taken_small f once v.number p.0 p.3.0 (record { block = p.1; param = p.3.1; number = ap (λ (w : VirtualRegister). w.number) same })
 defined_small_by f once v point (inr o) =
-    let same : slice_index_or (inst_at f o.0).operands o.1 o.2 ≡ op_at (inst_at f o.0).operands o.1 = get_or_default (inst_at f o.0).operands o.1 o.2 no_operand
-    o.4 in
     defined_small f once v.number o.0 o.1 (record {
-      inst = within f o.0 o.1 o.4;
-      operand = o.4;
-      definition = ap (λ (x : OperandValue). is_def x.kind) (sym same) ∙ o.5;
-      number = ap (λ (x : OperandValue). x.vreg.number) (sym same) ∙ ap (λ (w : VirtualRegister). w.number) o.6;
+      inst = within f o.0 o.1 o.3;
+      operand = o.3;
+      definition = o.4;
+      number = ap (λ (w : VirtualRegister). w.number) o.5;
     })
 
 -- a table that has room for the numbers below the count has room for all numbers that are defined

@@ -5,7 +5,6 @@ use Rattle.std.proofs.lemmas.List.{length-map}
 use Rattle.std.proofs.lemmas.List.Elements.{All-cons, All-contains}
 use Rattle.regalloc2_names.specs.declared.RegAllocError.{RegAllocError}
 use Rattle.regalloc2_names.specs.declared.RegAllocError.TheVariants.{Memory, SSA}
-use Rattle.regalloc2_names.specs.Register.{VirtualRegister}
 use Rattle.regalloc2_function.specs.FunctionValue.{FunctionValue, BlockValue, EachBlock}
 use Rattle.regalloc2_function.specs.Reasons.{HasShape, IsDefinitionFault, IsShapeFault, IsSoundnessFault}
 use Rattle.regalloc2_function.specs.Reasons.IsShapeFault.{apart, critical, operands, outside, unlisted}
@@ -39,10 +38,7 @@ shape_refused f shape (operands b blocks follow agree edges h) = h.1 (shape.no_o
 pub definition_fault : (f : FunctionValue) → EntryIsFirst f → EachBlock f (EndsAt f) → EachBlock f (ArgumentsFitAt f) → (e : RegAllocError) →
     IsDefinitionFault f e → (e ≡ Memory) ⊎ IsSoundnessFault f e
 definition_fault f entry end fit Memory h = inl refl
-definition_fault f entry end fit (SSA v i) (inl r) = inr
-    (subst (λ (w : VirtualRegister). IsSoundnessFault f (SSA w i)) r.vreg
-    (subst (λ (j : ℕ). IsSoundnessFault f (SSA r.site.vreg j)) r.inst
-    (repeated r.site r.earlier r.later entry end fit r.is r.single r.fails)))
+definition_fault f entry end fit (SSA v i) (inl r) = inr (repeated v i entry end fit r)
 definition_fault f entry end fit (SSA v i) (inr (once, (point, use'))) =
     inr (undefined (record { vreg = v; inst = i; point = point }) entry end fit once use')
 definition_fault f entry end fit _ h = absurd h

@@ -1,5 +1,5 @@
 -- The listings, as the function's own tests see them.
-use Rattle.std.proofs.Common.{ℕ, zero, suc, ◌≡◌, ◌+◌, ◌-◌, ◌<◌, ◌≤◌, ◌⊎◌, true, Some, None, List, [], ◌∷◌, length, get_or, take, refl, sym, ap, ◌∙◌, subst}
+use Rattle.std.proofs.Common.{ℕ, zero, suc, ◌≡◌, ◌+◌, ◌-◌, ◌<◌, ◌≤◌, ◌⊎◌, Some, None, List, [], ◌∷◌, length, get_or, take, refl, sym, ap, ◌∙◌, subst}
 use Rattle.std.proofs.Common.{inl, inr, arith}
 use Rattle.std.specs.Prelude.{All, Contains, cond, count_by, flat_map, map, nat_eq, sum_by}
 use Rattle.std.proofs.lemmas.Bool.{cases_Bool}
@@ -10,7 +10,7 @@ use Rattle.regalloc2_index.specs.Range.{numbers_from, numbers_of}
 use Rattle.regalloc2_names.specs.Register.{VirtualRegister}
 use Rattle.regalloc2_names.specs.Operand.{OperandValue, is_def, is_reading}
 use Rattle.regalloc2_names.specs.Place.{before, after}
-use Rattle.regalloc2_function.specs.FunctionValue.{FunctionValue, BlockValue, InstValue, block_at, inst_at, no_block, no_inst, last_of}
+use Rattle.regalloc2_function.specs.FunctionValue.{FunctionValue, BlockValue, InstValue, block_at, inst_at, no_block, no_inst, last_of, no_operand, op_at}
 use Rattle.regalloc2_function.specs.WellFormed.{BlocksFollow, DefinedOnce, IsDefinedUpTo, UsesAreDefined, definitions_of}
 use Rattle.regalloc2_function.specs.Reasons.{AreSingle, Site}
 use Rattle.regalloc2_function.specs.Reasons.{definitions_in}
@@ -96,6 +96,10 @@ has_operands f j k less =
 abbrev definition_of : ℕ → OperandValue → Site
 definition_of j o = record { vreg = o.vreg; inst = j; point = after j }
 
+-- an operand that is read at an index, whatever is read past the end
+pub read_op : (operands : List OperandValue) (k : ℕ) (o : OperandValue) → k < length operands → get_or operands k o ≡ o → op_at operands k ≡ o
+read_op operands k o less is = get_or_default operands k no_operand o less ∙ is
+
 -- what a listed definition says
 pub listed_defines : (f : FunctionValue) (d : Site) (v : VirtualRegister) (i : ℕ) → Contains (definitions_in f) d → d.vreg ≡ v → d.point ≤ i →
     IsDefinedUpTo f v i
@@ -125,11 +129,10 @@ listed_defines f d v i m is usable =
                 inr (
                   j.0,
                   o.1.0,
-                  o.0,
                   omega (arith, from, usable),
                   o.1.1,
-                  ap (λ o. is_def o.kind) o.1.2 ∙ def,
-                  ap (λ o. o.vreg) o.1.2
+                  ap (λ o. is_def o.kind) (read_op (inst_at f j.0).operands o.1.0 o.0 o.1.1 o.1.2) ∙ def,
+                  ap (λ o. o.vreg) (read_op (inst_at f j.0).operands o.1.0 o.0 o.1.1 o.1.2)
                       ∙ ap (λ d. d.vreg) same ∙ is,
                 ))
             | inr other ↦ absurd (let made : None ≡ Some d = sym (ap (λ b. cond b (Some (definition_of j.0 o.0)) None) other) ∙ o.2 in cc)
@@ -151,19 +154,19 @@ defined_listed f follow some v i before =
             param.2,
           ))
       | inr inst ↦ (let j : ℕ = inst.0 in
-          let in_range : j < length f.insts = has_operands f j inst.1 inst.4 in
-          let o : OperandValue = get_or (inst_at f j).operands inst.1 inst.2 in
+          let in_range : j < length f.insts = has_operands f j inst.1 inst.3 in
+          let o : OperandValue = op_at (inst_at f j).operands inst.1 in
           let at = block_of f follow (length f.blocks) j (omega arith) (let e = start_at_end f follow (length f.blocks) refl some in omega (arith, e)) in
           let b : BlockValue = block_at f at.0 in
-          let made : operand_definition j o ≡ Some (definition_of j o) = ap (λ t. cond t (Some (definition_of j o)) None) inst.5 in (
+          let made : operand_definition j o ≡ Some (definition_of j o) = ap (λ t. cond t (Some (definition_of j o)) None) inst.4 in (
             definition_of j o,
             in_flat (block_definitions f) f.blocks at.0 b (definition_of j o) at.1 (block_is f at.0 at.1)
                 (Contains-append_right (map (param_definition b.range.first) b.params) (flat_map (inst_definitions f) (numbers_of b.range)) (definition_of j o)
                 (in_numbers (inst_definitions f) b.range.first (b.range.end - b.range.first) j (definition_of j o) at.2 (omega (arith, at.2, at.3))
                 (in_filter (operand_definition j) (inst_at f j).operands o (definition_of j o) made
-                (Contains-get_or (inst_at f j).operands inst.1 inst.2 inst.4)))),
-            inst.6,
-            inst.3,
+                (Contains-get_or (inst_at f j).operands inst.1 no_operand inst.3)))),
+            inst.5,
+            inst.2,
           ))
     ]
 
@@ -176,13 +179,13 @@ listed_uses f all n less =
     let b : BlockValue = block_at f n in
     let in_block : (u : Site) → Contains (block_uses f b) u → IsDefinedUpTo f u.vreg u.point = λ u m. All-contains (λ u. IsDefinedUpTo f u.vreg u.point)
     (uses_in f) u all (in_flat (block_uses f) f.blocks n b u less (block_is f n less) m) in (
-      λ i low high k d short reading.
-          (let o : OperandValue = get_or (inst_at f i).operands k d in
+      λ i low high k short reading.
+          (let o : OperandValue = op_at (inst_at f i).operands k in
           in_block (read_use i o.vreg) (Contains-append_left (flat_map (inst_reads f) (numbers_of b.range))
           (flat_map (passed_at b) (numbers_from 0 (length b.succs))) (read_use i o.vreg)
           (in_numbers (inst_reads f) b.range.first (b.range.end - b.range.first) i (read_use i o.vreg) low (omega (arith, low, high))
           (in_filter (operand_read i) (inst_at f i).operands o (read_use i o.vreg) (ap (λ t. cond t (Some (read_use i o.vreg)) None) reading)
-          (Contains-get_or (inst_at f i).operands k d short))))),
+          (Contains-get_or (inst_at f i).operands k no_operand short))))),
       λ k short j d within.
           (let v : VirtualRegister = get_or (get_or b.arguments k []) j d in
           in_block (argument_use (last_of b) v) (Contains-append_right (flat_map (inst_reads f) (numbers_of b.range))
@@ -205,11 +208,10 @@ uses_listed f uses = all_members (λ u. IsDefinedUpTo f u.vreg u.point) (uses_in
             | inl reading ↦ (let made : Some (read_use i.0 o.0.vreg) ≡ Some u = sym (ap (λ t. cond t (Some (read_use i.0 o.0.vreg)) None) reading)
                 ∙ o.2 in
                 let same : read_use i.0 o.0.vreg ≡ u = cc in
-                let h : is_reading (get_or (inst_at f i.0).operands o.1.0 o.0) ≡ true →
-                IsDefinedUpTo f (get_or (inst_at f i.0).operands o.1.0 o.0).vreg (before i.0) =
-                (uses at.0 at.1).0 i.0 i.1 (omega (arith, i.1, i.2)) o.1.0 o.0 o.1.1 in
+                let is : op_at (inst_at f i.0).operands o.1.0 ≡ o.0 = read_op (inst_at f i.0).operands o.1.0 o.0 o.1.1 o.1.2 in
                 subst (λ (u : Site). IsDefinedUpTo f u.vreg u.point) same
-                (subst (λ (o : OperandValue). IsDefinedUpTo f o.vreg (before i.0)) o.1.2 (h (ap is_reading o.1.2 ∙ reading))))
+                (subst (λ (o : OperandValue). IsDefinedUpTo f o.vreg (before i.0)) is
+                ((uses at.0 at.1).0 i.0 i.1 (omega (arith, i.1, i.2)) o.1.0 o.1.1 (ap is_reading is ∙ reading))))
             | inr other ↦ absurd (let made : None ≡ Some u = sym (ap (λ t. cond t (Some (read_use i.0 o.0.vreg)) None) other) ∙ o.2 in cc)
           ])
       | inr passed ↦ (let k = from_numbers (passed_at b) 0 (length b.succs) u passed in

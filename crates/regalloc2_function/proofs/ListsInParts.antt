@@ -1,12 +1,14 @@
 -- Lists that are read from the front, part by part.
-use Rattle.std.proofs.Common.{ℕ, zero, suc, ◌≡◌, ◌+◌, ◌-◌, ◌<◌, ◌≤◌, List, [], ◌∷◌, ◌++◌, Option, length, get_or, take, drop, refl, sym, ap, ◌∙◌}
+use Rattle.std.proofs.Common.{ℕ, zero, suc, ◌≡◌, ◌+◌, ◌-◌, ◌<◌, ◌≤◌, List, [], ◌∷◌, ◌++◌, Option, length, get_or, take, drop, refl, sym, ap, ◌∙◌, subst, inl, inr}
 use Rattle.std.proofs.Common.{append_assoc, append-nil, add-one, arith}
 use Rattle.std.specs.Prelude.{All, filter_map, flat_map, map}
 use Rattle.std.proofs.Math.Seq.{drop-cons}
 use Rattle.std.proofs.lemmas.Grind.{flat_map-append}
+use Rattle.std.proofs.lemmas.List.{get_or_append_left, get_or-append-add, get_or-take, length-append, length-take-le}
 use Rattle.std.proofs.lemmas.List.{map-append, take-append-drop, take_all, take_more}
-use Rattle.std.proofs.lemmas.List.Elements.{All-append, All-contains, All-cons, All-head, All-nil, All-push, All-same, All-tail}
-use Rattle.std.proofs.lemmas.List.Elements.{Contains-append_right, filter_map-append}
+use Rattle.std.proofs.lemmas.Bool.{cases_lt}
+use Rattle.std.proofs.lemmas.List.Elements.{All-cons, All-head, All-nil, All-push, All-same, All-tail}
+use Rattle.std.proofs.lemmas.List.Elements.{filter_map-append}
 use Rattle.regalloc2_index.specs.Range.{numbers_from}
 use Rattle.regalloc2_function.specs.Reasons.{IsFirstIn}
 
@@ -88,14 +90,23 @@ numbers_more h n i = ap (flat_map h) (numbers_append n i 1) ∙ flat_map-append 
 -- the first of a part that fails is the first of the whole, where what comes before the part passes
 pub first_of_part : {X : Type 0} (P : X → Type 0) (whole xs ys zs : List X) (x : X) → whole ≡ (xs ++ ys) ++ zs → All P xs → IsFirstIn P ys x →
     IsFirstIn P whole x
-first_of_part P whole xs ys zs x e before h = record {
-  earlier = xs ++ h.earlier;
-  later = h.later ++ zs;
-  is = e ∙ ap (λ l. (xs ++ l) ++ zs) h.is ∙ append_assoc xs (h.earlier ++ x ∷ h.later) zs ∙ ap (λ l. xs ++ l) (append_assoc h.earlier (x ∷ h.later) zs)
-      ∙ sym (append_assoc xs h.earlier (x ∷ (h.later ++ zs)));
-  passed = All-append P xs h.earlier before h.passed;
-  fails = h.fails;
-}
+first_of_part P whole xs ys zs x e before h = subst (λ l. IsFirstIn P l x) (sym e) (
+  length xs + h.0,
+  (
+    omega (arith, h.1.0, length-append xs ys, length-append (xs ++ ys) zs),
+    λ p. h.1.1 (subst P (in_part h.0 h.1.0) p),
+    λ j low. elim (cases_lt j (length xs)) [
+      | inl less ↦ subst P (sym (get_or_append_left (xs ++ ys) zs x j (omega (arith, less, length-append xs ys)) ∙ get_or_append_left xs ys x j less))
+          (before j x less)
+      | inr more ↦ subst P (sym (ap (λ n. get_or ((xs ++ ys) ++ zs) n x) (omega (arith, more)) ∙ in_part (j - length xs) (omega (arith, more, low, h.1.0))))
+          (h.1.2 (j - length xs) (omega (arith, more, low)))
+    ],
+  ),
+  in_part h.0 h.1.0 ∙ h.2,
+)
+  where
+    in_part : (i : ℕ) → i < length ys → get_or ((xs ++ ys) ++ zs) (length xs + i) x ≡ get_or ys i x
+    in_part i less = get_or_append_left (xs ++ ys) zs x (length xs + i) (omega (arith, less, length-append xs ys)) ∙ get_or-append-add xs ys i x
 
 -- all of a list was read
 pub map_taken : {X Y : Type 0} (h : X → Y) (xs : List X) (i : ℕ) → length xs ≤ i → map h xs ≡ map h (take i xs)
@@ -112,13 +123,15 @@ flat_taken h xs i less = ap (flat_map h) (sym (take_all i xs less))
 -- a place of a list that is read in turn
 pub first_here : {X : Type 0} (P : X → Type 0) (xs : List X) (i : ℕ) (x : X) → i < length xs → x ≡ get_or xs i x → All P (take i xs) → (P x → ⊥) →
     IsFirstIn P xs x
-first_here P xs i x less is before fails = record {
-  earlier = take i xs;
-  later = drop (i + 1) xs;
-  is = split_at xs i x less is ∙ append_assoc (take i xs) (x ∷ []) (drop (i + 1) xs);
-  passed = before;
-  fails = fails;
-}
+first_here P xs i x less is before fails = (
+  i,
+  (
+    less,
+    λ p. fails (subst P (sym is) p),
+    λ j low. subst P (get_or-take i xs j x low) (before j x (omega (arith, low, less, length-take-le i xs (omega (arith, less)))))
+  ),
+  sym is,
+)
 
 -- what holds of the first i items, and of the item at i, holds of the first i + 1
 pub all_more : {X : Type 0} (P : X → Type 0) (xs : List X) (i : ℕ) (x : X) → i < length xs → x ≡ get_or xs i x → All P (take i xs) → P x →
@@ -147,5 +160,4 @@ all_of_part P h xs i x less is all =
 
 -- a list with a first that fails doesn't pass
 pub first_not_all : {X : Type 0} (P : X → Type 0) (xs : List X) (x : X) → IsFirstIn P xs x → All P xs → ⊥
-first_not_all P xs x h all = h.fails (All-contains P (h.earlier ++ x ∷ h.later) x (All-same P (h.earlier ++ x ∷ h.later) xs (sym h.is) all)
-    (Contains-append_right h.earlier (x ∷ h.later) x (0, omega arith, refl)))
+first_not_all P xs x h all = h.1.1 (all h.0 x h.1.0)

@@ -9,7 +9,8 @@ use Rattle.regalloc2_names.specs.declared.RegClass.TheVariants.{Int}
 use Rattle.regalloc2_function.specs.FunctionValue.{FunctionValue}
 use Rattle.regalloc2_function.specs.Machine.{MachineValue, is_allocatable, scratch_of}
 use Rattle.regalloc2_function.specs.Fitting.{MachineFits}
-use Rattle.regalloc2_function.specs.Misfit.{IsMisfit, IsFirstTaken}
+use Rattle.regalloc2_function.specs.Misfit.{IsMisfit, IsSlotApart}
+use Rattle.regalloc2_function.specs.Reasons.{IsFirstIn}
 use Rattle.regalloc2_function.specs.declared.misfit.MachineMisfit.{MachineMisfit}
 use Rattle.regalloc2_function.specs.declared.misfit.MachineMisfit.TheVariants.{InvalidSlot, OtherClass, ListedTwice, InvalidRegister}
 use Rattle.regalloc2_function.specs.declared.misfit.MachineMisfit.TheVariants.{ScratchOfOtherClass, ScratchAllocatable, InvalidScratch}
@@ -17,8 +18,8 @@ use Rattle.regalloc2_function.specs.declared.misfit.MachineMisfit.TheVariants.{S
 
 -- what holds of each fixed stack slot holds of the first one that serves a class
 taken : (env : MachineValue) (class : RegClass) (r : Register) (P : Register → Type 0) →
-    ((k : _) (d : Register) → k < length env.fixed_stack_slots → P (slice_index_or env.fixed_stack_slots k d)) → IsFirstTaken env class r → P r
-taken env class r P all first = All-contains P env.fixed_stack_slots r all (first.0, first.1, first.2)
+    ((k : _) (d : Register) → k < length env.fixed_stack_slots → P (slice_index_or env.fixed_stack_slots k d)) → IsFirstIn (IsSlotApart env class) env.fixed_stack_slots r → P r
+taken env class r P all first = All-contains P env.fixed_stack_slots r all (first.0, first.1.0, first.2)
 
 -- a machine of which a misfit with a function is named doesn't fit the function
 pub misfit_fails : (f : FunctionValue) (env : MachineValue) (m : MachineMisfit) → IsMisfit f env m → MachineFits f env → ⊥

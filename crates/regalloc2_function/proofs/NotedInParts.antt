@@ -1,8 +1,7 @@
 -- Definitions that are noted part by part.
-use Rattle.std.proofs.Common.{◌≡◌, List, [], ◌∷◌, ◌++◌, refl, sym, ap, ◌∙◌, append_assoc, append-nil}
+use Rattle.std.proofs.Common.{◌≡◌, List, [], ◌∷◌, ◌++◌, refl, sym, ap, ◌∙◌, append_assoc, append-nil, arith}
 use Rattle.regalloc2_names.specs.declared.RegAllocError.{RegAllocError}
 use Rattle.regalloc2_function.specs.Reasons.{Site, IsFirstIn}
-use Rattle.std.proofs.lemmas.List.Elements.{All-nil}
 use Rattle.std.specs.Prelude.{All}
 use Rattle.regalloc2_function.specs.Inside.Definitions.{Table, NotesDefinitions, IsFirstNumberTaken, NamesTaken, IsNumberTaken, IsUsable, NamesUnusable}
 use Rattle.regalloc2_function.specs.Inside.Definitions.NotesDefinitions.{none, more}
@@ -44,4 +43,4 @@ unusable_in_part t whole xs ys zs e is before h = (h.0, h.1, first_of_part (IsUs
 
 -- a use that isn't usable is the first such in a list of itself alone
 pub unusable_now : (t : Table) (u : Site) → (IsUsable t u → ⊥) → IsFirstIn (IsUsable t) (u ∷ []) u
-unusable_now t u h = record { earlier = []; later = []; is = refl; passed = All-nil (IsUsable t); fails = h }
+unusable_now t u h = (0, (omega arith, h, λ j low. absurd (omega (arith, low))), refl)

@@ -1,10 +1,10 @@
 -- What the table says of the function's definitions and uses.
-use Rattle.std.proofs.Common.{ℕ, ◌≡◌, ◌≤◌, ◌<◌, Bool, cond, None, List, [], ◌∷◌, ◌++◌, length, replicate, refl, sym, ap, ◌∙◌, subst, append_assoc, inl, inr}
+use Rattle.std.proofs.Common.{ℕ, ◌≡◌, ◌≤◌, ◌<◌, Bool, cond, None, List, [], ◌∷◌, ◌++◌, length, get_or, replicate, refl, sym, ap, ◌∙◌, subst, append_assoc, inl, inr}
 use Rattle.std.proofs.Common.{arith}
 use Rattle.std.specs.Prelude.{All, Contains, nat_eq}
 use Rattle.std.proofs.lemmas.Bool.{cases_Bool}
 use Rattle.std.proofs.lemmas.Bool.Decides.{Decides-eqb}
-use Rattle.std.proofs.lemmas.List.Elements.{All-contains, All-weaker, Contains-append_left, Contains-append_right}
+use Rattle.std.proofs.lemmas.List.Elements.{All-weaker, Contains-append_left, Contains-append_right}
 use Rattle.std.proofs.lemmas.List.Sums.{sum_by-cons}
 use Rattle.regalloc2_names.specs.Register.{VirtualRegister}
 use Rattle.regalloc2_names.specs.declared.RegClass.{RegClass}
@@ -12,6 +12,7 @@ use Rattle.regalloc2_names.specs.declared.RegAllocError.{RegAllocError}
 use Rattle.regalloc2_names.specs.declared.RegAllocError.TheVariants.{Memory, SSA}
 use Rattle.regalloc2_function.specs.FunctionValue.{FunctionValue}
 use Rattle.regalloc2_function.specs.WellFormed.{BlocksFollow, DefinedOnce, IsDefinedUpTo, UsesAreDefined}
+use Rattle.regalloc2_function.proofs.ListsInParts.{first_not_all}
 use Rattle.regalloc2_function.specs.Reasons.{AreSingle, Site, IsDefinitionFault, IsFirstIn, IsFirstRepeat}
 use Rattle.regalloc2_function.specs.Reasons.{definitions_in, uses_in}
 use Rattle.regalloc2_function.specs.Inside.Definitions.{IsUsable, NamesTaken, NamesUnusable, NotesDefinitions, Table, entry_of, definitions_among}
@@ -81,13 +82,12 @@ module _ (f : FunctionValue) (follow : BlocksFollow f) (some : 0 < length f.bloc
       let first : (point : ℕ) × IsFirstIn (λ u. IsDefinedUpTo f u.vreg u.point) (uses_in f)
       (record { vreg = h.0.vreg; inst = h.0.inst; point = point }) = (
         h.0.point,
-        record {
-          earlier = h.2.earlier;
-          later = h.2.later;
-          is = h.2.is;
-          passed = All-weaker (IsUsable t) (λ u. IsDefinedUpTo f u.vreg u.point) (usable_defined k) h.2.earlier h.2.passed;
-          fails = λ defined. h.2.fails (defined_usable k h.0 defined);
-        },
+        (
+          h.2.0,
+          (h.2.1.0, λ defined. h.2.1.1 (defined_usable k (get_or (uses_in f) h.2.0 h.0) defined), λ j low. usable_defined k (get_or (uses_in f) j h.0)
+              (h.2.1.2 j low)),
+          h.2.2,
+        ),
       ) in
       subst (IsDefinitionFault f) (sym h.1) (inr (noted_once few noted, first))
 
@@ -125,8 +125,6 @@ only_memory f follow some once uses (SSA v i) h =
           (subst (AreSingle f.num_vregs) whole (once_single f follow some once)))))
       | inr use' ↦ (let all = uses_listed f uses in
           let at : Site = record { vreg = v; inst = i; point = use'.1.0 } in
-          let there : Contains (uses_in f) at = subst (λ (l : List Site). Contains l at) (sym use'.1.1.is)
-          (Contains-append_right use'.1.1.earlier (at ∷ use'.1.1.later) at (0, omega arith, refl)) in
-          absurd (use'.1.1.fails (All-contains (λ u. IsDefinedUpTo f u.vreg u.point) (uses_in f) at all there)))
+          absurd (first_not_all (λ u. IsDefinedUpTo f u.vreg u.point) (uses_in f) at use'.1.1 all))
     ]
 only_memory f follow some once uses _ h = absurd h

@@ -1,11 +1,12 @@
 -- A bound above all that operands and parameters define, which one of them reaches: it makes room, and not more than that.
-use Rattle.std.proofs.Common.{ℕ, ◌≡◌, ◌+◌, ◌<◌, ◌≤◌, ◌⊎◌, inl, inr, true, List, length, get_or, ap, ◌∙◌, arith}
+use Rattle.std.proofs.Common.{ℕ, ◌≡◌, ◌+◌, ◌<◌, ◌≤◌, ◌⊎◌, inl, inr, true, List, length, ap, ◌∙◌, arith}
 use Rattle.std.specs.Prelude.{All, Contains}
 use Rattle.std.proofs.lemmas.List.Elements.{All-contains}
 use Rattle.regalloc2_names.specs.Register.{VirtualRegister}
 use Rattle.regalloc2_names.specs.Operand.{OperandValue, is_def}
 use Rattle.regalloc2_names.specs.Place.{before, after}
-use Rattle.regalloc2_function.specs.FunctionValue.{FunctionValue, block_at, inst_at}
+use Rattle.regalloc2_function.specs.FunctionValue.{FunctionValue, block_at, inst_at, no_operand, op_at}
+use Rattle.regalloc2_function.proofs.ListingsOfFunction.{read_op}
 use Rattle.regalloc2_function.specs.Inside.TableLength.{CoversDefinitions, IsBelow, IsShort, ReachedByDef, ReachedByParam}
 use Rattle.regalloc2_function.proofs.ListingsOfFunction.{has_operands}
 
@@ -59,9 +60,9 @@ room_above f m n r least le params operands v point (inl p) less =
     let low : v.number < m = All-contains (λ (w : VirtualRegister). w.number < m) (block_at f p.0).params v (params p.0 p.1) p.3 in
     least v.number (omega (arith, low, le)) less
 room_above f m n r least le params operands v point (inr o) less =
-    let below : IsBelow n (get_or (inst_at f o.0).operands o.1 o.2) = operands o.0 (has_operands f o.0 o.1 o.4) o.1 o.2 o.4 in
-    let low : (get_or (inst_at f o.0).operands o.1 o.2).vreg.number < n = below o.5 in
-    let same = ap (λ (w : VirtualRegister). w.number) o.6 in
+    let below : IsBelow n (op_at (inst_at f o.0).operands o.1) = operands o.0 (has_operands f o.0 o.1 o.3) o.1 no_operand o.3 in
+    let low : (op_at (inst_at f o.0).operands o.1).vreg.number < n = below o.4 in
+    let same = ap (λ (w : VirtualRegister). w.number) o.5 in
     least v.number (omega (arith, low, same)) less
 
 -- a length that a definition reaches is short
@@ -76,9 +77,10 @@ short_above f m n r le blocks (inr p) =
     let o : OperandValue = at.0 in
     let has : Contains (inst_at f p.0).operands o = at.1 in
     let reached = at.3 in
+    let is : op_at (inst_at f p.0).operands has.0 ≡ o = read_op (inst_at f p.0).operands has.0 o has.1 has.2 in
     inr (
       o.vreg,
       after p.0,
-      inr (p.0, has.0, o, omega arith, has.1, ap (λ (x : OperandValue). is_def x.kind) has.2 ∙ at.2, ap (λ (x : OperandValue). x.vreg) has.2),
+      inr (p.0, has.0, omega arith, has.1, ap (λ (x : OperandValue). is_def x.kind) is ∙ at.2, ap (λ (x : OperandValue). x.vreg) is),
       omega (arith, le, reached),
     )

@@ -114,7 +114,7 @@ EachBlock f P = (b : ℕ) → b < length f.blocks → P b (block_at f b)
 
 -- each operand of an instruction, with its index
 abbrev pub EachOperand : InstValue → (ℕ → OperandValue → Type 0) → Type 0
-EachOperand i P = (k : ℕ) (d : OperandValue) → k < length i.operands → P k (slice_index_or i.operands k d)
+EachOperand i P = (k : ℕ) → k < length i.operands → P k (op_at i.operands k)
 
 -- each instruction of a block
 abbrev pub EachInst : FunctionValue → BlockValue → (ℕ → InstValue → Type 0) → Type 0

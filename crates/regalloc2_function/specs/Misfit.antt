@@ -1,13 +1,14 @@
 -- Why a machine doesn't fit a function: the first condition of `MachineFits` that fails.
 -- First come the fixed stack slots, none of which is invalid; then the classes, Int, Float and Vector in this order, and of each class the
 -- conditions in the order of `MachineMisfit`'s variants.
-use Rattle.std.specs.Prelude.{ℕ, ◌≡◌, ◌≢◌, ◌<◌, true, false, All, Contains, length, slice_index_or, take, Some}
+use Rattle.std.specs.Prelude.{◌≡◌, ◌≢◌, true, false, All, Contains, Some}
 use Rattle.regalloc2_names.specs.Register.{Register, has_register, invalid_register}
 use Rattle.regalloc2_names.specs.declared.RegClass.{RegClass}
 use Rattle.regalloc2_names.specs.declared.RegClass.TheVariants.{Int, Float, Vector}
 use Rattle.regalloc2_function.specs.FunctionValue.{FunctionValue}
 use Rattle.regalloc2_function.specs.Machine.{MachineValue, is_allocatable, set_of, scratch_of}
 use Rattle.regalloc2_function.specs.Fitting.{ClassFits, NamesClass, AreOfClass, AreListedOnce, IsScratchSound}
+use Rattle.regalloc2_function.specs.Reasons.{IsFirstIn}
 use Rattle.regalloc2_function.specs.declared.misfit.MachineMisfit.{MachineMisfit}
 use Rattle.regalloc2_function.specs.declared.misfit.MachineMisfit.TheVariants.{InvalidSlot, OtherClass, ListedTwice, InvalidRegister}
 use Rattle.regalloc2_function.specs.declared.misfit.MachineMisfit.TheVariants.{ScratchOfOtherClass, ScratchAllocatable, InvalidScratch}
@@ -43,11 +44,6 @@ pub record PassesScratch (f : FunctionValue) (env : MachineValue) (class : RegCl
   pub registers : AreRegistersSound env class
   pub scratch : IsScratchSound env class
 
--- the first fixed stack slot that serves a class
-abbrev pub IsFirstTaken : MachineValue → RegClass → Register → Type 0
-IsFirstTaken env class r =
-    (k : ℕ) × (k < length env.fixed_stack_slots) × (slice_index_or env.fixed_stack_slots k r ≡ r) × All (IsSlotApart env class) (take k env.fixed_stack_slots)
-
 -- the condition that a misfit names fails, and the conditions that are tested before it hold
 abbrev pub IsMisfit : FunctionValue → MachineValue → MachineMisfit → Type 0
 IsMisfit f env InvalidSlot = Contains env.fixed_stack_slots invalid_register
@@ -60,8 +56,8 @@ IsMisfit f env (ScratchOfOtherClass class r) = PassesRegisters f env class × (s
 IsMisfit f env (ScratchAllocatable class r) = PassesRegisters f env class × (scratch_of env class ≡ Some r) × (r.class ≡ class)
     × (is_allocatable env class r ≡ true)
 IsMisfit f env (InvalidScratch class) = PassesRegisters f env class × (scratch_of env class ≡ Some invalid_register) × (Int ≡ class)
-IsMisfit f env (SlotAllocatable class r) = PassesScratch f env class × IsFirstTaken env class r × (is_allocatable env class r ≡ true)
-IsMisfit f env (SlotIsScratch class r) = PassesScratch f env class × IsFirstTaken env class r × (is_allocatable env class r ≡ false)
+IsMisfit f env (SlotAllocatable class r) = PassesScratch f env class × IsFirstIn (IsSlotApart env class) env.fixed_stack_slots r × (is_allocatable env class r ≡ true)
+IsMisfit f env (SlotIsScratch class r) = PassesScratch f env class × IsFirstIn (IsSlotApart env class) env.fixed_stack_slots r × (is_allocatable env class r ≡ false)
     × (scratch_of env class ≡ Some r)
 IsMisfit f env (NoRegister class) =
     PassesScratch f env class × All (IsSlotApart env class) env.fixed_stack_slots × NamesClass f class × ((r : Register) → is_allocatable env class r ≡ false)

@@ -1,5 +1,5 @@
 -- Where the tests of a function fail first, as their errors report.
-use Rattle.std.specs.Prelude.{ℕ, ◌≡◌, ◌≢◌, ◌<◌, ◌≤◌, ◌⊎◌, Bool, List, [], ◌∷◌, ◌++◌, All, count_by, length, nat_eq}
+use Rattle.std.specs.Prelude.{ℕ, ◌≡◌, ◌≢◌, ◌<◌, ◌≤◌, ◌⊎◌, Bool, List, [], ◌∷◌, ◌++◌, count_by, length, nat_eq}
 use Rattle.std.specs.Prelude.{◌-◌, None, Some, filter_map, flat_map, if◌then◌else◌, map, slice_index_or}
 use Rattle.regalloc2_index.specs.Range.{invalid_number, numbers_from}
 use Rattle.regalloc2_names.specs.declared.RegAllocError.{RegAllocError}
@@ -18,13 +18,9 @@ use Rattle.regalloc2_function.specs.Machine.{MachineValue}
 abbrev pub IsFirst : ℕ → (ℕ → Type 0) → ℕ → Type 0
 IsFirst n P i = (i < n) × (P i → ⊥) × ((j : ℕ) → j < i → P j)
 
--- the first of a list that fails: all before it pass
-pub record IsFirstIn {X : Type 0} (P : X → Type 0) (xs : List X) (x : X) : Type 0 where
-  pub earlier : List X
-  pub later : List X
-  pub is : xs ≡ earlier ++ x ∷ later
-  pub passed : All P earlier
-  pub fails : P x → ⊥
+-- the first of a list that fails a test
+abbrev pub IsFirstIn : {X : Type 0} → (X → Type 0) → List X → X → Type 0
+IsFirstIn P xs x = (i : ℕ) × IsFirst (length xs) (λ j. P (slice_index_or xs j x)) i × (slice_index_or xs i x ≡ x)
 
 -- a vreg that is defined or used: by which instruction (`invalid_number` for a parameter), and at which point
 pub record Site : Type 0 where
@@ -106,17 +102,15 @@ pub record HasSoundness (f : FunctionValue) : Type 0 where
   pub defined_once : DefinedOnce f
   pub uses_defined : UsesAreDefined f
 
--- Why the tests of soundness reject a function: the first test that fails, and where it fails first. The first
--- definition that fails is the first whose number is too large or is defined by an earlier one.
+-- Why the tests of soundness reject a function: the first test that fails, and where it fails first.
 pub data IsSoundnessFault (f : FunctionValue) : RegAllocError → Type 0 where
   elsewhere : f.entry ≢ 0 → IsSoundnessFault f (BB f.entry)
   livein : f.entry ≡ 0 → (block_at f 0).params ≢ [] → IsSoundnessFault f EntryLivein
   open_end : (b : ℕ) → EntryIsFirst f → IsFirst (length f.blocks) (λ n. EndsAt f n (block_at f n)) b → IsSoundnessFault f (BB b)
   arguments : (b : ℕ) → EntryIsFirst f → EachBlock f (EndsAt f) → IsFirst (length f.blocks) (λ n. ArgumentsFitAt f n (block_at f n)) b →
       IsSoundnessFault f (Branch (last_of (block_at f b)))
-  repeated : (d : Site) (earlier later : List Site) → EntryIsFirst f → EachBlock f (EndsAt f) → EachBlock f (ArgumentsFitAt f) →
-      definitions_in f ≡ earlier ++ d ∷ later → AreSingle f.num_vregs earlier → (AreSingle f.num_vregs (earlier ++ d ∷ []) → ⊥) →
-      IsSoundnessFault f (SSA d.vreg d.inst)
+  repeated : (v : VirtualRegister) (i : ℕ) → EntryIsFirst f → EachBlock f (EndsAt f) → EachBlock f (ArgumentsFitAt f) → IsFirstRepeat f v i →
+      IsSoundnessFault f (SSA v i)
   undefined : (u : Site) → EntryIsFirst f → EachBlock f (EndsAt f) → EachBlock f (ArgumentsFitAt f) → DefinedOnce f →
       IsFirstIn (λ u. IsDefinedUpTo f u.vreg u.point) (uses_in f) u → IsSoundnessFault f (SSA u.vreg u.inst)
 

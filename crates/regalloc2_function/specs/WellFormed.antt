@@ -5,6 +5,7 @@ use Rattle.std.specs.Prelude.{map, slice_index, slice_index_or}
 use Rattle.regalloc2_names.specs.declared.OperandConstraint.{OperandConstraint}
 use Rattle.regalloc2_names.specs.declared.OperandConstraint.TheVariants.{Any, Reg, Stack, FixedReg, Reuse, Limit}
 use Rattle.regalloc2_names.specs.declared.RegClass.{RegClass}
+use Rattle.regalloc2_names.specs.declared.sets.PRegSet.{PRegSet}
 use Rattle.regalloc2_names.specs.declared.OperandKind.TheVariants.{Def, Use}
 use Rattle.regalloc2_names.specs.declared.OperandPos.TheVariants.{Early, Late}
 use Rattle.regalloc2_names.specs.Register.{Register, VirtualRegister, has_register}
@@ -86,8 +87,8 @@ DefinedOnce f = (n : ℕ) → (definitions_of f n ≤ 1) × (0 < definitions_of 
 abbrev pub IsDefinedUpTo : FunctionValue → VirtualRegister → ℕ → Type 0
 IsDefinedUpTo f v point =
     ((b : ℕ) × (b < length f.blocks) × (before (block_at f b).range.first ≤ point) × Contains (block_at f b).params v)
-    ⊎ ((j k : ℕ) × (d : OperandValue) × (after j ≤ point) × (k < length (inst_at f j).operands)
-    × (is_def (slice_index_or (inst_at f j).operands k d).kind ≡ true) × ((slice_index_or (inst_at f j).operands k d).vreg ≡ v))
+    ⊎ ((j k : ℕ) × (after j ≤ point) × (k < length (inst_at f j).operands)
+    × (is_def (op_at (inst_at f j).operands k).kind ≡ true) × ((op_at (inst_at f j).operands k).vreg ≡ v))
 
 -- each vreg that is read is defined before its instruction, and each that is passed is defined before the branch, or by the branch itself
 abbrev pub UsesAreDefined : FunctionValue → Type 0
@@ -95,9 +96,9 @@ UsesAreDefined f = EachBlock f (λ n b.
     EachInst f b (λ i inst. EachOperand inst (λ k o. is_reading o ≡ true → IsDefinedUpTo f o.vreg (before i)))
     × ((k : ℕ) → k < length b.succs → All (λ v. IsDefinedUpTo f v (after (last_of b))) (slice_index_or b.arguments k [])))
 
--- operand `k` is reused: an operand of the instruction has the constraint to reuse it
-abbrev pub IsReused : InstValue → ℕ → Type 0
-IsReused i k = (j : ℕ) × (d : OperandValue) × (j < length i.operands) × ((slice_index_or i.operands j d).constraint ≡ Reuse k)
+-- operand `k` is reused: another operand of the instruction has the constraint to reuse it
+abbrev pub IsReused : List OperandValue → ℕ → Type 0
+IsReused operands k = (j : ℕ) × (j < length operands) × ((op_at operands j).constraint ≡ Reuse k)
 
 -- a constraint that a reused operand may have
 abbrev pub MayBeReused : MachineValue → RegClass → OperandConstraint → Type 0
@@ -108,19 +109,36 @@ MayBeReused env class (FixedReg r) = is_allocatable env class r ≡ true
 MayBeReused env class (Reuse n) = ⊥
 MayBeReused env class (Limit n) = ⊥
 
+-- an operand that a definition of a class may reuse: an early use of a vreg of the class
+pub record IsReuseTarget (env : MachineValue) (class : RegClass) (o : OperandValue) : Type 0 where
+  pub is_use : o.kind ≡ Use
+  pub is_early : o.position ≡ Early
+  pub reads : is_reading o ≡ true
+  pub same_class : o.vreg.class ≡ class
+  pub may_be : MayBeReused env class o.constraint
+
+-- an operand that isn't a reuse, or is a late definition that may reuse the operand that it names
+abbrev pub IsSoundReuse : MachineValue → List OperandValue → OperandValue → Type 0
+IsSoundReuse env operands o = (n : ℕ) → o.constraint ≡ Reuse n → (o.kind ≡ Def) × (o.position ≡ Late) × (n < length operands)
+    × IsReuseTarget env o.vreg.class (op_at operands n)
+
+-- no two of the first `k` operands reuse one operand
+abbrev pub AreReusesApart : List OperandValue → ℕ → Type 0
+AreReusesApart operands k = (i j n : ℕ) → i < k → j < k → (op_at operands i).constraint ≡ Reuse n → (op_at operands j).constraint ≡ Reuse n → i ≡ j
+
 -- reuses are late definitions of early uses, each of its own
 pub record ReusesAreSound (env : MachineValue) (i : InstValue) : Type 0 where
-  pub definitions : EachOperand i (λ k o. (n : ℕ) → o.constraint ≡ Reuse n → (o.kind ≡ Def) × (o.position ≡ Late))
-  pub targets : EachOperand i (λ k o. (n : ℕ) (d : OperandValue) → o.constraint ≡ Reuse n → (n < length i.operands)
-      × (let u : OperandValue = slice_index_or i.operands n d in (u.kind ≡ Use) × (u.position ≡ Early) × (is_reading u ≡ true) × (u.vreg.class ≡ o.vreg.class)
-      × MayBeReused env u.vreg.class u.constraint))
-  pub apart : (j k n : ℕ) (d e : OperandValue) → j < length i.operands → k < length i.operands →
-      (slice_index_or i.operands j d).constraint ≡ Reuse n → (slice_index_or i.operands k e).constraint ≡ Reuse n → j ≡ k
+  pub each : EachOperand i (λ k o. IsSoundReuse env i.operands o)
+  pub apart : AreReusesApart i.operands (length i.operands)
+
+-- a definition, a late use or a reused operand, if it is fixed, is fixed to no clobber
+abbrev pub AvoidsClobbers : PRegSet → OperandValue → (is_reused : Type 0) → Type 0
+AvoidsClobbers clobbers o is_reused = (r : Register) → o.constraint ≡ FixedReg r → (o.kind ≡ Def) ⊎ (o.position ≡ Late) ⊎ is_reused →
+    has_register clobbers r ≡ false
 
 -- no definition, late use or reused early use is fixed to a clobber
 abbrev pub FixedAvoidClobbers : InstValue → Type 0
-FixedAvoidClobbers i = EachOperand i (λ k o. (r : Register) → o.constraint ≡ FixedReg r → (o.kind ≡ Def) ⊎ (o.position ≡ Late)
-    ⊎ IsReused i k → has_register i.clobbers r ≡ false)
+FixedAvoidClobbers i = EachOperand i (λ k o. AvoidsClobbers i.clobbers o (IsReused i.operands k))
 
 -- a structurally valid function: its blocks and terminators are sound, and its arguments are counted
 pub record IsFramed (f : FunctionValue) : Type 0 where
@@ -147,7 +165,7 @@ pub record IsWellFormed (env : MachineValue) (f : FunctionValue) : Type 0 where
 
 -- no operand has `Limit`
 abbrev pub AreUnlimited : InstValue → Type 0
-AreUnlimited i = (k : ℕ) → k < length i.operands → (n : ℕ) → (op_at i.operands k).constraint ≡ Limit n → ⊥
+AreUnlimited i = EachOperand i (λ k o. (n : ℕ) → o.constraint ≡ Limit n → ⊥)
 
 -- the place of an operand under a constraint is known before registers are chosen: a register by name, or a stack place if need be
 abbrev pub IsInPlace : OperandConstraint → Type 0
@@ -160,5 +178,4 @@ IsInPlace (Limit n) = Unit {0}
 
 -- each definition of a branch is under a constraint whose place is known before registers are chosen
 abbrev pub BranchDefinesInPlace : InstValue → Type 0
-BranchDefinesInPlace i = i.is_branch ≡ true → (k : ℕ) → k < length i.operands → is_def (op_at i.operands k).kind ≡ true →
-    IsInPlace (op_at i.operands k).constraint
+BranchDefinesInPlace i = i.is_branch ≡ true → EachOperand i (λ k o. is_def o.kind ≡ true → IsInPlace o.constraint)

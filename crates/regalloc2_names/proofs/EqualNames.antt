@@ -1,9 +1,11 @@
 -- The test of equality accepts two names exactly if they are equal.
-use Rattle.std.proofs.Common.{◌≡◌, ◌≢◌, Bool, true, false, refl, sym, ap, ◌∙◌, inl, inr, ◌⊎◌}
+use Rattle.std.proofs.Common.{ℕ, ◌≡◌, ◌≢◌, Bool, true, false, nat_eq, refl, sym, ap, ◌∙◌, inl, inr, ◌⊎◌, eq-eqb, ne_eqb}
+use Rattle.std.proofs.lemmas.Bool.{cases_eq}
 use Rattle.regalloc2_names.specs.declared.OperandPos.{OperandPos}
 use Rattle.regalloc2_names.specs.declared.OperandPos.TheVariants.{Early, Late}
 use Rattle.regalloc2_names.specs.Register.{VirtualRegister, is_vreg}
 use Rattle.regalloc2_names.specs.Place.{Place, is_place}
+use Rattle.regalloc2_names.specs.PlaceBits.{IsPlaceBits, place_of_bits, bits_of_place, bits_of_place-place_of_bits}
 use Rattle.regalloc2_names.specs.Operand.{is_position}
 pub use Rattle.regalloc2_names.specs.Same.{is_register-true, is_register-same, is_vreg-true, is_vreg-same, is_place-true, is_place-same}
 
@@ -30,6 +32,14 @@ place_or_not false p q e = inr (is_place-false p q e)
 -- two places are equal or different
 pub cases_place : (p q : Place) → (p ≡ q) ⊎ (p ≢ q)
 cases_place p q = place_or_not (is_place p q) p q refl
+
+-- two places are equal exactly if their bits are
+pub is_place-by_bits : (a b : ℕ) (p q : Place) → IsPlaceBits a → IsPlaceBits b → place_of_bits a ≡ p → place_of_bits b ≡ q → nat_eq a b ≡ is_place p q
+is_place-by_bits a b p q ha hb ep eq = elim (cases_eq a b) [
+  | inl e ↦ eq-eqb a b e ∙ sym (is_place-along p q (sym ep ∙ ap place_of_bits e ∙ eq))
+  | inr ne ↦ ne_eqb a b ne ∙ sym (is_place-other p q (λ e. ne (sym (bits_of_place-place_of_bits a ha)
+      ∙ ap bits_of_place (ep ∙ e ∙ sym eq) ∙ bits_of_place-place_of_bits b hb)))
+]
 
 vreg_apart : (b : Bool) (v w : VirtualRegister) → is_vreg v w ≡ b → v ≢ w → b ≡ false
 vreg_apart true v w e h = absurd (h (is_vreg-true v w e))

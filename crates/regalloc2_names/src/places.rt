@@ -2,7 +2,7 @@
 
 ghost use Rattle.std.specs.Prelude.{None, Some, false, ◌≡◌, ℕ, ◌+◌, ◌%◌, ◌<◌, ◌≤◌, ◌↔◌, IsTrue};
 ghost use Rattle.regalloc2_names.specs.PlaceBits.{IsPlaceBits, bits_of_place, index_of_place, place_of_bits};
-ghost use Rattle.regalloc2_names.specs.Place.{NoPlace, InRegister, InSlot, invalid_slot, is_in_register, is_in_slot, is_memory, is_no_place, is_place};
+ghost use Rattle.regalloc2_names.specs.Place.{NoPlace, InRegister, InSlot, invalid_slot, is_in_register, is_in_slot, is_memory, is_no_place};
 ghost use Rattle.regalloc2_names.specs.Place.{kind_of_place, register_of_place, slot_limit, slot_of_place};
 
 use super::{AllocationKind, PReg, PRegSet};
@@ -88,7 +88,7 @@ impl SpillSlot {
 ///
 /// Packed into 32 bits: the register's or the slot's index in the lower `INDEX_BITS`, the form from
 /// `KIND_SHIFT` on. The bit between them is 0.
-#[derive(Clone, Copy, PartialEq, Eq, PartialOrd, Ord, Hash)]
+#[derive(Clone, Copy, PartialOrd, Ord, Hash)]
 pub struct Allocation {
     bits: u32,
 }
@@ -177,14 +177,6 @@ impl Allocation {
         self.kind() != AllocationKind::None
     }
 
-    /// Returns `true` if the place is `other`.
-    pub fn is_same(self, other: Allocation) -> bool
-        ensures test { result ≡ is_place self other }
-        ensures same { IsTrue result ↔ (self ≡ other) }
-    {
-        self == other
-    }
-
     /// Returns `true` if the place is a register.
     pub fn is_reg(self) -> bool
         ensures { result ≡ is_in_register self }
@@ -271,6 +263,34 @@ impl Allocation {
     {
         Allocation { bits }
     }
+}
+
+impl PartialEq for Allocation {
+    ghost use Rattle.std.specs.Prelude.{◌≡◌, ◌↔◌, ◌==◌, IsTrue};
+    ghost use Rattle.std.proofs.Common.{rules};
+    ghost use Rattle.std.specs.Cmp.Rules.{comparing};
+    ghost use Rattle.regalloc2_names.specs.Place.{is_place};
+    ghost use Rattle.regalloc2_names.specs.PlaceBits.{bits_of_place};
+
+    ghost eq = { λ a b. bits_of_place a == bits_of_place b };
+
+    ghost laws = { Prim.search (comparing, rules) };
+
+    /// Returns `true` if the place is `other`.
+    fn eq(&self, other: &Allocation) -> bool
+        ensures bits { result ≡ (bits_of_place self.now == bits_of_place other.now) }
+        ensures test { result ≡ is_place self.now other.now }
+        ensures same { IsTrue result ↔ (self.now ≡ other.now) }
+    {
+        self.bits == other.bits
+    }
+}
+
+impl Eq for Allocation {
+    ghost use Rattle.std.proofs.Common.{rules};
+    ghost use Rattle.std.specs.Cmp.Rules.{comparing};
+
+    ghost laws = { Prim.search (comparing, rules) };
 }
 
 /// No place, which fills the unused entries of short lists of places.

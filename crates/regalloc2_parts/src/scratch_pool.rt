@@ -76,11 +76,11 @@ impl ScratchPair {
     {
         match (self.first, self.second) {
             (None, _) => 0,
-            (Some(first), None) => { if first.is_same(next) { 0 } else { 1 } }
+            (Some(first), None) => { if first == next { 0 } else { 1 } }
             (Some(first), Some(second)) => {
-                if first.is_same(next) {
+                if first == next {
                     0
-                } else if second.is_same(next) {
+                } else if second == next {
                     1
                 } else {
                     2
@@ -117,6 +117,7 @@ where
 {
     match resolver.compute_by_ref(moves) {
         Ok(moves) => {
+            // The closure owns the slots: the slot that it would hand out next says how many it did.
             let next = (resolver.get_stackslot)();
             Ok(OrderedMoves {
                 moves,

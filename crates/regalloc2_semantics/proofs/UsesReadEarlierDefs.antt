@@ -34,9 +34,9 @@ inside f ok (ToSuccessor k ∷ ws) p = let t = ok.targets (end_of f ws).block k 
 not_here : (f : FunctionValue) → DefinedOnce f → (i : ℕ) (v : VirtualRegister) → i < length f.insts → IsDefinedUpTo f v (before i) →
     Undefined (inst_at f i).operands v
 not_here f once i v within (inl h) = no_definition f once h.0 i v (names_element v (block_at f h.0).params h.3)
-not_here f once i v within (inr h) = no_second f once i h.0 v (λ e. absurd (let less = h.3 in omega (arith, less, e))) within
-    (has_operands f h.0 h.1 h.4) h.1 h.2 h.4 h.5
-    h.6
+not_here f once i v within (inr h) = no_second f once i h.0 v (λ e. absurd (let less = h.2 in omega (arith, less, e))) within
+    (has_operands f h.0 h.1 h.3) h.1 no_operand h.3 h.4
+    h.5
 
 read_is : (q : OperandPos) (x y : Option Stamp) → y ≡ x → read_of q x y ≡ x
 read_is Early x y e = refl
@@ -52,7 +52,7 @@ well_formed_read_earlier earlier env f ok ws p written k lt reads =
     let o : OperandValue = op_at (last_inst f ws).operands k in
     let i : ℕ = (end_of f ws).inst in
     let at = inside f (well_formed_are_sound env f ok) ws p in
-    let by : IsDefinedUpTo f o.vreg (before i) = (ok.uses_defined (end_of f ws).block at.block).0 i at.first at.end k no_operand lt reads in
+    let by : IsDefinedUpTo f o.vreg (before i) = (ok.uses_defined (end_of f ws).block at.block).0 i at.first at.end k lt reads in
     let gone : Undefined (inst_at f i).operands o.vreg = not_here f ok.defined_once i o.vreg (has_operands f i k lt) by in
     let same : source_after f ws o.vreg ≡ source_before f ws o.vreg = after_defs-other (last_inst f ws).operands (length ws) 0 (source_before f ws) o.vreg
     gone in

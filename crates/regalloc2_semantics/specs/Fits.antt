@@ -1,13 +1,12 @@
 -- Instructions that fit (`Fits`): `TooManyLiveRegs` is returned only if an instruction does not fit.
 -- When an instruction fits is this project's own.
 use Rattle.std.specs.Prelude.{ℕ, nat_lt, is_none, ◌≡◌, ◌+◌, ◌<◌, ◌≤◌, ◌⊎◌, Bool, true, false, ◌&&◌, ◌||◌, not, nat_eq, if◌then◌else◌, count_by, length}
-use Rattle.std.specs.Prelude.{slice_index_or}
 use Rattle.regalloc2_names.specs.declared.OperandConstraint.{OperandConstraint}
 use Rattle.regalloc2_names.specs.declared.OperandConstraint.TheVariants.{Any, Reg, Stack, FixedReg, Reuse, Limit}
 use Rattle.regalloc2_names.specs.declared.RegClass.{RegClass}
 use Rattle.regalloc2_names.specs.Register.{Register, class_code, has_register}
 use Rattle.regalloc2_names.specs.Operand.{OperandValue, is_def, is_late, is_fixed_nonallocatable}
-use Rattle.regalloc2_function.specs.FunctionValue.{FunctionValue, InstValue, EachOperand}
+use Rattle.regalloc2_function.specs.FunctionValue.{FunctionValue, InstValue, EachOperand, op_at}
 use Rattle.regalloc2_function.specs.Machine.{MachineValue, is_allocatable, scratch_of, IsFixedStackSlot, count_below, allocatable_count}
 use Rattle.regalloc2_function.specs.WellFormed.{IsReused}
 use Rattle.regalloc2_function.specs.Fitting.{NamesClass}
@@ -18,7 +17,7 @@ TakesEarly o = (is_def o.kind && is_late o.position) ≡ true → (n : ℕ) × (
 
 -- operand `k` takes the late position of its instruction; an early use does so only if it is reused
 abbrev pub TakesLate : InstValue → ℕ → OperandValue → Type 0
-TakesLate i k o = (not (is_def o.kind) && not (is_late o.position)) ≡ true → IsReused i k
+TakesLate i k o = (not (is_def o.kind) && not (is_late o.position)) ≡ true → IsReused i.operands k
 
 -- the constraint `Reg`: any register
 abbrev pub is_under_reg : OperandConstraint → Bool
@@ -54,9 +53,9 @@ need_of env class i =
 pub record Fits (f : FunctionValue) (env : MachineValue) (i : InstValue) : Type 0 where
   pub fixed : EachOperand i (λ k o. is_fixed_nonallocatable o ≡ false → (r : Register) → o.constraint ≡ FixedReg r → (is_allocatable env r.class r ≡ true)
       ⊎ IsFixedStackSlot env r)
-  pub apart : (j k : ℕ) (d e : OperandValue) (r : Register) → j < k → k < length i.operands →
-      let a : OperandValue = slice_index_or i.operands j d in
-      let b : OperandValue = slice_index_or i.operands k e in
+  pub apart : (j k : ℕ) (r : Register) → j < k → k < length i.operands →
+      let a : OperandValue = op_at i.operands j in
+      let b : OperandValue = op_at i.operands k in
       is_fixed_nonallocatable a ≡ false → is_fixed_nonallocatable b ≡ false → a.constraint ≡ FixedReg r → b.constraint ≡ FixedReg r →
       (TakesEarly a × TakesEarly b → ⊥) × (TakesLate i j a × TakesLate i k b → ⊥)
   pub enough : (c : RegClass) → NamesClass f c → need_of env c i

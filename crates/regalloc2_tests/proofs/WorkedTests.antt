@@ -88,7 +88,7 @@ fixed_to_p0i n k q = record { vreg = v n; constraint = FixedReg p0i; kind = k; p
 
 -- two early uses that are fixed to one register don't fit
 two_uses_fixed : Fits read_once two_registers (op (fixed_to_p0i 0 Use Early ∷ fixed_to_p0i 1 Use Early ∷ [])) → ⊥
-two_uses_fixed fits = (fits.apart 0 1 (use_reg 0) (use_reg 0) p0i (omega arith) (omega arith) refl refl refl refl).0 (early 0, early 1)
+two_uses_fixed fits = (fits.apart 0 1 p0i (omega arith) (omega arith) refl refl refl refl).0 (early 0, early 1)
   where
     early : (n : ℕ) → TakesEarly (fixed_to_p0i n Use Early)
     early n e = absurd (let no : false ≡ true = e in cc)
@@ -123,24 +123,24 @@ fixed_in_turn = record { fixed = fixed; apart = apart; enough = enough }
 
     fixed : EachOperand both_fixed (λ k o. is_fixed_nonallocatable o ≡ false → (r : Register) → o.constraint ≡ FixedReg r →
         (is_allocatable two_registers r.class r ≡ true) ⊎ IsFixedStackSlot two_registers r)
-    fixed zero d less plain r e = allocatable r e
-    fixed (suc zero) d less plain r e = allocatable r e
-    fixed (suc (suc k)) d less plain r e = absurd (omega (arith, less))
+    fixed zero less plain r e = allocatable r e
+    fixed (suc zero) less plain r e = allocatable r e
+    fixed (suc (suc k)) less plain r e = absurd (omega (arith, less))
 
-    unreused : (k : ℕ) → IsReused both_fixed k → ⊥
-    unreused k (zero, d, less, e) = let no : FixedReg p0i ≡ Reuse k = e in cc
-    unreused k (suc zero, d, less, e) = let no : FixedReg p0i ≡ Reuse k = e in cc
-    unreused k (suc (suc j), d, less, e) = omega (arith, less)
+    unreused : (k : ℕ) → IsReused both_fixed.operands k → ⊥
+    unreused k (zero, less, e) = let no : FixedReg p0i ≡ Reuse k = e in cc
+    unreused k (suc zero, less, e) = let no : FixedReg p0i ≡ Reuse k = e in cc
+    unreused k (suc (suc j), less, e) = omega (arith, less)
 
-    apart : (j k : ℕ) (d e : OperandValue) (r : Register) → j < k → k < 2 →
-        let a : OperandValue = slice_index_or both_fixed.operands j d in
-        let b : OperandValue = slice_index_or both_fixed.operands k e in
+    apart : (j k : ℕ) (r : Register) → j < k → k < 2 →
+        let a : OperandValue = op_at both_fixed.operands j in
+        let b : OperandValue = op_at both_fixed.operands k in
         is_fixed_nonallocatable a ≡ false → is_fixed_nonallocatable b ≡ false → a.constraint ≡ FixedReg r → b.constraint ≡ FixedReg r →
         (TakesEarly a × TakesEarly b → ⊥) × (TakesLate both_fixed j a × TakesLate both_fixed k b → ⊥)
-    apart zero zero d e r less within a b one two = absurd (omega (arith, less))
-    apart zero (suc zero) d e r less within a b one two = ((λ h. let reuse = h.0 refl in let no : FixedReg p0i ≡ Reuse reuse.0 = reuse.1 in cc), (λ h. unreused 1 (h.1 refl)))
-    apart zero (suc (suc k)) d e r less within a b one two = absurd (omega (arith, within))
-    apart (suc j) k d e r less within a b one two = absurd (omega (arith, less, within))
+    apart zero zero r less within a b one two = absurd (omega (arith, less))
+    apart zero (suc zero) r less within a b one two = ((λ h. let reuse = h.0 refl in let no : FixedReg p0i ≡ Reuse reuse.0 = reuse.1 in cc), (λ h. unreused 1 (h.1 refl)))
+    apart zero (suc (suc k)) r less within a b one two = absurd (omega (arith, within))
+    apart (suc j) k r less within a b one two = absurd (omega (arith, less, within))
 
     enough : (c : RegClass) → NamesClass read_once c → need_of two_registers c both_fixed + spare_of two_registers c ≤ allocatable_count two_registers c
     enough Int named =

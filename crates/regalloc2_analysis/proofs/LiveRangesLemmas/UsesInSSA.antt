@@ -148,7 +148,7 @@ module _ (f : FunctionValue) (ssa : IsSSA f) where
   -- what is defined by a point is so by a later one
   later_point : (v : VirtualRegister) (p q : ℕ) → p ≤ q → IsDefinedUpTo f v p → IsDefinedUpTo f v q
   later_point v p q le (inl h) = inl (h.0, h.1, omega (arith, le, h.2), h.3)
-  later_point v p q le (inr h) = inr (h.0, h.1, h.2, omega (arith, le, h.3), h.4, h.5, h.6)
+  later_point v p q le (inr h) = inr (h.0, h.1, omega (arith, le, h.2), h.3, h.4, h.5)
 
   -- a vreg that is used is defined by the point after the use
   used_defined : (v : VirtualRegister) (j : ℕ) → UsesAt f v j → IsDefinedUpTo f v (after j)
@@ -179,13 +179,7 @@ module _ (f : FunctionValue) (ssa : IsSSA f) where
           subst (λ (c : ℕ). (block_at f c).range.first ≤ j) (sym same.0) (let first = p.2 in omega (arith, first))
       by_case (inr o) =
           let used : j < length f.insts = inside v j u in
-          let at : op_at (inst_at f o.0).operands o.1 ≡ slice_index_or (inst_at f o.0).operands o.1 o.2 =
-          get_or_default (inst_at f o.0).operands o.1 no_operand o.2 o.4 in
-          let d : DefinesAt f v o.0 = (
-            o.1,
-            (omega (arith, o.3, used), o.4, ap (λ (x : OperandValue). x.vreg) at ∙ o.6),
-            ap (λ (x : OperandValue). is_def x.kind) at ∙ o.5,
-          ) in
+          let d : DefinesAt f v o.0 = (o.1, (omega (arith, o.2, used), o.3, o.5), o.4) in
           absurd (not_both f ssa.once v.number o.0 o.1 b h.0 (IsDefOperand-from_DefinesAt f v o.0 d) (takes_number f v b lt h))
         where
           inside : (v : VirtualRegister) (j : ℕ) → UsesAt f v j → j < length f.insts

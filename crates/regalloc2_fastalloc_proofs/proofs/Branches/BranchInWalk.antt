@@ -240,7 +240,7 @@ module _ (env : MachineValue) (f : FunctionValue) (limited : IsLimited f) (ok : 
               | inl r ↦ (
                   let at : left_at f placesf b k ≡ InRegister r.0 = (placed b lb branch).fixed k r.0 lk def r.1 in
                   let free : has_register (inst_at f last).clobbers r.0 ≡ false = All-get_or FixedAvoidClobbers f.insts last no_inst within ok.fixed k
-                  no_operand lk r.0 r.1 (inl (kind_is (op_at (inst_at f last).operands k).kind def)) in
+                  lk r.0 r.1 (inl (kind_is (op_at (inst_at f last).operands k).kind def)) in
                   ap (is_clobbered (inst_at f last).clobbers) at ∙ free)
               | inr slot ↦ (let s = (placed b lb branch).slotted k lk def slot in ap (is_clobbered (inst_at f last).clobbers) s.1)
             ]

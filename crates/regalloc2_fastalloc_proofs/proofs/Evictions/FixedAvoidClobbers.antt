@@ -19,7 +19,7 @@ late_kind Use Early h = absurd cc
 
 -- in a well-formed instruction no register that is reserved at the late position is a clobber
 pub avoids : (i : InstValue) → FixedAvoidClobbers i → AvoidClobbers i.operands i.clobbers
-avoids i h k r p lt (own able fixed at) late = h k no_operand lt r fixed
+avoids i h k r p lt (own able fixed at) late = h k lt r fixed
     (⊎_elim (λ e. inl e) (λ e. inr (inl e)) (late_kind (op_at i.operands k).kind (op_at i.operands k).position
     (ap (λ (x : Positions). x.late) (sym at) ∙ late)))
-avoids i h k r p lt (named n reuse within fixed at) late = h n no_operand within r fixed (inr (inr (k, no_operand, lt, reuse)))
+avoids i h k r p lt (named n reuse within fixed at) late = h n within r fixed (inr (inr (k, lt, reuse)))

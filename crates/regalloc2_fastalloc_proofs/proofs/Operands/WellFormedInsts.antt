@@ -28,14 +28,11 @@ module _ (env : MachineValue) (f : FunctionValue) (limited : IsLimited f) (ok : 
         (record { inst = lt; operand = less; definition = def; number = refl }) in
         let ne : nat_eq o.vreg.number 1073741823 ≡ false = ne_eqb o.vreg.number 1073741823 (λ e. omega (arith, small, limited.vregs, e)) in
         rw ne (and_right (is_fixed o.constraint) false refl);
-    late_reuse = λ d m less e. let r = reuses.definitions d no_operand less m e in (ap is_def r.0, ap is_late r.1);
-    named = λ d m less e.
-        let r = reuses.targets d no_operand less m no_operand e in
-        (r.0, ap is_def r.1.0, ap is_late r.1.1, r.1.2);
+    late_reuse = λ d m less e. let r = reuses.each d less m e in (ap is_def r.0, ap is_late r.1);
+    named = λ d m less e. let r = reuses.each d less m e in (r.2, ap is_def r.3.is_use, ap is_late r.3.is_early, r.3.reads);
     named_as = λ d m less e.
-        let r = reuses.targets d no_operand less m no_operand e in
-        reused_constraint env (op_at (inst_at f i).operands m).vreg.class (op_at (inst_at f i).operands m).constraint r.1.4;
-    apart = λ d e m ld le a b. reuses.apart d e m no_operand no_operand ld le a b;
+        reused_constraint env (op_at (inst_at f i).operands d).vreg.class (op_at (inst_at f i).operands m).constraint (reuses.each d less m e).3.may_be;
+    apart = reuses.apart;
   }
 
   -- in a well-formed function each instruction's operands name vregs that are defined somewhere

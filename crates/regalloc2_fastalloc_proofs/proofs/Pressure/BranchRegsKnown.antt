@@ -44,7 +44,7 @@ module _ (env : MachineValue) (f : FunctionValue) (Known : VirtualRegister → T
     | inl regs ↦ inl (λ e r h. (let same : g ≡ r = some_same g r (sym is ∙ h) in subst (IsOfMachine env) same (inl regs)))
     | inr no_reg ↦ elim (cases_Bool (has_register old.fixed_stack g)) [
       | inl stack ↦ inl (λ e r h. (let same : g ≡ r = some_same g r (sym is ∙ h) in subst (IsOfMachine env) same (inr (machine.fixed_stack g stack))))
-      | inr no_stack ↦ inr (λ fits. elim (fits.fixed j no_operand lt (sound_ops.allocated j lt def) g (constraint_fixed (op_at (inst_at f i).operands j) def g is)) [
+      | inr no_stack ↦ inr (λ fits. elim (fits.fixed j lt (sound_ops.allocated j lt def) g (constraint_fixed (op_at (inst_at f i).operands j) def g is)) [
         | inl there ↦ (let z : true ≡ false = sym there ∙ no_reg in cc)
         | inr slot ↦ (let z : true ≡ false = sym (machine.memory g slot) ∙ no_stack in cc)
       ])

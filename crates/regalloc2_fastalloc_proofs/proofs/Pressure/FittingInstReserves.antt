@@ -68,12 +68,12 @@ module _ (f : FunctionValue) (env : MachineValue) (inst : InstValue) (fits : Fit
     allocated = reads_allocated (op_at ops n) (sound_ops.named k n lt reuses).2;
     is_fixed = is;
     early = λ e. (let x : false ≡ true = ap (λ (q : Positions). q.early) (sym at) ∙ e in absurd cc);
-    late = λ e x. (k, no_operand, lt, reuses);
+    late = λ e x. (k, lt, reuses);
   }
 
   -- each claimed register is the machine's
   claim_known : (m : ℕ) (r : Register) (p : Positions) → ClaimAt m r p → (is_allocatable env r.class r ≡ true) ⊎ IsFixedStackSlot env r
-  claim_known m r p c = fits.fixed m no_operand c.within c.allocated r c.is_fixed
+  claim_known m r p c = fits.fixed m c.within c.allocated r c.is_fixed
 
   known : (k : ℕ) (r : Register) (p : Positions) → k < length ops → NeedsFixedReg ops k r p → (is_allocatable env r.class r ≡ true) ⊎ IsFixedStackSlot env r
   known k r p lt (own allocated is at) = claim_known k r p (own_at k r p lt allocated is at)
@@ -82,7 +82,7 @@ module _ (f : FunctionValue) (env : MachineValue) (inst : InstValue) (fits : Fit
   -- no two claims share a register at a position
   apart_in_order : (m n : ℕ) (r : Register) (p q : Positions) → m < n → ClaimAt m r p → ClaimAt n r q → ((p.early ≡ true) × (q.early ≡ true))
       ⊎ ((p.late ≡ true) × (q.late ≡ true)) → ⊥
-  apart_in_order m n r p q less a b both = (let x = fits.apart m n no_operand no_operand r less b.within a.allocated b.allocated a.is_fixed b.is_fixed in
+  apart_in_order m n r p q less a b both = (let x = fits.apart m n r less b.within a.allocated b.allocated a.is_fixed b.is_fixed in
       elim both [
         | inl e ↦ x.0 (a.early e.0, b.early e.1)
         | inr l ↦ x.1 (a.late l.0, b.late l.1)

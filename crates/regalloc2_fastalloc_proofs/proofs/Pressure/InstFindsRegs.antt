@@ -83,7 +83,7 @@ module _ (fitting : FittingInst) where
   Named = NamesClass f
 
   fixed : FixedAreKnown env ops
-  fixed k r lt allocated is = fits.fixed k no_operand lt allocated r is
+  fixed k r lt allocated is = fits.fixed k lt allocated r is
 
   abbrev operands : NamedOperands
   operands = named_operands Named env apart Known named ops sound_ops fixed i (ends_block inst)

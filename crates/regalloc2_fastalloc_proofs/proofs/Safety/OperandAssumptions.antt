@@ -48,10 +48,9 @@ sound_ops_of env Known inst knows once allocated reuses constraint unlimited =
       constraint = constraint;
       allocated = allocated;
       unlimited = unlimited;
-      late_reuse = λ k n less e. (let r = reuses.definitions k no_operand less n e in (ap is_def r.0, ap is_late r.1));
-      named = λ k n less e. (let r = reuses.targets k no_operand less n no_operand e in (r.0, ap is_late r.1.1, r.1.2, r.1.3));
-      named_as = λ k n less e. (let r = reuses.targets k no_operand less n no_operand e in
-          reused_constraint env (op_at ops n).vreg.class (op_at ops n).constraint r.1.4);
-      apart = λ j k n lj lk a b. reuses.apart j k n no_operand no_operand lj lk a b;
+      late_reuse = λ k n less e. (let r = reuses.each k less n e in (ap is_def r.0, ap is_late r.1));
+      named = λ k n less e. (let r = reuses.each k less n e in (r.2, ap is_late r.3.is_early, r.3.reads, r.3.same_class));
+      named_as = λ k n less e. reused_constraint env (op_at ops k).vreg.class (op_at ops n).constraint (reuses.each k less n e).3.may_be;
+      apart = reuses.apart;
       unread = λ j k lj lk def reads e. once.unread j k (lj, inl def) (lk, inr reads) def (reads_use (op_at ops k) reads) (sym e);
     }

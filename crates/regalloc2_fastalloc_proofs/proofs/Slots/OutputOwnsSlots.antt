@@ -80,8 +80,7 @@ module _ (f : FunctionValue) (env : MachineValue) (Known : VirtualRegister → T
       ((i : ℕ) (c : RegClass) → Met i c → (i < length f.insts) × ((inst_at f i).is_branch ≡ true)) → OwnsSlots Known f t.slots o
   made_slots_owned sizes by_last branches =
       slots_owned Known f t.slots h.made h.laid o m.count sizes (by_last ∙ sym h.by_last)
-      (λ i lt k d less n at. owner_known f env Known May t o m owned sound_ops _ n i k
-      (lt, less, ap (λ x. x.vreg) (get_or_default (inst_at f i).operands k no_operand d less)) at) places_own moves_keep
+      (λ i lt k less n at. owner_known f env Known May t o m owned sound_ops _ n i k (lt, less, refl) at) places_own moves_keep
       locations_own (λ c there i class index e. let met = All-contains (IsOfMet Met) h.made c h.met there i class index e in (branches i class met.0, met.1))
 
 -- on a machine that fits, the registers reserved for moves are of their classes

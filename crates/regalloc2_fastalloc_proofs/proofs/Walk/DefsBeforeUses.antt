@@ -126,24 +126,22 @@ module _ (f : FunctionValue) (once : DefinedOnce f) (follow : BlocksFollow f) (u
       (record { block = p.1; param = p.3.1; number = ap (λ (w : VirtualRegister). w.number) is }) takes).0 in
       subst (λ c. before (block_at f c).range.first ≤ point) same p.2
   defined_behind point (inr o) =
-      let is : op_at (inst_at f o.0).operands o.1 ≡ slice_index_or (inst_at f o.0).operands o.1 o.2 =
-      get_or_default (inst_at f o.0).operands o.1 no_operand o.2 o.4 in
       let inside : o.0 < length f.insts = elim (cases_lt o.0 (length f.insts)) [
         | inl lt ↦ lt
         | inr past ↦ (let none : (inst_at f o.0).operands ≡ [] = ap (λ (x : InstValue). x.operands) (get_or_past f.insts o.0 no_inst past) in
-            let few : length (inst_at f o.0).operands ≡ 0 = ap length none in let some = o.4 in absurd (omega (arith, few, some)))
+            let few : length (inst_at f o.0).operands ≡ 0 = ap length none in let some = o.3 in absurd (omega (arith, few, some)))
       ] in
       absurd (not_both f once v.number o.0 o.1 b m (record {
         inst = inside;
-        operand = o.4;
-        definition = ap (λ (x : OperandValue). is_def x.kind) is ∙ o.5;
-        number = ap (λ (x : OperandValue). x.vreg.number) is ∙ ap (λ (w : VirtualRegister). w.number) o.6;
+        operand = o.3;
+        definition = o.4;
+        number = ap (λ (w : VirtualRegister). w.number) o.5;
       }) takes)
 
   -- a parameter is used in its block or in a later one
   pub param_before : b < length f.blocks → (c : ℕ) → c < length f.blocks → IsUsedIn f c v → b ≤ c
   param_before lb c lc (inl r) =
-      let by : IsDefinedUpTo f v (before r.0) = subst (λ w. IsDefinedUpTo f w (before r.0)) r.6 ((uses c lc).0 r.0 r.2 r.3 r.1 no_operand r.4 r.5) in
+      let by : IsDefinedUpTo f v (before r.0) = subst (λ w. IsDefinedUpTo f w (before r.0)) r.6 ((uses c lc).0 r.0 r.2 r.3 r.1 r.4 r.5) in
       let h = defined_behind (before r.0) by in
       let some = (follow b lb).0 in
       stands_later f follow b c (block_at f b).range.first r.0 lb lc (omega arith) some r.2 r.3 (omega (arith, h))

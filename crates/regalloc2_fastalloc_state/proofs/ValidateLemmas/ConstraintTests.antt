@@ -9,9 +9,9 @@ use Rattle.regalloc2_names.specs.declared.sets.PRegSet.{PRegSet}
 use Rattle.regalloc2_names.specs.Operand.{OperandValue}
 use Rattle.regalloc2_function.specs.FunctionValue.{InstValue, no_operand}
 use Rattle.regalloc2_function.specs.Machine.{MachineValue}
-use Rattle.regalloc2_function.specs.WellFormed.{FixedAvoidClobbers, MayBeReused, ReusesAreSound}
+use Rattle.regalloc2_function.specs.WellFormed.{AreReusesApart, AvoidsClobbers, IsReused, IsSoundReuse, ReusesAreSound}
 use Rattle.regalloc2_function.specs.FunctionValue.{op_at}
-use Rattle.regalloc2_fastalloc_state.specs.Validate.Constraints.{IsNoReuse, IsReusedOperand, IsReuseTarget, IsSoundReuse, AreReusesApart, AvoidsClobbers, OperandAvoidsClobbers}
+use Rattle.regalloc2_fastalloc_state.specs.Validate.Constraints.{IsNoReuse}
 use Rattle.std.proofs.lemmas.List.{get_or_default}
 
 same_index : (m n : ℕ) (c : OperandConstraint) → c ≡ Reuse m → c ≡ Reuse n → m ≡ n
@@ -59,7 +59,7 @@ named_more ops k m named lt is h n = (
 
 -- once all operands are seen, exactly the reused ones are marked
 pub all_named : (ops : List OperandValue) (k : ℕ) (named : List Bool) → k ≡ length ops → AreNamed ops k named → (n : ℕ) →
-    IsTrue (slice_index_or named n false) ↔ IsReusedOperand ops n
+    IsTrue (slice_index_or named n false) ↔ IsReused ops n
 unfolding AreNamed
 all_named ops k named e h n = (λ t. let x = (h n).0 t in (x.0, omega (arith, x.1, e), x.2), λ x. (h n).1 (x.0, omega (arith, x.1, e), x.2))
 
@@ -103,88 +103,39 @@ apart_more ops k m is none h i j n li lj a b = elim (cases_eq i k) [
   ]
 ]
 
--- an instruction's reuses
-pub reuses_valid : (env : MachineValue) (i : InstValue) → ((k : ℕ) → k < length i.operands → IsSoundReuse env i.operands (op_at i.operands k)) →
-    AreReusesApart i.operands (length i.operands) → ReusesAreSound env i
-reuses_valid env i each apart = record {
-  definitions = λ k d lt n e. let s = each k lt n (ap (λ (o : OperandValue). o.constraint) (get_or_default i.operands k no_operand d lt) ∙ e) in (
-    ap (λ (o : OperandValue). o.kind) (get_or_default i.operands k d no_operand lt) ∙ s.0,
-    ap (λ (o : OperandValue). o.position) (get_or_default i.operands k d no_operand lt) ∙ s.1,
-  );
-  targets = λ k d lt n e is.
-      let same = get_or_default i.operands k no_operand d lt in
-      let s = each k lt n (ap (λ (o : OperandValue). o.constraint) same ∙ is) in
-      let t : IsReuseTarget env (op_at i.operands k).vreg.class (slice_index_or i.operands n e) = subst (IsReuseTarget env (op_at i.operands k).vreg.class)
-      (get_or_default i.operands n no_operand e s.2) s.3 in
-      let class = ap (λ (o : OperandValue). o.vreg.class) same in (
-        s.2,
-        (
-          t.is_use,
-          t.is_early,
-          t.reads,
-          t.same_class ∙ class,
-          subst (λ c. MayBeReused env c (slice_index_or i.operands n e).constraint) (sym t.same_class)
-              t.may_be,
-        ),
-      );
-  apart = λ j k n d e lj lk a b. apart j k n lj lk (ap (λ (o : OperandValue). o.constraint) (get_or_default i.operands j no_operand d lj) ∙ a)
-      (ap (λ (o : OperandValue). o.constraint) (get_or_default i.operands k no_operand e lk) ∙ b);
-}
-
 -- where no operand is a reuse, an instruction's reuses are valid
 pub no_reuses_valid : (env : MachineValue) (i : InstValue) (ops : List OperandValue) → ops ≡ i.operands →
     ((k : ℕ) → k < length ops → IsNoReuse (op_at ops k)) → ReusesAreSound env i
 no_reuses_valid env i ops e none =
     let each : (k : ℕ) → k < length i.operands → IsNoReuse (op_at i.operands k) =
     subst (λ os. (k : ℕ) → k < length os → IsNoReuse (op_at os k)) e none in
-    reuses_valid env i (λ k lt n is. absurd (each k lt n is)) (λ j k n lj lk a b. absurd (each j lj n a))
+    record { each = λ k lt n is. absurd (each k lt n is); apart = λ j k n lj lk a b. absurd (each j lj n a) }
 
--- if an instruction's reuses are valid as a whole, each of them is
-pub valid_reuses : (env : MachineValue) (i : InstValue) → ReusesAreSound env i → (k : ℕ) → k < length i.operands →
-    IsSoundReuse env i.operands (op_at i.operands k)
-valid_reuses env i s k lt n is =
-    let d = s.definitions k no_operand lt n is in
-    let t = s.targets k no_operand lt n no_operand is in (
-      d.0,
-      d.1,
-      t.0,
-      record {
-        is_use = t.1.0;
-        is_early = t.1.1;
-        reads = t.1.2;
-        same_class = t.1.3;
-        may_be = subst (λ c. MayBeReused env c (op_at i.operands n).constraint) t.1.3 t.1.4;
-      },
-    )
-
--- if an instruction's reuses are valid as a whole, no two of them name one operand
-pub apart_reuses : (env : MachineValue) (i : InstValue) → ReusesAreSound env i → AreReusesApart i.operands (length i.operands)
-apart_reuses env i s j k n lj lk a b = s.apart j k n no_operand no_operand lj lk a b
-
--- by the test whether the operand is reused
-pub clear_by : (clobbers : PRegSet) (ops : List OperandValue) (k : ℕ) (b : Bool) → (IsTrue b → IsReusedOperand ops k) → (IsReusedOperand ops k → IsTrue b) →
-    AvoidsClobbers clobbers (op_at ops k) b ↔ OperandAvoidsClobbers clobbers ops k
-clear_by clobbers ops k b to from = (
-  λ h r is why. h r is (elim why [ inl a ↦ inl a | inr (inl a) ↦ inr (inl a) | inr (inr a) ↦ inr (inr (from a)) ]),
-  λ h r is why. h r is (elim why [ inl a ↦ inl a | inr (inl a) ↦ inr (inl a) | inr (inr a) ↦ inr (inr (to a)) ]),
+-- whether an operand avoids the clobbers rests on whether it is reused, however that is said
+clear_by : (clobbers : PRegSet) (o : OperandValue) (P Q : Type 0) → P ↔ Q → AvoidsClobbers clobbers o P ↔ AvoidsClobbers clobbers o Q
+clear_by clobbers o P Q same = (
+  λ h r is why. h r is (elim why [ inl a ↦ inl a | inr (inl a) ↦ inr (inl a) | inr (inr a) ↦ inr (inr (same.1 a)) ]),
+  λ h r is why. h r is (elim why [ inl a ↦ inl a | inr (inl a) ↦ inr (inl a) | inr (inr a) ↦ inr (inr (same.0 a)) ]),
 )
 
 -- testing an operand against clobbers by its mark, right for whether it is reused, is testing it by the other operands
 pub clear_read : (clobbers : PRegSet) (ops : List OperandValue) (k : ℕ) (o : OperandValue) (named : List Bool) (b : Bool) → o ≡ op_at ops k →
     b ≡ slice_index_or named k false
-    → (IsTrue (slice_index_or named k false) ↔ IsReusedOperand ops k) → AvoidsClobbers clobbers o b ↔ OperandAvoidsClobbers clobbers ops k
+    → (IsTrue (slice_index_or named k false) ↔ IsReused ops k) → AvoidsClobbers clobbers o (IsTrue b) ↔ AvoidsClobbers clobbers (op_at ops k) (IsReused ops k)
 clear_read clobbers ops k o named b is same n =
-    subst (λ (x : OperandValue). AvoidsClobbers clobbers x b ↔ OperandAvoidsClobbers clobbers ops k) (sym is)
-    (clear_by clobbers ops k b (λ t. n.0 (sym same ∙ t)) (λ r. same ∙ n.1 r))
+    subst (λ (x : OperandValue). AvoidsClobbers clobbers x (IsTrue b) ↔ AvoidsClobbers clobbers (op_at ops k) (IsReused ops k)) (sym is)
+    (clear_by clobbers (op_at ops k) (IsTrue b) (IsReused ops k) (λ t. n.0 (sym same ∙ t), λ r. same ∙ n.1 r))
 
 -- an instruction's reuses are valid where each is and they are apart
 pub sound_reuses : (env : MachineValue) (i : InstValue) (ops : List OperandValue) (b : Bool) → ops ≡ i.operands →
     ((k : ℕ) → k < length ops → IsSoundReuse env ops (op_at ops k))
     → (IsTrue b ↔ AreReusesApart ops (length ops)) → IsTrue b ↔ ReusesAreSound env i
 sound_reuses env i ops b e each apart = (
-  λ t. reuses_valid env i (subst (λ os. (k : ℕ) → k < length os → IsSoundReuse env os (op_at os k)) e each)
-      (subst (λ os. AreReusesApart os (length os)) e (apart.0 t)),
-  λ s. apart.1 (subst (λ os. AreReusesApart os (length os)) (sym e) (apart_reuses env i s)),
+  λ t. record {
+    each = subst (λ os. (k : ℕ) → k < length os → IsSoundReuse env os (op_at os k)) e each;
+    apart = subst (λ os. AreReusesApart os (length os)) e (apart.0 t);
+  },
+  λ s. apart.1 (subst (λ os. AreReusesApart os (length os)) (sym e) s.apart),
 )
 
 -- where the test of single reuses fails, its result decides the instruction's reuses as a whole: they are not valid
@@ -193,22 +144,5 @@ pub valid_else : (env : MachineValue) (i : InstValue) (ops : List OperandValue) 
     → IsTrue b ↔ ReusesAreSound env i
 valid_else env i ops b e isnt each = (
   λ t. absurd (let f : false ≡ true = sym isnt ∙ t in cc),
-  λ s. each.1 (subst (λ os. (k : ℕ) → k < length os → IsSoundReuse env os (op_at os k)) (sym e) (valid_reuses env i s)),
-)
-
--- each operand avoids the clobbers, whatever is read past the end
-pub clear_each : (i : InstValue) → ((k : ℕ) → k < length i.operands → OperandAvoidsClobbers i.clobbers i.operands k) ↔ FixedAvoidClobbers i
-clear_each i = (
-  λ h k d lt r is why.
-      let at : op_at i.operands k ≡ slice_index_or i.operands k d = get_or_default i.operands k no_operand d lt in
-      h k lt r (ap (λ (o : OperandValue). o.constraint) at ∙ is) (elim why [
-        | inl def ↦ inl (ap (λ (o : OperandValue). o.kind) at ∙ def)
-        | inr (inl late) ↦ inr (inl (ap (λ (o : OperandValue). o.position) at ∙ late))
-        | inr (inr (j, e, less, reuse)) ↦ inr (inr (j, less, ap (λ (o : OperandValue). o.constraint) (get_or_default i.operands j no_operand e less) ∙ reuse))
-      ]),
-  λ h k lt r is why. h k no_operand lt r is (elim why [
-    | inl def ↦ inl def
-    | inr (inl late) ↦ inr (inl late)
-    | inr (inr (j, less, reuse)) ↦ inr (inr (j, no_operand, less, reuse))
-  ]),
+  λ s. each.1 (subst (λ os. (k : ℕ) → k < length os → IsSoundReuse env os (op_at os k)) (sym e) s.each),
 )

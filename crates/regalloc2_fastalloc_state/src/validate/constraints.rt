@@ -3,12 +3,12 @@
 ghost use Rattle.std.specs.Prelude.{ℕ, ◌≡◌, ◌<◌, ◌↔◌, All, length, true, false, IsTrue, IsFalse, IsOk, OnOk, IfSome, IfNone, IfErr, slice_index_or};
 ghost use Rattle.regalloc2_function.specs.FunctionValue.{inst_at, op_at};
 ghost use Rattle.regalloc2_function.specs.Views.{machine_of};
-ghost use Rattle.regalloc2_function.specs.WellFormed.{MayBeReused, ReusesAreSound, FixedAvoidClobbers, AreUnlimited, BranchDefinesInPlace};
+ghost use Rattle.regalloc2_function.specs.WellFormed.{AreReusesApart, AreUnlimited, AvoidsClobbers, BranchDefinesInPlace, FixedAvoidClobbers};
+ghost use Rattle.regalloc2_function.specs.WellFormed.{IsReuseTarget, IsReused, IsSoundReuse, MayBeReused, ReusesAreSound};
 ghost use Rattle.regalloc2_names.specs.Packing.{IsConstraintOf};
 ghost use Rattle.regalloc2_names.specs.Register.{Register, has_register};
 ghost use Rattle.regalloc2_fastalloc_state.specs.Validate.NoLimits.{IsTakenOperand, AreTaken};
-ghost use Rattle.regalloc2_fastalloc_state.specs.Validate.Constraints.{IsNoReuse, IsReusedOperand, IsReuseTarget, IsSoundReuse, AreReusesApart};
-ghost use Rattle.regalloc2_fastalloc_state.specs.Validate.Constraints.{AvoidsClobbers, DefinesInPlace, IsFixedFault, IsUnlimited, OperandAvoidsClobbers, IsUnsupported};
+ghost use Rattle.regalloc2_fastalloc_state.specs.Validate.Constraints.{DefinesInPlace, IsFixedFault, IsNoReuse, IsUnlimited, IsUnsupported};
 ghost use Rattle.regalloc2_function.specs.Reasons.{IsFirst};
 
 use regalloc2_function::{Function, MachineEnv};
@@ -105,7 +105,7 @@ fn has_no_reuse(operands: &[Operand]) -> bool
 
 /// For each of `operands`, by index, whether a reuse names it.
 fn named_by_reuses(operands: &[Operand]) -> [bool; Operand::REUSE_LIMIT]
-    ensures { (k : ℕ) → IsTrue (slice_index_or result k false) ↔ IsReusedOperand operands.now k }
+    ensures { (k : ℕ) → IsTrue (slice_index_or result k false) ↔ IsReused operands.now k }
 {
     let mut named = [false; Operand::REUSE_LIMIT];
     for k in 0..operands.len() {
@@ -159,7 +159,7 @@ fn passes_reuse_test<F: Function, B: Allocator>(f: &F, env: &MachineEnv<B>, inst
 /// Whether `operand` is fixed to none of `clobbers`, if it is a definition, a late use, or reused:
 /// `is_reused` is true.
 fn avoids_clobbers(clobbers: PRegSet, operand: Operand, is_reused: bool) -> bool
-    ensures { IsTrue result ↔ AvoidsClobbers clobbers operand is_reused }
+    ensures { IsTrue result ↔ AvoidsClobbers clobbers operand (IsTrue is_reused) }
 {
     let OperandConstraint::FixedReg(preg) = operand.constraint() else {
         return true;
@@ -173,7 +173,7 @@ fn avoids_clobbers(clobbers: PRegSet, operand: Operand, is_reused: bool) -> bool
 
 /// Whether no definition, late use or reused operand of `operands` is fixed to one of `clobbers`.
 fn all_avoid_clobbers(operands: &[Operand], clobbers: PRegSet) -> bool
-    ensures { IsTrue result ↔ ((k : ℕ) → k < length operands.now → OperandAvoidsClobbers clobbers operands.now k) }
+    ensures { IsTrue result ↔ ((k : ℕ) → k < length operands.now → AvoidsClobbers clobbers (op_at operands.now k) (IsReused operands.now k)) }
 {
     let named = named_by_reuses(operands);
     for k in 0..operands.len() {

@@ -38,7 +38,7 @@ fn names_none(moves: &[(Allocation, Allocation)], at: usize) -> bool
     ensures no { result ≡ false → NamesNoPlace moves.now at → ⊥ }
 {
     let none = Allocation::none();
-    source_at(moves, at).is_same(none) || target_at(moves, at).is_same(none)
+    source_at(moves, at) == none || target_at(moves, at) == none
 }
 
 /// The index of the first of `moves` that names no place.
@@ -60,8 +60,7 @@ fn do_differ(moves: &[(Allocation, Allocation)], j: usize, at: usize) -> bool
     ensures yes { result ≡ true → (target moves.now j ≡ target moves.now at) × (source moves.now j ≢ source moves.now at) }
     ensures no { result ≡ false → target moves.now j ≡ target moves.now at → source moves.now j ≡ source moves.now at }
 {
-    target_at(moves, j).is_same(target_at(moves, at))
-        && !source_at(moves, j).is_same(source_at(moves, at))
+    target_at(moves, j) == target_at(moves, at) && source_at(moves, j) != source_at(moves, at)
 }
 
 /// Whether a move before `at` has the destination of the move at `at`, and another source.
@@ -177,7 +176,7 @@ fn is_free<A: Allocator>(frame: &CallFrame<A>, preg: PReg) -> bool
 {
     let place = Allocation::reg(preg);
     for at in 0..frame.free_regs.len() {
-        if place.is_same(Allocation::reg(frame.free_regs[at])) {
+        if place == Allocation::reg(frame.free_regs[at]) {
             return true;
         }
     }
@@ -262,8 +261,7 @@ fn find_in_use<A: Allocator>(
     None
 }
 
-/// The first error of `moves` and `frame`, if any. Two sources are looked for last: only this
-/// search may allocate.
+/// The first error of `moves` and `frame`, if any. Without memory for a table, it takes longer.
 pub(super) fn find_fault<A: Allocator + Copy, B: Allocator>(
     alloc: A,
     moves: &[(Allocation, Allocation)],
@@ -275,11 +273,10 @@ pub(super) fn find_fault<A: Allocator + Copy, B: Allocator>(
     if let Some(at) = find_none(moves) {
         return Some(CallFault::NoneNamed(at));
     }
-    let in_use = find_in_use(moves, frame);
     if let Some(at) = find_two_sources(alloc, moves) {
         return Some(CallFault::TwoSources(target_at(moves, at)));
     }
-    match in_use {
+    match find_in_use(moves, frame) {
         Some(place) => Some(CallFault::InUse(place)),
         None => None,
     }

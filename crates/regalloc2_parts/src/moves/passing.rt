@@ -112,7 +112,7 @@ fn copy<T: Copy + Default, A: Allocator + Copy>(
     ensures added { OnOk result ((x : Place × Place × _) → Contains out.new.items x → Contains out.old.items x ⊎ (x ≡ m.now)) }
 {
     out.push(*m)?;
-    if m.1.is_same(via.register) {
+    if m.1 == via.register {
         return Ok(Held::InRegister);
     }
     Ok(held)
@@ -136,7 +136,7 @@ pub(super) fn make<T: Copy + Default, A: Allocator + Copy>(
     if is_passing {
         return pass(m, via, held, out);
     }
-    if m.0.is_same(via.register) {
+    if m.0 == via.register {
         let after = restore_first(via, held, out)?;
         return copy(m, via, after, out);
     }

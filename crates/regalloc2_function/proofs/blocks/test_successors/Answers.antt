@@ -1,10 +1,10 @@
-use Rattle.std.proofs.Common.{◌+◌, ◌<◌, [], ◌∷◌, length, take, drop, refl, ap, arith}
+use Rattle.std.proofs.Common.{◌+◌, ◌<◌, ◌∷◌, length, take, drop, refl, ap, arith}
 use Rattle.std.specs.Prelude.{All, flat_map}
 use Rattle.std.proofs.lemmas.List.Elements.{All-cons, All-nil, All-same, All-append}
 use Rattle.regalloc2_names.specs.declared.RegAllocError.TheVariants.{BB}
 use Rattle.regalloc2_function.specs.FunctionValue.{BlockValue, FunctionValue, block_at}
 use Rattle.regalloc2_function.specs.Reasons.{IsFirstIn}
-use Rattle.regalloc2_function.proofs.ListsInParts.{all_of_part, first_of_part, flat_split, flat_taken, flat_more}
+use Rattle.regalloc2_function.proofs.ListsInParts.{all_of_part, first_here, first_of_part, flat_split, flat_taken, flat_more}
 use Rattle.regalloc2_function.proofs.BlockRanges.{block_is}
 use Rattle.regalloc2_function.proofs.blocks.test_successors.Goals as goal
 
@@ -13,13 +13,8 @@ returns-then-index-num_blocks-clause-err g c =
     let f : FunctionValue = g.F.Function.function c.args.f.now in (
       f.entry,
       ap BB c.entry_block-entry.ensures,
-      record {
-        earlier = [];
-        later = flat_map (λ b. b.succs) f.blocks;
-        is = refl;
-        passed = All-nil (λ s. s < length f.blocks);
-        fails = λ h. omega (arith, c.index.ensures, c.entry_block-entry.ensures, c.num_blocks-num_blocks.ensures.count, c.if-index-num_blocks.true);
-      },
+      first_here (λ s. s < length f.blocks) (f.entry ∷ flat_map (λ b. b.succs) f.blocks) 0 f.entry (omega arith) refl (All-nil (λ s. s < length f.blocks))
+          (λ h. omega (arith, c.index.ensures, c.entry_block-entry.ensures, c.num_blocks-num_blocks.ensures.count, c.if-index-num_blocks.true)),
     )
 
 pub returns-in-Some-clause-err : goal.returns-in-Some-clause-err

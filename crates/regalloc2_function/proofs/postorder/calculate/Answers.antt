@@ -1,6 +1,6 @@
 use Rattle.std.proofs.Common.{◌≡◌, ◌<◌, length, inl, inr, refl, sym, ◌∙◌, subst, arith, rules}
 use Rattle.std.proofs.lemmas.Result.{err_from_is_err_and}
-use Rattle.regalloc2_function.specs.Listed.{AreBlocks}
+use Rattle.regalloc2_function.specs.Listed.{AreBlocks, named_blocks}
 use Rattle.regalloc2_function.proofs.ListsInParts.{first_not_all}
 use Rattle.regalloc2_function.proofs.LeavesReached.{leaves_once, leaves_reached}
 use Rattle.regalloc2_function.proofs.postorder.calculate.Goals as goal
@@ -12,7 +12,7 @@ returns-in_err-test_named-clause-refused g c = λ succs same.
 
 pub returns-in_err-test_named-clause-accepted : goal.returns-in_err-test_named-clause-accepted
 returns-in_err-test_named-clause-accepted g c = λ succs same blocks.
-    (let h = c.in_err-test_named.ensures.err succs same in absurd (first_not_all (λ s. s < c.args.num_blocks) _ h.0 h.2 blocks))
+    (let h = c.in_err-test_named.ensures.err succs same in absurd (first_not_all (λ s. s < c.args.num_blocks) (named_blocks succs c.args.num_blocks c.args.entry) h.0 h.2 blocks))
 
 pub walk-requires : goal.walk-requires
 walk-requires g c =

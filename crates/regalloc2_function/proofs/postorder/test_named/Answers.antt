@@ -1,7 +1,8 @@
 use Rattle.std.proofs.Common.{◌≡◌, ◌<◌, [], refl, subst, arith}
-use Rattle.std.specs.Prelude.{All, flat_map}
+use Rattle.std.specs.Prelude.{All}
 use Rattle.std.proofs.lemmas.List.Elements.{All-nil, All-cons}
-use Rattle.regalloc2_index.specs.Range.{numbers_from}
+use Rattle.regalloc2_function.proofs.ListsInParts.{first_here}
+use Rattle.regalloc2_function.specs.Listed.{named_blocks}
 use Rattle.regalloc2_function.proofs.NamedBlocks.{named_first, named_more, named_to}
 use Rattle.regalloc2_function.proofs.postorder.test_named.Goals as goal
 
@@ -9,13 +10,8 @@ pub returns-then-index-num_blocks-clause-err : goal.returns-then-index-num_block
 returns-then-index-num_blocks-clause-err g c = λ succs same. (
   c.args.entry,
   refl,
-  record {
-    earlier = [];
-    later = flat_map succs (numbers_from 0 c.args.num_blocks);
-    is = refl;
-    passed = All-nil (λ s. s < c.args.num_blocks);
-    fails = λ h. omega (arith, c.index.ensures, c.if-index-num_blocks.true);
-  },
+  first_here (λ s. s < c.args.num_blocks) (named_blocks succs c.args.num_blocks c.args.entry) 0 c.args.entry (omega arith) refl
+      (All-nil (λ s. s < c.args.num_blocks)) (λ h. omega (arith, c.index.ensures, c.if-index-num_blocks.true)),
 )
 
 pub loop-b-init : goal.loop-b-init

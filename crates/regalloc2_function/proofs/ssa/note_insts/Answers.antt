@@ -1,10 +1,9 @@
-use Rattle.std.proofs.Common.{ℕ, ◌≡◌, ◌++◌, [], ◌∷◌, List, ap, sym, ◌∙◌, arith}
+use Rattle.std.proofs.Common.{◌++◌, ap, sym, ◌∙◌, arith}
 use Rattle.std.specs.Prelude.{flat_map}
 use Rattle.std.proofs.lemmas.Result.{err_from_is_err_and}
 use Rattle.regalloc2_index.specs.Range.{numbers_of}
 use Rattle.regalloc2_index.proofs.RangeWalks.{next_at, walked_all, walked_more}
 use Rattle.regalloc2_function.specs.FunctionValue.{FunctionValue}
-use Rattle.regalloc2_function.specs.Inside.Definitions.{NotesDefinitions}
 use Rattle.regalloc2_function.specs.Inside.Definitions.NotesDefinitions.{none}
 use Rattle.regalloc2_function.proofs.ListsInParts.{flat_next, flat_parts}
 use Rattle.regalloc2_function.proofs.NotedInParts.{names_in_part, notes_append}

@@ -78,7 +78,7 @@ type Left = (Option<Allocation>, Option<Allocation>);
 fn is_apart(m: Move, place: Allocation) -> bool
     ensures { IsTrue result ↔ ((m.0 ≢ place) × (m.1 ≢ place)) }
 {
-    !m.0.is_same(place) && !m.1.is_same(place)
+    m.0 != place && m.1 != place
 }
 
 /// Returns whether none of `moves` names `place`.
@@ -114,7 +114,7 @@ fn differ(first: Option<Allocation>, second: Option<Allocation>) -> bool
     let Some(q) = second else {
         return true;
     };
-    !p.is_same(q)
+    p != q
 }
 
 /// Returns whether `free` are a register and two slots that differ and that none of `moves` names.

@@ -1,6 +1,7 @@
 use Rattle.std.proofs.Common.{ℕ, List, below_more, sym, ◌∙◌}
 use Rattle.regalloc2_names.specs.Operand.{OperandValue}
-use Rattle.regalloc2_fastalloc_state.specs.Validate.Constraints.{OperandAvoidsClobbers}
+use Rattle.regalloc2_function.specs.WellFormed.{AvoidsClobbers, IsReused}
+use Rattle.regalloc2_function.specs.FunctionValue.{op_at}
 use Rattle.regalloc2_fastalloc_state.proofs.ValidateLemmas.ConstraintTests.{clear_read}
 use Rattle.regalloc2_fastalloc_state.proofs.ValidateLemmas.OperandReads.{read_operand}
 use Rattle.std.proofs.lemmas.Bool.{false≢true}
@@ -23,7 +24,7 @@ loop-k-preserved c =
     let k : ℕ = c.loop-k.k in
     let is = read_operand ops k c.index-operands-k.result c.loop-k-test.true c.index-operands-k.is in
     record {
-      so_far = below_more (λ n. OperandAvoidsClobbers c.args.clobbers ops n) _ c.loop-k.invariant.so_far
+      so_far = below_more (λ n. AvoidsClobbers c.args.clobbers (op_at ops n) (IsReused ops n)) _ c.loop-k.invariant.so_far
           ((clear_read c.args.clobbers ops k c.index-operands-k.result c.named_by_reuses-named.result c.is_named-is_reused.result is
           c.is_named-is_reused.ensures (c.named_by_reuses-named.ensures k)).0
           (c.avoids_clobbers.ensures.0 c.if-not-avoids_clobbers.false));

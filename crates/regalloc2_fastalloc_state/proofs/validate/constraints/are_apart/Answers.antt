@@ -1,6 +1,6 @@
 use Rattle.std.proofs.Common.{ℕ, ◌≡◌, List, false, length, length-set, refl, sym, ap, ◌∙◌, subst, arith}
 use Rattle.regalloc2_names.specs.Operand.{OperandValue}
-use Rattle.regalloc2_fastalloc_state.specs.Validate.Constraints.{AreReusesApart}
+use Rattle.regalloc2_function.specs.WellFormed.{AreReusesApart}
 use Rattle.regalloc2_carry.proofs.Plain.{always}
 use Rattle.regalloc2_fastalloc_state.proofs.ValidateLemmas.ConstraintTests.{named_none, named_same, named_more, named_by_a_reuse, not_named, apart_none, apart_same, apart_more}
 use Rattle.regalloc2_fastalloc_state.proofs.ValidateLemmas.OperandReads.{read_operand}

@@ -1,6 +1,6 @@
 use Rattle.std.proofs.Common.{◌≡◌}
 use Rattle.std.specs.Prelude.{length}
-use Rattle.regalloc2_fastalloc_state.specs.Validate.Constraints.{AreReusesApart}
+use Rattle.regalloc2_function.specs.WellFormed.{AreReusesApart}
 use Rattle.regalloc2_fastalloc_state.proofs.ValidateLemmas.ConstraintTests.{AreNamed}
 use Rattle.regalloc2_fastalloc_state.proofs.validate.constraints.are_apart.Given as goal
 

@@ -1,4 +1,4 @@
-use Rattle.std.proofs.Common.{◌≡◌, ◌*◌, ◌-◌, ℕ, map, rules, of_calls, nat_lt, arith}
+use Rattle.std.proofs.Common.{◌≡◌, ◌-◌, ℕ, map, rules, of_calls, nat_lt, arith}
 use Rattle.std.proofs.lemmas.Fn.{always_returns_same}
 use Rattle.std.proofs.lemmas.List.Sorted.{IsPartitionedBy-ltb}
 use Rattle.regalloc2_names.specs.Place.{before}

@@ -9,5 +9,5 @@ returns-in-None g c = record { named = c.in_default.ensures; one_source = c.in_d
 pub returns-in-Some-find_two_sources : goal.returns-in-Some-find_two_sources
 returns-in-Some-find_two_sources g c = (c.in_default.ensures, (c.in-Some-find_two_sources.at, c.in-Some-find_two_sources.ensures, c.target_at.ensures))
 
-pub returns-in-Some-in_use : goal.returns-in-Some-in_use
-returns-in-Some-in_use g c = (c.in_default.ensures, c.in_default-find_two_sources.ensures, c.in-Some-in_use.ensures)
+pub returns-in-Some-find_in_use : goal.returns-in-Some-find_in_use
+returns-in-Some-find_in_use g c = (c.in_default.ensures, c.in_default-find_two_sources.ensures, c.in-Some-find_in_use.ensures)

@@ -18,17 +18,17 @@ pub loop-at-preserved : goal.loop-at-preserved
 loop-at-preserved g c =
     let read : c.index.result.now ≡ free_at c.args.frame.now c.loop-at.at =
     read_free c.args.frame.now c.loop-at.at c.index.result.now (omega (arith, c.loop-at-test.true, c.len-at-end.ensures)) c.index.ensures in
-    below_more _ _ c.loop-at.invariant (λ e. false≢true (sym c.if-is_same.false
-    ∙ c.is_same.ensures.same.1 (c.reg-place.ensures ∙ ap InRegister (sym e ∙ sym read) ∙ sym c.reg.ensures)))
+    below_more _ _ c.loop-at.invariant (λ e. false≢true (sym c.if-eq.false
+    ∙ c.eq.ensures.same.1 (c.reg-place.ensures ∙ ap InRegister (sym e ∙ sym read) ∙ sym c.reg.ensures)))
 
 pub returns-clause-no : goal.returns-clause-no
 returns-clause-no g c = λ e x. c.loop-at.invariant x.0 (omega (arith, x.1)) x.2
 
-pub returns-then-is_same-clause-yes : goal.returns-then-is_same-clause-yes
-returns-then-is_same-clause-yes g c =
+pub returns-then-eq-clause-yes : goal.returns-then-eq-clause-yes
+returns-then-eq-clause-yes g c =
     let low : c.loop-at.at < length c.args.frame.now.free_regs.items = omega (arith, c.loop-at-test.true, c.len-at-end.ensures) in
     let same : InRegister c.args.preg ≡ InRegister c.index.result.now =
-    sym c.reg-place.ensures ∙ c.is_same.ensures.same.0 c.if-is_same.true ∙ c.reg.ensures in
+    sym c.reg-place.ensures ∙ c.eq.ensures.same.0 c.if-eq.true ∙ c.reg.ensures in
     λ e. (c.loop-at.at, low, sym (same_register same ∙ read_free c.args.frame.now c.loop-at.at c.index.result.now low c.index.ensures))
 
 pub loop-at-smaller : goal.loop-at-smaller

@@ -10,8 +10,8 @@ returns-then-is_passing-clause-added g c =
     (λ had x h. ⊎_elim (λ l. inl l) (λ t. inr (subst (λ b. IsMadeFor c.args.via.now.register b c.args.m.now x) (sym c.if-is_passing.true) t)) (had x h))
     c.pass.ensures.added
 
-pub returns-then-is_same-clause-added : goal.returns-then-is_same-clause-added
-returns-then-is_same-clause-added g c =
+pub returns-then-eq-clause-added : goal.returns-then-eq-clause-added
+returns-then-eq-clause-added g c =
     on_ok_weaker c.copy.result
     (λ had x h. ⊎_elim (λ l. inl (c.in_ok-after.ensures.added x l)) (λ t. inr
     (subst (λ b. IsMadeFor c.args.via.now.register b c.args.m.now x) (sym c.if-is_passing.false) t)) (had x h))
@@ -26,8 +26,8 @@ returns-clause-added g c =
 pub returns-then-is_passing-clause-tracks : goal.returns-then-is_passing-clause-tracks
 returns-then-is_passing-clause-tracks g c = c.pass.ensures.tracks
 
-pub returns-then-is_same-clause-tracks : goal.returns-then-is_same-clause-tracks
-returns-then-is_same-clause-tracks g c =
+pub returns-then-eq-clause-tracks : goal.returns-then-eq-clause-tracks
+returns-then-eq-clause-tracks g c =
     IfOk-weaker c.copy.result _ _ (λ after had x d was. had x d (c.in_ok-after.ensures.tracks x d was)) c.copy.ensures.tracks
 
 pub returns-clause-tracks : goal.returns-clause-tracks
@@ -42,4 +42,4 @@ pub copy-requires : goal.copy-requires
 copy-requires g c = record { unnamed = c.requires.unnamed; ready = λ e. c.in_ok-after.ensures.restored }
 
 pub copy-requires-2 : goal.copy-requires-2
-copy-requires-2 g c = record { unnamed = c.requires.unnamed; ready = λ e. absurd (false≢true (c.if-is_same.ensures.same.1 e)) }
+copy-requires-2 g c = record { unnamed = c.requires.unnamed; ready = λ e. absurd (false≢true (c.if-eq.ensures.same.1 e)) }
