@@ -16,7 +16,7 @@ use Rattle.regalloc2_function.specs.FunctionValue.{FunctionValue, block_at, inst
 use Rattle.regalloc2_function.specs.Machine.{MachineValue, IsPlainRegister, scratch_of}
 use Rattle.regalloc2_function.specs.OutputValue.{OutputValue, allocs_of, place_at}
 use Rattle.regalloc2_semantics.specs.Faithful.{Meets, IsStackToStack}
-use Rattle.regalloc2_semantics.specs.Places.{IsProperPlace, IsMoveEnd}
+use Rattle.regalloc2_semantics.specs.Places.{IsValidPlace, IsMoveEnd}
 use Rattle.regalloc2_function.proofs.Following.{end_within}
 use Rattle.regalloc2_function.specs.WellFormed.{IsWellFormed, EndsBlock}
 use Rattle.regalloc2.specs.Promise.{IsAllocation}
@@ -60,13 +60,13 @@ module _ (env : MachineValue) (out : OutputValue) (t : IsTarget env) where
   slots = frame_slots out.num_spillslots
 
   -- a place for a number of some class is a register that the allocator allocates, or a slot
-  here : (c : RegClass) (p : Place) → IsProperPlace env out c p → IsHere slots p
+  here : (c : RegClass) (p : Place) → IsValidPlace env out c p → IsHere slots p
   here c NoPlace h = absurd h
   here c (InRegister r) h = elim h [ inl own ↦ t.allocatable c r own | inr fixed ↦ absurd (no_member env.fixed_stack_slots r t.no_fixed_slots fixed.0) ]
   here c (InSlot n) h = slot_within out.num_spillslots n h
 
   -- a place for a number that is no stack place is a register that the allocator allocates
-  general : (c : RegClass) (p : Place) → IsProperPlace env out c p → IsPlainRegister env p → IsGeneral p
+  general : (c : RegClass) (p : Place) → IsValidPlace env out c p → IsPlainRegister env p → IsGeneral p
   general c NoPlace h plain = absurd h
   general c (InRegister r) h plain = elim h [ inl own ↦ t.allocatable c r own | inr fixed ↦ absurd (plain fixed.0) ]
   general c (InSlot n) h plain = absurd plain
@@ -92,11 +92,11 @@ module _ (env : MachineValue) (out : OutputValue) (t : IsTarget env) where
   -- places that are valid for operands and meet their constraints
   record AreFor (os : List OperandValue) (ps : List Place) : Type 0 where
     proper : (k : ℕ) (d : OperandValue) → k < length os → is_fixed_nonallocatable (slice_index_or os k d) ≡ false →
-        IsProperPlace env out (slice_index_or os k d).vreg.class (place_at ps k)
+        IsValidPlace env out (slice_index_or os k d).vreg.class (place_at ps k)
     meets : (k : ℕ) (d : OperandValue) → k < length os → Meets env (length os) ps (slice_index_or os k d).constraint (place_at ps k)
 
   -- the place of an operand in a fixed register
-  fixed_here : (c : RegClass) (n : ℕ) (p : Place) → IsProperPlace env out c p → p ≡ InRegister (record { number = n; class = c }) →
+  fixed_here : (c : RegClass) (n : ℕ) (p : Place) → IsValidPlace env out c p → p ≡ InRegister (record { number = n; class = c }) →
       IsGeneral p × (register_of p ≡ n)
   fixed_here c n p proper e = (subst IsGeneral (sym e) (subst (IsHere slots) e (here c p proper)), ap register_of e)
 
@@ -112,8 +112,8 @@ module _ (env : MachineValue) (out : OutputValue) (t : IsTarget env) where
       slice_index_or os k (passed_in r v) ≡ passed_in r v →
       nat_eq v.number 1073741823 ≡ false → IsGeneral (place_at ps k) × (register_of (place_at ps k) ≡ r)
   in_register os ps h k r v within is read =
-      let proper : IsProperPlace env out v.class (place_at ps k) = subst (λ (o : OperandValue). is_fixed_nonallocatable o ≡ false →
-      IsProperPlace env out o.vreg.class (place_at ps k)) is (h.proper k (passed_in r v) within) read in
+      let proper : IsValidPlace env out v.class (place_at ps k) = subst (λ (o : OperandValue). is_fixed_nonallocatable o ≡ false →
+      IsValidPlace env out o.vreg.class (place_at ps k)) is (h.proper k (passed_in r v) within) read in
       let meets : place_at ps k ≡ InRegister (record { number = r; class = v.class }) = subst (λ (o : OperandValue). Meets env (length os) ps o.constraint
       (place_at ps k)) is (h.meets k (passed_in r v) within) in
       fixed_here v.class r (place_at ps k) proper meets
@@ -121,7 +121,7 @@ module _ (env : MachineValue) (out : OutputValue) (t : IsTarget env) where
   on_stack : (os : List OperandValue) (ps : List Place) → AreFor os ps → (k : ℕ) (v : VirtualRegister) → k < length os →
       slice_index_or os k (passed_on_stack v) ≡ passed_on_stack v → IsHere slots (place_at ps k)
   on_stack os ps h k v within is =
-      here v.class (place_at ps k) (subst (λ (o : OperandValue). is_fixed_nonallocatable o ≡ false → IsProperPlace env out o.vreg.class (place_at ps k)) is
+      here v.class (place_at ps k) (subst (λ (o : OperandValue). is_fixed_nonallocatable o ≡ false → IsValidPlace env out o.vreg.class (place_at ps k)) is
       (h.proper k (passed_on_stack v) within) refl)
 
   -- the operands `us` are in `os` from index k on
@@ -167,7 +167,7 @@ module _ (env : MachineValue) (out : OutputValue) (t : IsTarget env) where
       let within : length os < length (os ++ d ∷ []) = omega (arith, length-append os (d ∷ [])) in
       let last : slice_index_or (os ++ d ∷ []) (length os) d ≡ d = get_or-append_seam os d [] d in
       here v.class (place_at ps (length os)) (subst (λ (o : OperandValue). is_fixed_nonallocatable o ≡ false →
-      IsProperPlace env out o.vreg.class (place_at ps (length os))) last (h.proper (length os) d within) refl)
+      IsValidPlace env out o.vreg.class (place_at ps (length os))) last (h.proper (length os) d within) refl)
 
   -- places with which the operation can be emitted
   is_placed : (o : Operation) (ps : List Place) → IsRead o → AreFor (operands_of o) ps → IsPlaced slots o ps

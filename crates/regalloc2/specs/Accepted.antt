@@ -3,7 +3,7 @@ use Rattle.std.specs.Prelude.{◌≡◌, List, []}
 use Rattle.regalloc2_function.specs.FunctionValue.{FunctionValue}
 use Rattle.regalloc2_function.specs.Machine.{MachineValue}
 use Rattle.regalloc2_function.specs.OutputValue.{OutputValue, IsInOrder}
-use Rattle.regalloc2_semantics.specs.Runs.{IsWrittenFirst}
+use Rattle.regalloc2_semantics.specs.Runs.{IsDefinitelyAssigned}
 use Rattle.regalloc2_semantics.specs.Faithful.{IsFaithful}
 use Rattle.regalloc2_function.specs.WellFormed.{IsWellFormed}
 use Rattle.regalloc2_fastalloc.specs.Promise.{RunsAsTheFunction}
@@ -13,7 +13,7 @@ use Rattle.regalloc2_checker.specs.Report.{IsReport}
 -- what `run` guarantees of an output, as far as the checker requires it
 pub record IsPromised (f : FunctionValue) (env : MachineValue) (out : OutputValue) : Type 0 where
   pub in_order : IsInOrder f out
-  pub runs : IsWrittenFirst f → RunsAsTheFunction f env out
+  pub runs : IsDefinitelyAssigned f → RunsAsTheFunction f env out
 
 -- the checker takes an output, and finds nothing in it
 pub record IsAcceptedByChecker (A : Type 0) (f : FunctionValue) (env : MachineValue) (out : OutputValue) : Type 0 where
@@ -24,5 +24,5 @@ pub record IsAcceptedByChecker (A : Type 0) (f : FunctionValue) (env : MachineVa
 -- of a well-formed function in which no path from the entry reads or passes a vreg before writing it, what is
 -- guaranteed is accepted
 abbrev pub PromisedIsAccepted : Type 0 → Type 0
-PromisedIsAccepted A = (f : FunctionValue) (env : MachineValue) (out : OutputValue) → IsWellFormed env f → IsWrittenFirst f → IsPromised f env out →
+PromisedIsAccepted A = (f : FunctionValue) (env : MachineValue) (out : OutputValue) → IsWellFormed env f → IsDefinitelyAssigned f → IsPromised f env out →
     IsAcceptedByChecker A f env out

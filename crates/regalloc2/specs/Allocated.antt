@@ -5,7 +5,7 @@ use Rattle.regalloc2_function.specs.FunctionValue.{FunctionValue}
 use Rattle.regalloc2_function.specs.Machine.{MachineValue}
 use Rattle.regalloc2_function.specs.Fitting.{MachineFits}
 use Rattle.regalloc2_function.specs.Misfit.{IsMisfit}
-use Rattle.regalloc2_semantics.specs.Runs.{IsWrittenFirst}
+use Rattle.regalloc2_semantics.specs.Runs.{IsDefinitelyAssigned}
 use Rattle.regalloc2_fastalloc.specs.ErrorReason.{IsReason, PassesAllChecks}
 use Rattle.regalloc2.specs.Judged.{IsCheckedReason}
 use Rattle.regalloc2.specs.declared.checked.CheckedRunError.{CheckedRunError}
@@ -48,4 +48,4 @@ IsTestedReason f env Unjudged = ⊥
 abbrev pub IsTestedRunReason : FunctionValue → MachineValue → TestedRunError → Type 0
 IsTestedRunReason f env (RunMisfit m) = IsMisfit f env m × (MachineFits f env → ⊥)
 IsTestedRunReason f env (TestRefused r) = MachineFits f env × IsReason f env true r
-IsTestedRunReason f env ReadBeforeWritten = MachineFits f env × PassesAllChecks f env true × (IsWrittenFirst f → ⊥)
+IsTestedRunReason f env ReadBeforeWritten = MachineFits f env × PassesAllChecks f env true × (IsDefinitelyAssigned f → ⊥)

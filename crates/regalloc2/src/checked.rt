@@ -4,7 +4,7 @@ ghost use Rattle.std.specs.Prelude.{◌≡◌, ◌≤◌, ◌^◌, ◌↔◌, �
 ghost use Rattle.regalloc2_function.specs.FunctionValue.{operand_count};
 ghost use Rattle.regalloc2_function.specs.Views.{machine_of, output_of};
 ghost use Rattle.regalloc2_function.specs.OutputValue.{IsInOrder};
-ghost use Rattle.regalloc2_semantics.specs.Runs.{IsWrittenFirst};
+ghost use Rattle.regalloc2_semantics.specs.Runs.{IsDefinitelyAssigned};
 ghost use Rattle.regalloc2_semantics.specs.Faithful.{IsFaithful};
 ghost use Rattle.regalloc2_function.specs.Fitting.{MachineFits};
 ghost use Rattle.regalloc2_function.specs.WellFormed.{IsFramed, IsWellFormed};
@@ -108,7 +108,7 @@ pub fn run_checked<A: Allocator + Copy, F: Function, B: Allocator>(
     ensures faithful { IfOk result (λ out. IsFaithful (F.function f.now) (machine_of env.now) (output_of out)) }
     ensures tested { OnOk result (IsWellFormed (machine_of env.now) (F.function f.now)) }
     ensures passes_checks { OnOk result (PassesAllChecks (F.function f.now) (machine_of env.now) options.now.validate_ssa) }
-    ensures accepted { IsWrittenFirst (F.function f.now) → IfErr result (λ e. IsFault e → ⊥) }
+    ensures accepted { IsDefinitelyAssigned (F.function f.now) → IfErr result (λ e. IsFault e → ⊥) }
     ensures refused { IfErr result (IsCheckedReason (F.function f.now) (machine_of env.now) options.now.validate_ssa) }
     ensures many_operands { (result ≡ Err (CheckedRunError.Refused RegAllocError.TooManyOperands)) ↔ (2 ^ 32 ≤ operand_count (F.function f.now)) }
 {

@@ -3,7 +3,7 @@
 ghost use Rattle.std.specs.Prelude.{◌≡◌, ◌≤◌, ◌^◌, ◌↔◌, true, IfErr, IfOk, OnOk};
 ghost use Rattle.regalloc2_function.specs.FunctionValue.{operand_count};
 ghost use Rattle.regalloc2_function.specs.Views.{machine_of, output_of};
-ghost use Rattle.regalloc2_semantics.specs.Runs.{IsWrittenFirst};
+ghost use Rattle.regalloc2_semantics.specs.Runs.{IsDefinitelyAssigned};
 ghost use Rattle.regalloc2_semantics.specs.Faithful.{IsFaithful};
 ghost use Rattle.regalloc2_function.specs.Fitting.{MachineFits};
 ghost use Rattle.regalloc2_function.specs.WellFormed.{IsWellFormed};
@@ -133,7 +133,7 @@ pub fn allocate<A: Allocator + Copy, F: Function, B: Allocator>(
     ensures fitting { OnOk result (MachineFits (F.function f.now) (machine_of env.now)) }
     ensures tested { OnOk result (IsWellFormed (machine_of env.now) (F.function f.now)) }
     ensures passes_checks { OnOk result (PassesAllChecks (F.function f.now) (machine_of env.now) true) }
-    ensures accepted { IsWrittenFirst (F.function f.now) → IfErr result (λ e. IsAllocateFault e → ⊥) }
+    ensures accepted { IsDefinitelyAssigned (F.function f.now) → IfErr result (λ e. IsAllocateFault e → ⊥) }
     ensures refused { IfErr result (IsAllocateReason (F.function f.now) (machine_of env.now)) }
     ensures many_operands { MachineFits (F.function f.now) (machine_of env.now) →
         ((result ≡ Err (AllocateError.Refused RegAllocError.TooManyOperands)) ↔ (2 ^ 32 ≤ operand_count (F.function f.now))) }
@@ -198,7 +198,7 @@ pub fn run_tested<A: Allocator + Copy, F: Function, B: Allocator>(
     ensures fitting { OnOk result (MachineFits (F.function f.now) (machine_of env.now)) }
     ensures tested { OnOk result (IsWellFormed (machine_of env.now) (F.function f.now)) }
     ensures passes_checks { OnOk result (PassesAllChecks (F.function f.now) (machine_of env.now) true) }
-    ensures written { OnOk result (IsWrittenFirst (F.function f.now)) }
+    ensures written { OnOk result (IsDefinitelyAssigned (F.function f.now)) }
     ensures refused { IfErr result (IsTestedRunReason (F.function f.now) (machine_of env.now)) }
     ensures many_operands { MachineFits (F.function f.now) (machine_of env.now) →
         ((result ≡ Err (TestedRunError.Refused RegAllocError.TooManyOperands)) ↔ (2 ^ 32 ≤ operand_count (F.function f.now))) }

@@ -1,6 +1,6 @@
 -- `reads_written` returns whether each read and each argument is definitely assigned.
 -- Read first: `IsNeeded` and `IsScoped` in the specs, then `never_needed` in `ScopedIsWritten`.
--- Depends on `IsWrittenFirst` and `Cells` of regalloc2_semantics, and on `Blocks` of regalloc2_carry.
+-- Depends on `IsDefinitelyAssigned` and `Cells` of regalloc2_semantics, and on `Blocks` of regalloc2_carry.
 -- Main theorem: `decides` in `ReadsWrittenDecided`: every vreg is definitely assigned exactly where nothing is needed at the function's entry. `scoped_written`
 -- and `needed_unwritten` in `StepsWalked` say so of what the walk over a tree and the search find; `none_listed` and `lists_none` in `PropagatedToFixpoint` of
 -- the list that needs, passed on, end with. `never_needed` in `ScopedIsWritten`: what is clear at a step isn't needed there. `ChainCut`, `SitesKept` and

@@ -1,6 +1,6 @@
 -- Which vregs an instruction needs: on some path they are read before they are written.
 -- Read first: `IsNeeded` in `LiveIn`, then `IsScoped` in `Scopes`, a tree of blocks; `Propagation` follows edges.
--- Depends on definite assignment (`IsWrittenFirst`) of regalloc2_semantics and on `Blocks` of regalloc2_carry.
+-- Depends on definite assignment (`IsDefinitelyAssigned`) of regalloc2_semantics and on `Blocks` of regalloc2_carry.
 pub mod Edges
 pub mod BlockVRegPairs
 pub mod Sites

@@ -9,7 +9,7 @@ use Rattle.regalloc2.specs.Fitting.{MachineFits}
 use Rattle.regalloc2.specs.ErrorReason.{PassesAllChecks}
 use Rattle.regalloc2.specs.OutputValue.{OutputValue, IsInOrder}
 use Rattle.regalloc2.specs.Stored.{NamesValues, output_of_stored}
-use Rattle.regalloc2.specs.Runs.{IsWrittenFirst}
+use Rattle.regalloc2.specs.Runs.{IsDefinitelyAssigned}
 use Rattle.regalloc2.specs.Faithful.{IsFaithful}
 use Rattle.regalloc2.specs.WellFormed.{IsWellFormed}
 use Rattle.regalloc2.specs.Promise.{IsAllocation, RunsAsTheFunction, LiveInSlots}
@@ -47,7 +47,7 @@ allocated_words f env out numbers fitting formed passed allocation faithful same
 -- the words of an output that a tested run gave
 pub tested_words : (f : FunctionValue) (env : MachineValue) (out : OutputValue) (numbers : StoredOutput Global) → MachineFits f env →
     IsWellFormed env f → PassesAllChecks f env true → RunsAsTheFunction f env out → (a : IsAllocation f env out) × LiveInSlots f out a.owners.owner →
-    IsWrittenFirst f → output_of_stored numbers ≡ out → NamesValues numbers → IsTestedOutput f env (output_words numbers)
+    IsDefinitelyAssigned f → output_of_stored numbers ≡ out → NamesValues numbers → IsTestedOutput f env (output_words numbers)
 tested_words f env out numbers fitting formed passed runs (allocation, live) written same names = record {
   out = out;
   output = record { stored = numbers; laid_out = refl; names = (names, sym same) };

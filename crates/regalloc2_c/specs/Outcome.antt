@@ -16,7 +16,7 @@ use Rattle.regalloc2.specs.Faithful.{IsFaithful}
 use Rattle.regalloc2_checker.specs.Cells.{AreCells}
 use Rattle.regalloc2.specs.WellFormed.{IsWellFormed, IsFramed}
 use Rattle.regalloc2.specs.Promise.{IsAllocation, RunsAsTheFunction, LiveInSlots}
-use Rattle.regalloc2.specs.Runs.{IsWrittenFirst}
+use Rattle.regalloc2.specs.Runs.{IsDefinitelyAssigned}
 use Rattle.regalloc2.specs.ErrorReason.{IsReason, PassesAllChecks}
 use Rattle.regalloc2_function.specs.declared.serialize.StoredOutput.{StoredOutput}
 use Rattle.regalloc2_serialize.specs.Decoded.{NamesFunction, NamesMachine}
@@ -146,7 +146,7 @@ pub record IsTestedOutput (f : FunctionValue) (env : MachineValue) (words : List
   pub allocation : IsAllocation f env out
   pub runs : RunsAsTheFunction f env out
   pub live : LiveInSlots f out allocation.owners.owner
-  pub written : IsWrittenFirst f
+  pub written : IsDefinitelyAssigned f
 
 -- why nothing is allocated to a function
 abbrev pub IsAllocateFailure : FunctionValue → MachineValue → Failure → Type 0
@@ -172,7 +172,7 @@ IsRunFailure f env (Faults v) = ⊥
 IsRunFailure f env NoMemory = Unit {0}
 IsRunFailure f env NotFramed = ⊥
 IsRunFailure f env BadOutput = ⊥
-IsRunFailure f env ReadBeforeWritten = MachineFits f env × PassesAllChecks f env true × (IsWrittenFirst f → ⊥)
+IsRunFailure f env ReadBeforeWritten = MachineFits f env × PassesAllChecks f env true × (IsDefinitelyAssigned f → ⊥)
 IsRunFailure f env (BadText line column) = ⊥
 IsRunFailure f env (BadFunction fault) = ⊥
 IsRunFailure f env (Refused error) = MachineFits f env × IsReason f env true error

@@ -6,7 +6,7 @@ use Rattle.std.proofs.lemmas.Bool.{cases_lt}
 use Rattle.regalloc2_names.specs.Register.{VirtualRegister}
 use Rattle.regalloc2_function.specs.FunctionValue.{FunctionValue, block_at, inst_at, last_of}
 use Rattle.regalloc2_function.specs.Machine.{MachineValue}
-use Rattle.regalloc2_semantics.specs.Runs.{Way, Onward, ToSuccessor, Location, first_of, end_of, IsPath, IsWrittenFirst}
+use Rattle.regalloc2_semantics.specs.Runs.{Way, Onward, ToSuccessor, Location, first_of, end_of, IsPath, IsDefinitelyAssigned}
 use Rattle.regalloc2_function.specs.WellFormed.{IsWellFormed}
 use Rattle.regalloc2_semantics.specs.Live.{IsLive, read_there, passed_there, later}
 use Rattle.regalloc2_semantics.specs.Sound.{Undefined, IsAside, target_at, HasSoundBlocks}
@@ -92,7 +92,7 @@ module _ (env : MachineValue) (f : FunctionValue) (ok : IsWellFormed env f) (v :
       live_on (end_of f ws) live lb (omega (arith, first)) (omega (arith, first, some)) (λ j ge less. absurd (omega (arith, ge, less, first)))
 
 -- if v is live where a path enters a block, some block uses v and doesn't write it
-pub live_is_used : (env : MachineValue) (f : FunctionValue) → IsWellFormed env f → IsWrittenFirst f → (ws : List Way) → IsPath f ws → HasEntered f ws →
+pub live_is_used : (env : MachineValue) (f : FunctionValue) → IsWellFormed env f → IsDefinitelyAssigned f → (ws : List Way) → IsPath f ws → HasEntered f ws →
     (v : VirtualRegister) → IsLive f v (end_of f ws) → UsedSomewhere f v
 live_is_used env f ok written ws path entered v live =
     let sound : HasSoundBlocks f = well_formed_are_sound env f ok in

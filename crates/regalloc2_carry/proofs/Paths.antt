@@ -11,7 +11,7 @@ use Rattle.regalloc2_names.specs.Place.{Place}
 use Rattle.regalloc2_function.specs.FunctionValue.{FunctionValue, block_at, inst_at, op_at}
 use Rattle.regalloc2_function.specs.OutputValue.{OutputValue}
 use Rattle.regalloc2_semantics.specs.Runs.{Way, Onward, ToSuccessor, Location, first_of, end_of, last_inst, IsPath, HasWay, Stamp, read_of, over_edge}
-use Rattle.regalloc2_semantics.specs.Runs.{arguments_at, source_before, source_after, source_read, IsWrittenFirst, cells_before, IsReached}
+use Rattle.regalloc2_semantics.specs.Runs.{arguments_at, source_before, source_after, source_read, IsDefinitelyAssigned, cells_before, IsReached}
 use Rattle.regalloc2_semantics.specs.Laws.{ReadsAgree}
 use Rattle.regalloc2_carry.specs.Listing.{items_by, items_from, block_items, IsReadIn}
 use Rattle.regalloc2_carry.specs.Carry.{CarriesFrom, Carries}
@@ -109,7 +109,7 @@ read_none Late x y e d = d
 abbrev last_inst_of : FunctionValue → ℕ → ℕ
 last_inst_of f b = (block_at f b).range.end - 1
 
-module _ (f : FunctionValue) (ok : HasSoundBlocks f) (written : IsWrittenFirst f) where
+module _ (f : FunctionValue) (ok : HasSoundBlocks f) (written : IsDefinitelyAssigned f) where
   -- a step that doesn't write v keeps v's value
   still : (vs : List Way) (v : VirtualRegister) (b i : ℕ) → (end_of f vs).inst ≡ i → (block_at f b).range.first ≤ i → i < (block_at f b).range.end →
       IsUnwritten f b v → source_after f vs v ≡ source_before f vs v

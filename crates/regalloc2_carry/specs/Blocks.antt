@@ -4,7 +4,7 @@ use Rattle.regalloc2_names.specs.Register.{VirtualRegister}
 use Rattle.regalloc2_names.specs.Place.{Place}
 use Rattle.regalloc2_function.specs.FunctionValue.{FunctionValue, block_at, inst_at}
 use Rattle.regalloc2_function.specs.OutputValue.{OutputValue}
-use Rattle.regalloc2_semantics.specs.Runs.{first_of, arguments_at, IsWrittenFirst, IsReached}
+use Rattle.regalloc2_semantics.specs.Runs.{first_of, arguments_at, IsDefinitelyAssigned, IsReached}
 use Rattle.regalloc2_carry.specs.Listing.{Item, block_items, IsReadIn}
 use Rattle.regalloc2_carry.specs.Carry.{Carries}
 use Rattle.regalloc2_semantics.specs.Sound.{Undefined, names, HasEdge, target_at, IsParameter, IsEnteredOnce, HasSoundBlocks}
@@ -78,14 +78,14 @@ module _ (f : FunctionValue) (stand : ℕ → VirtualRegister → Option Place) 
   abbrev pub BlockCarriesOn : ℕ → List Item → Type 0
   BlockCarriesOn b items = ExcusedAreSilent f b → (v : VirtualRegister) → IsUsed f v → (IsExcused f b v → ⊥) → Carries v items (ComesIn b v) (GoesOut b v)
 
--- if every vreg is definitely assigned (`IsWrittenFirst`), and every reachable block meets its obligation, reads agree
+-- if every vreg is definitely assigned (`IsDefinitelyAssigned`), and every reachable block meets its obligation, reads agree
 -- on every path
 abbrev pub BlocksAgreeInPlaces : Type 0
-BlocksAgreeInPlaces = (f : FunctionValue) (out : OutputValue) (stand : ℕ → VirtualRegister → Option Place) → HasSoundBlocks f → IsWrittenFirst f →
+BlocksAgreeInPlaces = (f : FunctionValue) (out : OutputValue) (stand : ℕ → VirtualRegister → Option Place) → HasSoundBlocks f → IsDefinitelyAssigned f →
     ((b : ℕ) → IsReached f (first_of f b) → BlockCarriesOn f stand b (block_items f out b)) → ReadsAgreeOnPaths f out
 
 -- the same, with listings built from the program points of the moves
 abbrev pub BlocksAgreeInPlacesByPoints : Type 0
-BlocksAgreeInPlacesByPoints = (f : FunctionValue) (out : OutputValue) (stand : ℕ → VirtualRegister → Option Place) → HasSoundBlocks f → IsWrittenFirst f →
+BlocksAgreeInPlacesByPoints = (f : FunctionValue) (out : OutputValue) (stand : ℕ → VirtualRegister → Option Place) → HasSoundBlocks f → IsDefinitelyAssigned f →
     Rising out.edits → ((b : ℕ) → b < length f.blocks → EndsQuiet f out b) →
     ((b : ℕ) → IsReached f (first_of f b) → BlockCarriesOn f stand b (block_walked f out b)) → ReadsAgreeOnPaths f out

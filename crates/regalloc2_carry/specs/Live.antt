@@ -6,7 +6,7 @@ use Rattle.regalloc2_function.specs.FunctionValue.{FunctionValue, block_at}
 use Rattle.regalloc2_function.specs.Machine.{MachineValue}
 use Rattle.regalloc2_function.specs.OutputValue.{OutputValue}
 use Rattle.regalloc2_function.specs.WellFormed.{IsWellFormed}
-use Rattle.regalloc2_semantics.specs.Runs.{Way, first_of, end_of, IsPath, IsWrittenFirst, IsReached, source_before, cells_before}
+use Rattle.regalloc2_semantics.specs.Runs.{Way, first_of, end_of, IsPath, IsDefinitelyAssigned, IsReached, source_before, cells_before}
 use Rattle.regalloc2_semantics.specs.Live.{IsLive}
 use Rattle.regalloc2_carry.specs.BlockByPoints.{block_walked, Rising, EndsQuiet}
 use Rattle.regalloc2_carry.specs.Blocks.{BlockCarriesOn}
@@ -29,5 +29,5 @@ LiveStandInPlaces f out stand = (ws : List Way) → IsPath f ws → HasEntered f
 -- points of the moves
 abbrev pub LiveStandWhereBlocksCarryOn : Type 0
 LiveStandWhereBlocksCarryOn = (env : MachineValue) (f : FunctionValue) (out : OutputValue) (stand : ℕ → VirtualRegister → Option Place) →
-    IsWellFormed env f → IsWrittenFirst f → Rising out.edits → ((b : ℕ) → b < length f.blocks → EndsQuiet f out b) →
+    IsWellFormed env f → IsDefinitelyAssigned f → Rising out.edits → ((b : ℕ) → b < length f.blocks → EndsQuiet f out b) →
     ((b : ℕ) → IsReached f (first_of f b) → BlockCarriesOn f stand b (block_walked f out b)) → LiveStandInPlaces f out stand

@@ -4,7 +4,7 @@ use Rattle.std.specs.Prelude.{◌↔◌, Contains, OnOk}
 use Rattle.regalloc2_function.specs.FunctionValue.{FunctionValue}
 use Rattle.regalloc2_function.specs.Machine.{MachineValue}
 use Rattle.regalloc2_function.specs.OutputValue.{OutputValue}
-use Rattle.regalloc2_semantics.specs.Places.{IsProperPlace}
+use Rattle.regalloc2_semantics.specs.Places.{IsValidPlace}
 use Rattle.regalloc2_names.specs.declared.RegClass.{RegClass}
 use Rattle.regalloc2_names.specs.declared.RegClass.TheVariants.{Int, Float, Vector}
 use Rattle.regalloc2_names.specs.Place.{Place, NoPlace, InRegister, InSlot}
@@ -16,7 +16,7 @@ use Rattle.regalloc2_checker.specs.declared.cells.CellFault.TheVariants.{Operand
 
 -- a register that may be allocated to a class may hold a value of it
 pub allocatable_is_proper : (env : MachineValue) (out : OutputValue) (class : RegClass) (p : Place) → IsAllocatablePlace env class p →
-    IsProperPlace env out class p
+    IsValidPlace env out class p
 allocatable_is_proper env out class NoPlace h = h
 allocatable_is_proper env out class (InRegister r) h = inl h
 allocatable_is_proper env out class (InSlot n) h = absurd h

@@ -4,7 +4,7 @@ use Rattle.regalloc2_names.specs.declared.RegClass.{RegClass}
 use Rattle.regalloc2_function.specs.FunctionValue.{FunctionValue, inst_at}
 use Rattle.regalloc2_function.specs.Machine.{MachineValue}
 use Rattle.regalloc2_function.specs.OutputValue.{OutputValue, allocs_of, place_at}
-use Rattle.regalloc2_semantics.specs.Places.{IsProperPlace, IsMoveEnd}
+use Rattle.regalloc2_semantics.specs.Places.{IsValidPlace, IsMoveEnd}
 use Rattle.regalloc2_checker.specs.Cells.{operand_of, move_of_index, location_of_index, IsOperandCell, IsWithinClass, IsSlotTaken, IsInFrame, AreUnitsApart}
 use Rattle.regalloc2_checker.specs.declared.cells.CellFault.{CellFault}
 use Rattle.regalloc2_checker.specs.declared.cells.CellFault.TheVariants.{Operand, MoveEnd, OtherClass, Location, Slot, Shared, Memory}
@@ -15,7 +15,7 @@ IsCellFault f env out (Operand i k) = (i < length f.insts) × (k < length (inst_
     × (IsOperandCell env out (operand_of f i k) (place_at (allocs_of out i) k) → ⊥)
 IsCellFault f env out (MoveEnd k) = (k < length out.edits) × (IsMoveEnd env out (move_of_index out k).from × IsMoveEnd env out (move_of_index out k).to → ⊥)
 IsCellFault f env out (OtherClass k) = (k < length out.edits) × (IsWithinClass (move_of_index out k) → ⊥)
-IsCellFault f env out (Location k) = (k < length out.debug_locations) × ((c : RegClass) → IsProperPlace env out c (location_of_index out k) → ⊥)
+IsCellFault f env out (Location k) = (k < length out.debug_locations) × ((c : RegClass) → IsValidPlace env out c (location_of_index out k) → ⊥)
 IsCellFault f env out (Slot n) = (u : ℕ) × IsSlotTaken f out n u × (IsInFrame f.named_by_last_slot out.num_spillslots n u → ⊥)
 IsCellFault f env out (Shared m n) = (u w : ℕ) × (m < n) × IsSlotTaken f out m u × IsSlotTaken f out n w × (AreUnitsApart f.named_by_last_slot m u n w → ⊥)
 IsCellFault f env out Memory = Unit {0}

@@ -8,7 +8,7 @@ use Rattle.regalloc2_names.specs.Place.{Place, NoPlace, InRegister, InSlot}
 use Rattle.regalloc2_function.specs.FunctionValue.{FunctionValue, inst_at, slot_size}
 use Rattle.regalloc2_function.specs.Machine.{MachineValue}
 use Rattle.regalloc2_function.specs.OutputValue.{OutputValue, MoveValue, allocs_of, place_at}
-use Rattle.regalloc2_semantics.specs.Places.{IsProperPlace, IsMoveEnd}
+use Rattle.regalloc2_semantics.specs.Places.{IsValidPlace, IsMoveEnd}
 use Rattle.regalloc2_checker.specs.Report.{invalid_operand}
 
 -- the operand of an instruction by its index, its place, the move of an index, and the place of a debug location
@@ -23,7 +23,7 @@ location_of_index out k = (slice_index_or out.debug_locations k (record { label 
 
 -- an operand is where its class may be, or in the register that it names in place of a vreg
 pub record IsOperandCell (env : MachineValue) (out : OutputValue) (o : OperandValue) (p : Place) : Type 0 where
-  pub proper : is_fixed_nonallocatable o ≡ false → IsProperPlace env out o.vreg.class p
+  pub proper : is_fixed_nonallocatable o ≡ false → IsValidPlace env out o.vreg.class p
   pub nonallocatable : (r : Register) → nonallocatable_register o ≡ Some r → p ≡ InRegister r
 
 -- between two registers, a move stays within a class
@@ -70,7 +70,7 @@ pub record ArePlacesOfMachine (f : FunctionValue) (env : MachineValue) (out : Ou
       IsOperandCell env out (operand_of f i k) (place_at (allocs_of out i) k)
   pub moves : (k : ℕ) → k < length out.edits → IsMoveEnd env out (move_of_index out k).from × IsMoveEnd env out (move_of_index out k).to
   pub classes : (k : ℕ) → k < length out.edits → IsWithinClass (move_of_index out k)
-  pub locations : (k : ℕ) → k < length out.debug_locations → (c : RegClass) × IsProperPlace env out c (location_of_index out k)
+  pub locations : (k : ℕ) → k < length out.debug_locations → (c : RegClass) × IsValidPlace env out c (location_of_index out k)
 
 -- Places are cells: they are the machine's, each slot is within the frame, and no two slots that are named share a unit.
 pub record AreCells (f : FunctionValue) (env : MachineValue) (out : OutputValue) : Type 0 where

@@ -9,7 +9,7 @@ ghost use Rattle.regalloc2_names.specs.Register.{Register};
 ghost use Rattle.regalloc2_names.specs.declared.RegClass.{RegClass};
 ghost use Rattle.regalloc2_function.specs.FunctionValue.{FunctionValue, inst_at};
 ghost use Rattle.regalloc2_function.specs.Machine.{scratch_of, is_allocatable, IsFixedStackSlot};
-ghost use Rattle.regalloc2_semantics.specs.Places.{IsProperPlace, IsMoveEnd};
+ghost use Rattle.regalloc2_semantics.specs.Places.{IsValidPlace, IsMoveEnd};
 ghost use Rattle.regalloc2_function.specs.OutputValue.{IsInOrder, place_at, allocs_of};
 ghost use Rattle.regalloc2_function.specs.Views.{machine_of, output_of};
 ghost use Rattle.regalloc2_checker.specs.CellRegisters.{AreCellRegisters};
@@ -152,7 +152,7 @@ fn is_proper<B: Allocator, C: Allocator>(
     place: Allocation,
 ) -> bool
     requires { AreStackSlots (machine_of env.now) slots }
-    ensures { IsTrue result ↔ IsProperPlace (machine_of env.now) (output_of output.now) class place }
+    ensures { IsTrue result ↔ IsValidPlace (machine_of env.now) (output_of output.now) class place }
 {
     match place.as_reg() {
         Some(reg) => may_be_in(env, slots, class, reg),
@@ -168,7 +168,7 @@ fn is_proper_of_any<B: Allocator, C: Allocator>(
     place: Allocation,
 ) -> bool
     requires { AreStackSlots (machine_of env.now) slots }
-    ensures { IsTrue result ↔ ((c : RegClass) × IsProperPlace (machine_of env.now) (output_of output.now) c place) }
+    ensures { IsTrue result ↔ ((c : RegClass) × IsValidPlace (machine_of env.now) (output_of output.now) c place) }
 {
     is_proper(env, slots, output, RegClass::Int, place)
         || is_proper(env, slots, output, RegClass::Float, place)
@@ -186,7 +186,7 @@ fn is_cell_of<B: Allocator, C: Allocator>(
     place: Allocation,
 ) -> bool
     requires { AreCellRegisters (machine_of env.now) regs.now }
-    ensures { IsTrue result ↔ IsProperPlace (machine_of env.now) (output_of output.now) class place }
+    ensures { IsTrue result ↔ IsValidPlace (machine_of env.now) (output_of output.now) class place }
 {
     if regs.may_hold(class, place) {
         return true;
@@ -203,7 +203,7 @@ fn is_cell_of_any<B: Allocator, C: Allocator>(
     place: Allocation,
 ) -> bool
     requires { AreCellRegisters (machine_of env.now) regs.now }
-    ensures { IsTrue result ↔ ((c : RegClass) × IsProperPlace (machine_of env.now) (output_of output.now) c place) }
+    ensures { IsTrue result ↔ ((c : RegClass) × IsValidPlace (machine_of env.now) (output_of output.now) c place) }
 {
     if regs.may_hold_any(place) {
         return true;
@@ -401,7 +401,7 @@ fn test_locations<A: Allocator, B: Allocator, C: Allocator>(
 ) -> Result<(), CellFault>
     requires regs { AreCellRegisters (machine_of env.now) regs.now }
     ensures cells { OnOk result ((k : ℕ) → k < length (output_of output.now).debug_locations →
-        (c : RegClass) × IsProperPlace (machine_of env.now) (output_of output.now) c (location_of_index (output_of output.now) k)) }
+        (c : RegClass) × IsValidPlace (machine_of env.now) (output_of output.now) c (location_of_index (output_of output.now) k)) }
     ensures named { OnOk result (AddsSlots (λ n u. (k : ℕ) × (k < length (output_of output.now).debug_locations)
         × IsTakenByLocation (output_of output.now) k n u) named.old named.new) }
     ensures fault { IfErr result (λ e. (f : FunctionValue) → IsCellFault f (machine_of env.now) (output_of output.now) e) }
@@ -549,7 +549,7 @@ fn named_slots<F: Function, A: Allocator + Copy, B: Allocator, C: Allocator>(
 ///   each register that a move copies it from or to; no two slots share a unit.
 ///
 /// Slots are compared by the greatest number of units that each takes anywhere. What an allocation
-/// guarantees of its own output is more: each operand's constraint is met, `PlacesAreProper` and
+/// guarantees of its own output is more: each operand's constraint is met, `PlacesAreValid` and
 /// `AreSlotsOwned`. `n log n` in the slots that are named; at most 24 bytes for each of them.
 pub fn test_cells<F: Function, A: Allocator + Copy, B: Allocator, C: Allocator>(
     alloc: A,

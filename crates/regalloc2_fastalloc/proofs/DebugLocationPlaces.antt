@@ -12,10 +12,10 @@ use Rattle.regalloc2_names.specs.Register.{VirtualRegister}
 use Rattle.regalloc2_function.specs.FunctionValue.{FunctionValue, IsLimited, Label, inst_at, op_at, op_at as operand_at}
 use Rattle.regalloc2_function.specs.Machine.{MachineValue}
 use Rattle.regalloc2_function.specs.OutputValue.{DebugLocation, OutputValue, allocs_of, place_at}
-use Rattle.regalloc2_semantics.specs.Runs.{IsWrittenFirst, Location}
+use Rattle.regalloc2_semantics.specs.Runs.{IsDefinitelyAssigned, Location}
 use Rattle.regalloc2_semantics.specs.Debug.{ShowsValue, AreDebugLocations}
 use Rattle.regalloc2_semantics.specs.Live.{NamesAt, PassesAt}
-use Rattle.regalloc2_semantics.specs.Places.{IsProperPlace, Owner, OfVReg}
+use Rattle.regalloc2_semantics.specs.Places.{IsValidPlace, Owner, OfVReg}
 use Rattle.regalloc2_function.specs.WellFormed.{IsWellFormed}
 use Rattle.regalloc2_carry.proofs.SingleDef.{Made, made_small}
 use Rattle.regalloc2_fastalloc_state.specs.StateParts.{IsSlotOrNone, slot_name}
@@ -87,8 +87,8 @@ IsPlaceOf f out owner v p = ((i k : ℕ) × NamesAt f v i k × (place_at (allocs
 
 -- there is a debug location for each label that is kept; it names a place of its vreg, which holds the vreg's value
 abbrev pub ShowsLabels : FunctionValue → MachineValue → OutputValue → (ℕ → Owner) → Type 0
-ShowsLabels f env out owner = AreDebugLocations f (λ l d. IsProperPlace env out l.vreg.class d.place × IsPlaceOf f out owner l.vreg d.place
-    × (IsWrittenFirst f → ShowsValue f out l.vreg d.place)) out
+ShowsLabels f env out owner = AreDebugLocations f (λ l d. IsValidPlace env out l.vreg.class d.place × IsPlaceOf f out owner l.vreg d.place
+    × (IsDefinitelyAssigned f → ShowsValue f out l.vreg d.place)) out
 
 module _ (env : MachineValue) (f : FunctionValue) (limited : IsLimited f) (ok : IsWellFormed env f) (May : ℕ → Type 0) (t : StateValue) (out : OutputValue)
     (m : IsOutputOfWalk f env (Made f) May t out)
@@ -121,21 +121,21 @@ module _ (env : MachineValue) (f : FunctionValue) (limited : IsLimited f) (ok : 
   place_is_shown v (InSlot n) by shown = refl
 
   -- debug locations as `run` guarantees them
-  pub shows_labels : (IsWrittenFirst f → (l : Label) (r : LiveRange) → IsKeptRange f l r →
+  pub shows_labels : (IsDefinitelyAssigned f → (l : Label) (r : LiveRange) → IsKeptRange f l r →
       ShowsValue f out l.vreg (shown_place out (slot_name t.slots r.vreg.number) r.by)) → AreLocated f t.slots out.offsets out.allocs out.debug_locations →
       ShowsLabels f env out owns.owned.owner
   shows_labels shows a = record {
     listed = map (location_shown t.slots out.offsets out.allocs) a.kept;
-    kept = located_labels (λ (l : Label) (d : DebugLocation). IsProperPlace env out l.vreg.class d.place × IsPlaceOf f out owns.owned.owner l.vreg d.place
-        × (IsWrittenFirst f → ShowsValue f out l.vreg d.place)) (λ (k : KeptLabel). place_shown t.slots out.offsets out.allocs k.range) each a.are;
+    kept = located_labels (λ (l : Label) (d : DebugLocation). IsValidPlace env out l.vreg.class d.place × IsPlaceOf f out owns.owned.owner l.vreg d.place
+        × (IsDefinitelyAssigned f → ShowsValue f out l.vreg d.place)) (λ (k : KeptLabel). place_shown t.slots out.offsets out.allocs k.range) each a.are;
     same = a.same;
     rising = a.rising;
     stable = a.stable;
   }
     where
       each : (l : Label) (k : KeptLabel) → k.label ≡ l.label → IsKeptRange f l k.range →
-          (let p : Place = place_shown t.slots out.offsets out.allocs k.range in IsProperPlace env out l.vreg.class p
-          × IsPlaceOf f out owns.owned.owner l.vreg p × (IsWrittenFirst f → ShowsValue f out l.vreg p))
+          (let p : Place = place_shown t.slots out.offsets out.allocs k.range in IsValidPlace env out l.vreg.class p
+          × IsPlaceOf f out owns.owned.owner l.vreg p × (IsDefinitelyAssigned f → ShowsValue f out l.vreg p))
       each l k is range = (
         proper_place env out t.slots l.vreg (place_shown t.slots out.offsets out.allocs k.range) (slots_below f env (Made f) May t out m)
             (range_stands env f limited ok May t out.offsets out.allocs m.offsets m.kept handed l k range),

@@ -14,7 +14,7 @@ use Rattle.regalloc2_function.specs.Machine.{MachineValue}
 use Rattle.regalloc2_function.specs.WellFormed.{IsWellFormed}
 use Rattle.regalloc2_function.specs.Fitting.{MachineFits}
 use Rattle.regalloc2_function.specs.OutputValue.{MoveValue, allocs_of, place_at}
-use Rattle.regalloc2_semantics.specs.Runs.{Way, Location, end_of, IsPath, IsWrittenFirst, ToSuccessor, HasWay, arguments_at}
+use Rattle.regalloc2_semantics.specs.Runs.{Way, Location, end_of, IsPath, IsDefinitelyAssigned, ToSuccessor, HasWay, arguments_at}
 use Rattle.regalloc2_semantics.specs.Places.{OfVReg}
 use Rattle.regalloc2_carry.specs.BlockByPoints.{block_walked, Rising, EndsQuiet}
 use Rattle.regalloc2_carry.specs.Blocks.{BlockCarriesOn}
@@ -164,29 +164,29 @@ module _ (walk : WholeWalk) (taken : AreTaken walk.f) (in_place : (i : ℕ) → 
   made_rising = rising_by out.edits (made_in_order f env (Made f) (MayInBlocks f) last out m).points_never_fall
 
   -- each use finds in its place what the function wrote
-  pub made_blocks_agree : IsWrittenFirst f → ReadsAgreeOnPaths f out
+  pub made_blocks_agree : IsDefinitelyAssigned f → ReadsAgreeOnPaths f out
   made_blocks_agree written = blocks_agree_in_places_by_points f out standing (well_formed_are_sound env f ok) written made_rising blocks_quiet
       (λ b reached. made_blocks_carry b)
 
   -- each vreg that is live where a path comes to a block is in its current location there
-  pub made_live_stand : IsWrittenFirst f → LiveStandInPlaces f out standing
+  pub made_live_stand : IsDefinitelyAssigned f → LiveStandInPlaces f out standing
   made_live_stand written = live_stand_in_places env f out standing ok written made_rising blocks_quiet (λ b reached. made_blocks_carry b)
 
   -- a vreg that is live where a path comes to a block has a slot
-  pub made_live_slots : IsWrittenFirst f → (ws : List Way) → IsPath f ws → HasEntered f ws → (v : VirtualRegister) → IsLive f v (end_of f ws) →
+  pub made_live_slots : IsDefinitelyAssigned f → (ws : List Way) → IsPath f ws → HasEntered f ws → (v : VirtualRegister) → IsLive f v (end_of f ws) →
       slot_in last v.number ≢ NoPlace
   made_live_slots written ws path entered v live = used_slots walk (processes_branch_between f) v
       (live_is_used env f ok written ws path entered v live)
 
   -- a vreg that is live where a path comes to a block is defined in the function
-  live_made : IsWrittenFirst f → (ws : List Way) → IsPath f ws → HasEntered f ws → (v : VirtualRegister) → IsLive f v (end_of f ws) → Made f v
+  live_made : IsDefinitelyAssigned f → (ws : List Way) → IsPath f ws → HasEntered f ws → (v : VirtualRegister) → IsLive f v (end_of f ws) → Made f v
   live_made written ws path entered v live =
       let used = live_is_used env f ok written ws path entered v live in
       used_made f ok.defined_once ok.follow ok.uses_defined v used.block used.within used.used
 
   -- all as `run` guarantees it
   pub made_in_slots : (owns : OwnsSlots (Made f) f last.slots out) → SlotsHaveOneOwner last.slots →
-      ((i : ℕ) → i < length f.insts → AreSoundOperands (Made f) (inst_at f i).operands) → IsWrittenFirst f → LiveInSlots f out owns.owned.owner
+      ((i : ℕ) → i < length f.insts → AreSoundOperands (Made f) (inst_at f i).operands) → IsDefinitelyAssigned f → LiveInSlots f out owns.owned.owner
   made_in_slots owns owned sound_ops written = record {
     slot = λ v. number_of (slot_in last v.number);
     operands = λ v i k n names is. ap number_of (owner_known f env (Made f) (MayInBlocks f) last out m owned sound_ops v n i k names is).1;
@@ -266,7 +266,7 @@ module _ (walk : WholeWalk) (taken : AreTaken walk.f) (in_place : (i : ℕ) → 
 
   -- the place by which a label's vreg is shown holds its value
   pub made_label_shown : MachineFits f env → SlotsHaveOneOwner last.slots → ((i : ℕ) → i < length f.insts → AreSoundOperands (Made f) (inst_at f i).operands) →
-      IsWrittenFirst f → (l : Label) (r : LiveRange) → IsKeptRange f l r →
+      IsDefinitelyAssigned f → (l : Label) (r : LiveRange) → IsKeptRange f l r →
       ShowsValue f out l.vreg (shown_place out (slot_name last.slots r.vreg.number) r.by)
   made_label_shown fits owned sound_ops written l r k =
       (label_shown walk m fits written owned sound_ops (made_blocks_agree written) standing (record {

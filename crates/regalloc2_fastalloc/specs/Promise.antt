@@ -9,10 +9,10 @@ use Rattle.regalloc2_names.specs.declared.RegClass.{RegClass}
 use Rattle.regalloc2_function.specs.FunctionValue.{FunctionValue, block_at, inst_at, op_at}
 use Rattle.regalloc2_function.specs.Machine.{MachineValue, allocatable_count}
 use Rattle.regalloc2_function.specs.OutputValue.{OutputValue, IsInOrder, allocs_of, place_at, is_listed_at}
-use Rattle.regalloc2_semantics.specs.Runs.{Way, end_of, IsPath, IsWrittenFirst, arguments_at, ToSuccessor, Location, source_before, cells_before, source_read}
+use Rattle.regalloc2_semantics.specs.Runs.{Way, end_of, IsPath, IsDefinitelyAssigned, arguments_at, ToSuccessor, Location, source_before, cells_before, source_read}
 use Rattle.regalloc2_semantics.specs.Faithful.{ConstraintsMet, IsStackToStack, IsFaithful}
 use Rattle.regalloc2_semantics.specs.Debug.{ShowsValue, AreDebugLocations}
-use Rattle.regalloc2_semantics.specs.Places.{IsProperPlace, PlacesAreProper, Owner, OfVReg, OfBranch, IsSlotOf, AreSlotsOwned, units_at_most}
+use Rattle.regalloc2_semantics.specs.Places.{IsValidPlace, PlacesAreValid, Owner, OfVReg, OfBranch, IsSlotOf, AreSlotsOwned, units_at_most}
 use Rattle.regalloc2_semantics.specs.Values.{Meaning, SameNumbers, numbers}
 use Rattle.regalloc2_semantics.specs.Live.{NamesAt, DefinesAt, IsLive}
 
@@ -86,16 +86,16 @@ pub record HasRegistersForAll (f : FunctionValue) (env : MachineValue) : Type 0 
 pub record IsAllocation (f : FunctionValue) (env : MachineValue) (out : OutputValue) : Type 0 where
   pub in_order : IsInOrder f out
   pub constraints : (i : ℕ) → i < length f.insts → ConstraintsMet f env out i
-  pub proper : PlacesAreProper f env out
+  pub proper : PlacesAreValid f env out
   pub no_stack_to_stack : All (λ e. IsStackToStack env e.1 → ⊥) out.edits
   pub listed : All (λ e. (b i : ℕ) × (b < length f.blocks) × ((block_at f b).range.first ≤ i) × (i < (block_at f b).range.end)
       × (is_listed_at (block_at f b).range.first i e.0 ≡ true)) out.edits
-  pub faithful : IsWrittenFirst f → RunsAsTheFunction f env out
+  pub faithful : IsDefinitelyAssigned f → RunsAsTheFunction f env out
   pub owners : AreSlotsOwned f out
-  pub live : IsWrittenFirst f → LiveInSlots f out owners.owner
+  pub live : IsDefinitelyAssigned f → LiveInSlots f out owners.owner
   pub slots : (out.num_spillslots ≤ 2 ^ 24) × (out.num_spillslots ≤ units_at_most f)
   pub unspilled : HasRegistersForAll f env → (out.edits ≡ []) × (out.num_spillslots ≡ 0)
   pub branch_slots : (n i : ℕ) (class : RegClass) (index : ℕ) → IsSlotOf out n → owners.owner n ≡ OfBranch i class index → ServesBranch out n i index
-  pub labels : AreDebugLocations f (λ l d. IsProperPlace env out l.vreg.class d.place
+  pub labels : AreDebugLocations f (λ l d. IsValidPlace env out l.vreg.class d.place
       × (((i k : ℕ) × NamesAt f l.vreg i k × (place_at (allocs_of out i) k ≡ d.place)) ⊎ ((n : ℕ) × (d.place ≡ InSlot n) × (owners.owner n ≡ OfVReg l.vreg)))
-      × (IsWrittenFirst f → ShowsValue f out l.vreg d.place)) out
+      × (IsDefinitelyAssigned f → ShowsValue f out l.vreg d.place)) out

@@ -1,7 +1,7 @@
 -- Debug points and labels: from where to where a vreg's value can be shown, the debug locations that an output has to give, and the place
 -- that holds a labelled vreg's value at each step of a path.
 -- The points are as in upstream's `vreg_to_live_inst_range`; the definition of holding the value is this project's own.
--- `run` guarantees `AreDebugLocations`, with valid places (`IsProperPlace`) of the labels' vregs; they hold their vregs' values if no path from
+-- `run` guarantees `AreDebugLocations`, with valid places (`IsValidPlace`) of the labels' vregs; they hold their vregs' values if no path from
 -- the entry reads or passes a vreg before writing it (the field `labels` of `IsAllocation`).
 use Rattle.std.specs.Prelude.{ℕ, ◌≡◌, ◌+◌, ◌/◌, ◌<◌, ◌≤◌, ◌⊎◌, List, [], ◌∷◌, length, Contains, IsPermutation, false, Some}
 use Rattle.std.specs.Ordering.{nat_cmp}

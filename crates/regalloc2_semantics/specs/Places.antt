@@ -1,4 +1,4 @@
--- Valid places (`IsProperPlace`), and spill slots as memory: who owns each, which units it stands for, and how many units slots may take.
+-- Valid places (`IsValidPlace`), and spill slots as memory: who owns each, which units it stands for, and how many units slots may take.
 -- What upstream's allocators take for granted of places. Cells are kept by name; the facts on slots make the names real, disjoint memory.
 use Rattle.std.specs.Prelude.{ℕ, ◌≡◌, ◌<◌, ◌⊎◌, true, false, All, length, Some, ◌≢◌, ◌+◌, ◌-◌, ◌%◌, ◌≤◌, if◌then◌else◌, Any as SomeIn, ◌*◌}
 use Rattle.std.specs.Prelude.{max}
@@ -12,19 +12,19 @@ use Rattle.regalloc2_function.specs.Machine.{MachineValue, is_allocatable, scrat
 use Rattle.regalloc2_function.specs.OutputValue.{OutputValue, allocs_of, place_at}
 
 -- a place that may hold a value of a class
-abbrev pub IsProperPlace : MachineValue → OutputValue → RegClass → Place → Type 0
-IsProperPlace env out class NoPlace = ⊥
-IsProperPlace env out class (InRegister r) = (is_allocatable env class r ≡ true) ⊎ (IsFixedStackSlot env r × (r.class ≡ class))
-IsProperPlace env out class (InSlot n) = n < out.num_spillslots
+abbrev pub IsValidPlace : MachineValue → OutputValue → RegClass → Place → Type 0
+IsValidPlace env out class NoPlace = ⊥
+IsValidPlace env out class (InRegister r) = (is_allocatable env class r ≡ true) ⊎ (IsFixedStackSlot env r × (r.class ≡ class))
+IsValidPlace env out class (InSlot n) = n < out.num_spillslots
 
 -- an end of a move
 abbrev pub IsMoveEnd : MachineValue → OutputValue → Place → Type 0
-IsMoveEnd env out p = (c : RegClass) × (IsProperPlace env out c p ⊎ ((r : Register) × (scratch_of env c ≡ Some r) × (p ≡ InRegister r)))
+IsMoveEnd env out p = (c : RegClass) × (IsValidPlace env out c p ⊎ ((r : Register) × (scratch_of env c ≡ Some r) × (p ≡ InRegister r)))
 
 -- The places of all operands that name a vreg, and both ends of all moves, are valid.
-pub record PlacesAreProper (f : FunctionValue) (env : MachineValue) (out : OutputValue) : Type 0 where
+pub record PlacesAreValid (f : FunctionValue) (env : MachineValue) (out : OutputValue) : Type 0 where
   pub operands : (i : ℕ) → i < length f.insts → EachOperand (inst_at f i) (λ k o.
-      is_fixed_nonallocatable o ≡ false → IsProperPlace env out o.vreg.class (place_at (allocs_of out i) k))
+      is_fixed_nonallocatable o ≡ false → IsValidPlace env out o.vreg.class (place_at (allocs_of out i) k))
   pub moves : All (λ e. IsMoveEnd env out e.1.from × IsMoveEnd env out e.1.to) out.edits
 
 -- whose values a slot holds: a vreg's, or the values that a branch's moves of arguments save in its slot of an index for a class

@@ -107,8 +107,8 @@ abbrev pub source_read : FunctionValue → List Way → OperandValue → Option 
 source_read f ws o = read_of o.position (source_before f ws o.vreg) (source_after f ws o.vreg)
 
 -- each vreg is definitely assigned: at the last step of every path each use, and each argument on an edge from there, finds a write
-abbrev pub IsWrittenFirst : FunctionValue → Type 0
-IsWrittenFirst f = (ws : List Way) → IsPath f ws →
+abbrev pub IsDefinitelyAssigned : FunctionValue → Type 0
+IsDefinitelyAssigned f = (ws : List Way) → IsPath f ws →
     ((k : ℕ) → k < length (last_inst f ws).operands →
     let o : OperandValue = op_at (last_inst f ws).operands k in
     is_reading o ≡ true → IsSome (source_read f ws o))

@@ -9,12 +9,12 @@ use Rattle.regalloc2_function.specs.Machine.{MachineValue}
 use Rattle.regalloc2_function.specs.OutputValue.{OutputValue, DebugLocation}
 use Rattle.regalloc2_semantics.specs.Debug.{AreLocationsOf, AreDebugLocations, IsKept}
 use Rattle.regalloc2_semantics.specs.Debug.AreLocationsOf.{none, kept, left_out}
-use Rattle.regalloc2_semantics.specs.Places.{IsProperPlace}
+use Rattle.regalloc2_semantics.specs.Places.{IsValidPlace}
 
 module _ (f : FunctionValue) (env : MachineValue) (out : OutputValue) where
   -- the place is valid for the label's vreg
   abbrev IsProperFor : Label → DebugLocation → Type 0
-  IsProperFor l d = IsProperPlace env out l.vreg.class d.place
+  IsProperFor l d = IsValidPlace env out l.vreg.class d.place
 
   -- one of the labels is kept, and has the location's number and points
   abbrev IsOfSome : List Label → DebugLocation → Type 0

@@ -9,7 +9,7 @@ use Rattle.regalloc2_function.specs.Machine.{MachineValue}
 use Rattle.regalloc2_function.specs.OutputValue.{OutputValue, IsInOrder}
 use Rattle.regalloc2_semantics.specs.Faithful.{IsFaithful}
 use Rattle.regalloc2_function.specs.Fitting.{MachineFits}
-use Rattle.regalloc2_semantics.specs.Runs.{IsWrittenFirst}
+use Rattle.regalloc2_semantics.specs.Runs.{IsDefinitelyAssigned}
 use Rattle.regalloc2_function.specs.Stored.{NamesValues, output_of_stored}
 use Rattle.regalloc2_function.specs.WellFormed.{IsFramed, IsWellFormed}
 use Rattle.regalloc2_function.specs.declared.serialize.StoredOutput.{StoredOutput}
@@ -78,7 +78,7 @@ IsAccepted Replay given f env = IsGivenChecked f env given
 IsAccepted Allocated given f env = HasShown Allocated given f env
 IsAccepted Text given f env = Unit {0}
 IsAccepted Svg given f env = HasShown Svg given f env
-IsAccepted Reads given f env = IsFramed f × IsWrittenFirst f
+IsAccepted Reads given f env = IsFramed f × IsDefinitelyAssigned f
 IsAccepted Stats given f env = HasReported Stats given f env
 IsAccepted StatsJson given f env = HasReported StatsJson given f env
 IsAccepted Dump given f env = HasReported Dump given f env

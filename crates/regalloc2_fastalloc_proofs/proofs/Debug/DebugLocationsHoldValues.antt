@@ -4,11 +4,11 @@ use Rattle.std.specs.Prelude.{Option}
 use Rattle.regalloc2_names.specs.Register.{VirtualRegister}
 use Rattle.regalloc2_names.specs.Place.{Place, NoPlace, InRegister, InSlot}
 use Rattle.regalloc2_function.specs.FunctionValue.{FunctionValue, IsLimited, Label, inst_at, no_operand, op_at}
-use Rattle.regalloc2_semantics.specs.Places.{IsProperPlace}
+use Rattle.regalloc2_semantics.specs.Places.{IsValidPlace}
 use Rattle.regalloc2_function.specs.Fitting.{MachineFits}
 use Rattle.regalloc2_function.specs.Machine.{MachineValue}
 use Rattle.regalloc2_function.specs.OutputValue.{allocs_of, place_at}
-use Rattle.regalloc2_semantics.specs.Runs.{IsWrittenFirst}
+use Rattle.regalloc2_semantics.specs.Runs.{IsDefinitelyAssigned}
 use Rattle.regalloc2_names.specs.Operand.{is_fixed_nonallocatable}
 use Rattle.regalloc2_semantics.specs.Debug.{ShowsValue}
 use Rattle.regalloc2_function.specs.WellFormed.{IsWellFormed}
@@ -57,14 +57,14 @@ module _ (walk : WholeWalk) (m : IsOutputOfWalk walk.f walk.env (Made walk.f) (M
   -- an operand's place is valid for its vreg
   operand_proper : (v : VirtualRegister) (o : InstOperand) → o.inst < length f.insts → o.index < length (inst_at f o.inst).operands →
       is_fixed_nonallocatable (op_at (inst_at f o.inst).operands o.index) ≡ false → (op_at (inst_at f o.inst).operands o.index).vreg ≡ v →
-      IsProperPlace env out v.class (place_at (allocs_of out o.inst) o.index)
+      IsValidPlace env out v.class (place_at (allocs_of out o.inst) o.index)
   operand_proper v o lt less named is =
-      subst (λ (w : VirtualRegister). IsProperPlace env out w.class (place_at (allocs_of out o.inst) o.index)) is
+      subst (λ (w : VirtualRegister). IsValidPlace env out w.class (place_at (allocs_of out o.inst) o.index)) is
       ((made_proper f env (Made f) (MayInBlocks f) last out m).operands o.inst lt o.index no_operand less named)
 
   -- if there is no slot
-  by_proper : IsWrittenFirst f → (v : VirtualRegister) {by : Option InstOperand} → IsShownBy f v by → slot_name last.slots v.number ≡ NoPlace →
-      IsProperPlace env out v.class (place_of_operand out by)
+  by_proper : IsDefinitelyAssigned f → (v : VirtualRegister) {by : Option InstOperand} → IsShownBy f v by → slot_name last.slots v.number ≡ NoPlace →
+      IsValidPlace env out v.class (place_of_operand out by)
   by_proper written v (by_late_use o most r) none = operand_proper v o r.reader.inst r.reader.index
       (reads_allocated (op_at (inst_at f o.inst).operands o.index) r.reader.reading) r.reader.vreg
   by_proper written v (by_early_use o most never r) none = operand_proper v o r.reader.inst r.reader.index
@@ -79,24 +79,24 @@ module _ (walk : WholeWalk) (m : IsOutputOfWalk walk.f walk.env (Made walk.f) (M
   by_proper written v (by_definition o never d) none = operand_proper v o d.inst d.index
       (((all_proper env f limited ok).orderly o.inst d.inst).allocated o.index d.index d.definition) d.vreg
 
-  -- if each read is definitely assigned (`IsWrittenFirst`), the place that a debugger is shown for a vreg is valid for
+  -- if each read is definitely assigned (`IsDefinitelyAssigned`), the place that a debugger is shown for a vreg is valid for
   -- its class
-  pub place_proper : IsWrittenFirst f → (v : VirtualRegister) {by : Option InstOperand} → IsShownBy f v by →
-      IsProperPlace env out v.class (shown_place out (slot_name last.slots v.number) by)
+  pub place_proper : IsDefinitelyAssigned f → (v : VirtualRegister) {by : Option InstOperand} → IsShownBy f v by →
+      IsValidPlace env out v.class (shown_place out (slot_name last.slots v.number) by)
   place_proper written v {by} is = by_slot (slot_name last.slots v.number) refl (m.kept.safe.slots v.number)
     where
-      by_slot : (q : Place) → slot_name last.slots v.number ≡ q → IsSlotOrNone last.slots.count q → IsProperPlace env out v.class (shown_place out q by)
+      by_slot : (q : Place) → slot_name last.slots v.number ≡ q → IsSlotOrNone last.slots.count q → IsValidPlace env out v.class (shown_place out q by)
       by_slot NoPlace e below = by_proper written v is e
       by_slot (InRegister r) e below = absurd below
       by_slot (InSlot n) e below = subst (λ (c : ℕ). n < c) (sym m.count) below
 
   -- what a debug location must satisfy for its label
-  pub label_shown : MachineFits f env → IsWrittenFirst f → SlotsHaveOneOwner last.slots → ((i : ℕ) → i < length f.insts → AreSoundOperands (Made f)
+  pub label_shown : MachineFits f env → IsDefinitelyAssigned f → SlotsHaveOneOwner last.slots → ((i : ℕ) → i < length f.insts → AreSoundOperands (Made f)
       (inst_at f i).operands) → ReadsAgreeOnPaths f out → (stand : ℕ → VirtualRegister → Option Place) → AreAtBegin env f blank begin last out stand →
       (l : Label) (r : LiveRange) → IsKeptRange f l r →
-      (let p : Place = shown_place out (slot_name last.slots r.vreg.number) r.by in IsProperPlace env out l.vreg.class p × ShowsValue f out l.vreg p)
+      (let p : Place = shown_place out (slot_name last.slots r.vreg.number) r.by in IsValidPlace env out l.vreg.class p × ShowsValue f out l.vreg p)
   label_shown fits written owned sound_ops agree stand begins l r k =
-      subst (λ (n : ℕ). IsProperPlace env out l.vreg.class (shown_place out (slot_name last.slots n) r.by)
+      subst (λ (n : ℕ). IsValidPlace env out l.vreg.class (shown_place out (slot_name last.slots n) r.by)
       × ShowsValue f out l.vreg (shown_place out (slot_name last.slots n) r.by)) (ap (λ (w : VirtualRegister). w.number) (sym k.vreg)) (
         place_proper written l.vreg k.by,
         shown walk m written l.vreg ((shown_made env f limited ok) l.vreg k.by) fits owned sound_ops

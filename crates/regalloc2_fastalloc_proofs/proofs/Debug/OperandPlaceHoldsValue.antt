@@ -8,7 +8,7 @@ use Rattle.regalloc2_names.specs.Operand.{OperandValue, is_def}
 use Rattle.regalloc2_names.specs.Place.{Place, NoPlace, before}
 use Rattle.regalloc2_function.specs.FunctionValue.{block_at, inst_at, op_at}
 use Rattle.regalloc2_function.specs.OutputValue.{allocs_of, place_at}
-use Rattle.regalloc2_semantics.specs.Runs.{Way, Onward, ToSuccessor, end_of, IsPath, IsWrittenFirst, source_before, after_moves}
+use Rattle.regalloc2_semantics.specs.Runs.{Way, Onward, ToSuccessor, end_of, IsPath, IsDefinitelyAssigned, source_before, after_moves}
 use Rattle.regalloc2_semantics.specs.Debug.{GoesOn, there, further, ShowsValue, UsesAt}
 use Rattle.regalloc2_carry.specs.Carry.{Carries}
 use Rattle.regalloc2_carry.specs.Live.{HasEntered}
@@ -46,7 +46,7 @@ use Rattle.regalloc2_fastalloc_proofs.proofs.Walk.FunctionLaws.{PlacedCode, code
 use Rattle.regalloc2_fastalloc_proofs.proofs.Slots.StepsKeepSlots.{AnyPlace}
 use Rattle.regalloc2_semantics.specs.Laws.{Cells}
 
-module _ (walk : WholeWalk) (m : IsOutputOfWalk walk.f walk.env (Made walk.f) (MayInBlocks walk.f) walk.last walk.out) (written : IsWrittenFirst walk.f)
+module _ (walk : WholeWalk) (m : IsOutputOfWalk walk.f walk.env (Made walk.f) (MayInBlocks walk.f) walk.last walk.out) (written : IsDefinitelyAssigned walk.f)
     (v : VirtualRegister) (known : Made walk.f v) (id d il ko : ℕ) (un : IsUnslotted walk.f (allocs_of walk.out) walk.last v.number id il ko)
     (defines : defined.IsDefOperand walk.f v.number id d) (reads_v : (op_at (inst_at walk.f il).operands ko).vreg ≡ v) (il_lt : il < length walk.f.insts)
     (last_use : (j : ℕ) → UsesAt walk.f v j → j ≤ il) where

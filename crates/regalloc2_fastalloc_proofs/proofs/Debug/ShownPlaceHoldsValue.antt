@@ -11,7 +11,7 @@ use Rattle.regalloc2_names.specs.Place.{Place, NoPlace, InRegister, InSlot}
 use Rattle.regalloc2_function.specs.FunctionValue.{FunctionValue, block_at, inst_at, op_at, last_of}
 use Rattle.regalloc2_function.specs.Fitting.{MachineFits}
 use Rattle.regalloc2_function.specs.OutputValue.{allocs_of, place_at}
-use Rattle.regalloc2_semantics.specs.Runs.{end_of, IsWrittenFirst, arguments_at}
+use Rattle.regalloc2_semantics.specs.Runs.{end_of, IsDefinitelyAssigned, arguments_at}
 use Rattle.regalloc2_semantics.specs.Debug.{ShowsValue, UsesAt}
 use Rattle.regalloc2_semantics.specs.Sound.{HasSoundBlocks, target_at}
 use Rattle.regalloc2_carry.specs.Blocks.{IsUnwritten}
@@ -67,7 +67,7 @@ use_by f v i k lt less reads is = by (op_at (inst_at f i).operands k).position r
     by Early e = inl (reads_by f v Early i k lt less reads e is)
     by Late e = inr (inl (reads_by f v Late i k lt less reads e is))
 
-module _ (walk : WholeWalk) (m : IsOutputOfWalk walk.f walk.env (Made walk.f) (MayInBlocks walk.f) walk.last walk.out) (written : IsWrittenFirst walk.f)
+module _ (walk : WholeWalk) (m : IsOutputOfWalk walk.f walk.env (Made walk.f) (MayInBlocks walk.f) walk.last walk.out) (written : IsDefinitelyAssigned walk.f)
     (v : VirtualRegister) (known : Made walk.f v) where
   open walk use {env, f, limited, ok, blank, begin, last, out, empty, fit, walks}
 

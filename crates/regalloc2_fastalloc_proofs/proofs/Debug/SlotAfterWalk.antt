@@ -7,7 +7,7 @@ use Rattle.regalloc2_names.specs.Place.{InSlot}
 use Rattle.regalloc2_function.specs.FunctionValue.{FunctionValue, inst_at}
 use Rattle.regalloc2_function.specs.Machine.{MachineValue}
 use Rattle.regalloc2_function.specs.OutputValue.{OutputValue, allocs_of, place_at}
-use Rattle.regalloc2_semantics.specs.Runs.{Way, Onward, end_of, IsPath, IsWrittenFirst}
+use Rattle.regalloc2_semantics.specs.Runs.{Way, Onward, end_of, IsPath, IsDefinitelyAssigned}
 use Rattle.regalloc2_semantics.specs.Debug.{ShowsValue}
 use Rattle.regalloc2_function.specs.WellFormed.{DefinedOnce, IsWellFormed}
 use Rattle.regalloc2_semantics.specs.Laws.{ReadsAgreeOnPaths}
@@ -75,7 +75,7 @@ EnteredShows f out v n = (ws : List Way) → IsPath f ws → HasEntered f ws →
     (inst_at f (end_of f ws).inst).is_branch ≡ false → ShowsAt f out v (InSlot n) ws
 
 -- a vreg's slot at the walk's end holds its value, if it does after each definition and at each block's start
-pub left_slot_shows : (env : MachineValue) (f : FunctionValue) → IsWellFormed env f → IsWrittenFirst f → (t : StateValue) (out : OutputValue) →
+pub left_slot_shows : (env : MachineValue) (f : FunctionValue) → IsWellFormed env f → IsDefinitelyAssigned f → (t : StateValue) (out : OutputValue) →
     IsOutputOfWalk f env (Made f) (MayInBlocks f) t out → SlotsHaveOneOwner t.slots → ((i : ℕ) → i < length f.insts → AreSoundOperands (Made f) (inst_at f i).operands) →
     ReadsAgreeOnPaths f out → (v : VirtualRegister) → Made f v → (n : ℕ) → slot_name t.slots v.number ≡ InSlot n →
     DefinedShows f out v n → EnteredShows f out v n → ShowsValue f out v (InSlot n)

@@ -10,7 +10,7 @@ use Rattle.regalloc2_function.specs.Fitting.{MachineFits}
 use Rattle.regalloc2_function.specs.Machine.{MachineValue}
 use Rattle.regalloc2_function.specs.Listing.{moves_before}
 use Rattle.regalloc2_function.specs.OutputValue.{OutputValue, MoveValue, allocs_of}
-use Rattle.regalloc2_semantics.specs.Runs.{Way, end_of, IsPath, Stamp, IsWrittenFirst, source_before, after_moves, cells_before}
+use Rattle.regalloc2_semantics.specs.Runs.{Way, end_of, IsPath, Stamp, IsDefinitelyAssigned, source_before, after_moves, cells_before}
 use Rattle.regalloc2_carry.specs.BlockByPoints.{at_point, listed}
 use Rattle.regalloc2_semantics.specs.Live.{IsLive}
 use Rattle.regalloc2_semantics.specs.Sound.{Undefined}
@@ -85,7 +85,7 @@ pub record EntersWhereLive (f : FunctionValue) (v : VirtualRegister) (ws : List 
   pub plain : (inst_at f (end_of f ws).inst).is_branch ≡ false
 
 module _ (walk : WholeWalk) (fits : MachineFits walk.f walk.env) (m : IsOutputOfWalk walk.f walk.env (Made walk.f) (MayInBlocks walk.f) walk.last walk.out)
-    (written : IsWrittenFirst walk.f) (stand : ℕ → VirtualRegister → Option Place)
+    (written : IsDefinitelyAssigned walk.f) (stand : ℕ → VirtualRegister → Option Place)
     (at : AreAtBegin walk.env walk.f walk.blank walk.begin walk.last walk.out stand) (v : VirtualRegister) (known : Made walk.f v) (n : ℕ)
     (mine : slot_name walk.last.slots v.number ≡ InSlot n) where
   open walk use {env, f, limited, ok, blank, begin, last, out, empty, fit, walks}

@@ -8,7 +8,7 @@ use Rattle.regalloc2_names.specs.Place.{Place, InSlot, before}
 use Rattle.regalloc2_function.specs.FunctionValue.{FunctionValue, IsLimited, block_at, inst_at, no_operand, op_at, last_of}
 use Rattle.regalloc2_function.specs.Machine.{MachineValue}
 use Rattle.regalloc2_function.specs.OutputValue.{MoveValue, allocs_of}
-use Rattle.regalloc2_semantics.specs.Runs.{Way, Onward, ToSuccessor, end_of, IsPath, IsWrittenFirst, arguments_at, source_before, cells_before}
+use Rattle.regalloc2_semantics.specs.Runs.{Way, Onward, ToSuccessor, end_of, IsPath, IsDefinitelyAssigned, arguments_at, source_before, cells_before}
 use Rattle.regalloc2_semantics.specs.Live.{DefinesAt}
 use Rattle.regalloc2_function.specs.WellFormed.{IsWellFormed}
 use Rattle.regalloc2_carry.specs.Listing.{Item, exec_item}
@@ -197,7 +197,7 @@ module _ (walk : WholeWalk) (m : IsOutputOfWalk walk.f walk.env (Made walk.f) (M
       (sym (w.out v.number ((unnamed_before_definition env f limited ok) v.number i d plain (record { inst = lt; operand = less; definition = def; number = refl })) absent).1 ∙
       mine))
 
-  module _ (written : IsWrittenFirst f) where
+  module _ (written : IsDefinitelyAssigned f) where
     -- the cells at a path's end
     pub front_of : (ws : List Way) → IsPath f ws → (c : Cells) × Fronts f out rising ws c
     front_of [] path = (cells_before f out [], entered_front f out rising [] refl)

@@ -7,7 +7,7 @@ use Rattle.regalloc2_names.specs.Register.{VirtualRegister, is_vreg}
 use Rattle.regalloc2_names.specs.Operand.{OperandValue}
 use Rattle.regalloc2_function.specs.FunctionValue.{FunctionValue, block_at, inst_at}
 use Rattle.regalloc2_function.specs.Machine.{MachineValue}
-use Rattle.regalloc2_semantics.specs.Runs.{Way, Onward, ToSuccessor, end_of, IsPath, IsWrittenFirst}
+use Rattle.regalloc2_semantics.specs.Runs.{Way, Onward, ToSuccessor, end_of, IsPath, IsDefinitelyAssigned}
 use Rattle.regalloc2_function.specs.WellFormed.{IsWellFormed}
 use Rattle.regalloc2_semantics.specs.Debug.{UsesAt}
 use Rattle.regalloc2_semantics.specs.Live.{ReadsAt, PassesAt, IsLive, read_there, passed_there}
@@ -20,7 +20,7 @@ use Rattle.regalloc2_semantics.proofs.Given.{undefined_at}
 use Rattle.regalloc2_fastalloc_proofs.proofs.Debug.MovesLeaveSlot.{inside_block}
 use Rattle.regalloc2_fastalloc_proofs.proofs.Debug.SlotHoldsToUses.{StepsArePlain}
 
-module _ (env : MachineValue) (f : FunctionValue) (ok : IsWellFormed env f) (written : IsWrittenFirst f) (v : VirtualRegister) where
+module _ (env : MachineValue) (f : FunctionValue) (ok : IsWellFormed env f) (written : IsDefinitelyAssigned f) (v : VirtualRegister) where
   sound : HasSoundBlocks f
   sound = well_formed_are_sound env f ok
 

@@ -20,7 +20,7 @@ use Rattle.regalloc2_function.specs.OutputValue.{OutputValue, DebugLocation, Mov
 use Rattle.regalloc2_semantics.specs.Debug.{IsKept}
 use Rattle.regalloc2_semantics.specs.Faithful.{ConstraintsMet, IsStackToStack, Meets}
 use Rattle.regalloc2_function.specs.Fitting.{MachineFits}
-use Rattle.regalloc2_semantics.specs.Places.{PlacesAreProper, IsProperPlace, IsMoveEnd}
+use Rattle.regalloc2_semantics.specs.Places.{PlacesAreValid, IsValidPlace, IsMoveEnd}
 use Rattle.regalloc2_fastalloc_proofs.specs.InstSteps.{StateValue}
 use Rattle.regalloc2_fastalloc_proofs.specs.Safety.{MayBeLocatedAt, IsEndOfMove, IsEndOfArgMove, IsSafeEdit}
 use Rattle.regalloc2_fastalloc_state.specs.StateParts.{SpillSlotsValue, IsSlotOrNone, slot_name, PointsDescend}
@@ -181,7 +181,7 @@ pass_end env o s class (InSlot k) count h = (class, inl (omega arith))
 
 -- a place where a vreg may be is a valid place for its class, if slots are below the output's count
 pub proper_place : (env : MachineValue) (o : OutputValue) (s : SpillSlotsValue) (v : VirtualRegister) (p : Place) → AreBelow s o.num_spillslots →
-    MayBeLocatedAt env s v p → IsProperPlace env o v.class p
+    MayBeLocatedAt env s v p → IsValidPlace env o v.class p
 proper_place env o s v NoPlace below h = h
 proper_place env o s v (InRegister r) below (inl a, same) = inl (subst (λ (c : RegClass). is_allocatable env c r ≡ true) same a)
 proper_place env o s v (InRegister r) below (inr is, same) = inr (is, same)
@@ -194,12 +194,12 @@ slots_below f env Known May t o m = subst (AreBelow t.slots) (sym m.count) m.kep
 
 -- in an output made of the final state operands and moves have valid places
 pub made_proper : (f : FunctionValue) (env : MachineValue) (Known : VirtualRegister → Type 0) (May : ℕ → Type 0) (t : StateValue) (o : OutputValue) →
-    IsOutputOfWalk f env Known May t o → PlacesAreProper f env o
+    IsOutputOfWalk f env Known May t o → PlacesAreValid f env o
 made_proper f env Known May t o m = record {
   operands = λ i lt k d less named.
       let ops : List OperandValue = (inst_at f i).operands in
       let same : slice_index_or ops k d ≡ op_at ops k = get_or_default ops k d _ less in
-      subst (λ (x : OperandValue). IsProperPlace env o x.vreg.class (place_at (allocs_of o i) k)) (sym same)
+      subst (λ (x : OperandValue). IsValidPlace env o x.vreg.class (place_at (allocs_of o i) k)) (sym same)
       (proper_place env o t.slots (op_at ops k).vreg (place_at (allocs_of o i) k) (slots_below f env Known May t o m)
       ((operand_good f env Known May t o m i lt k less).place (ap is_fixed_nonallocatable (sym same) ∙ named)));
   moves = each_edit f env Known May t o (λ e. IsMoveEnd env o e.1.from × IsMoveEnd env o e.1.to) m (λ e s. elim s.moves [

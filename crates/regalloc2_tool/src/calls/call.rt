@@ -4,7 +4,7 @@ ghost use Rattle.std.specs.Prelude.{◌≡◌, true, false, IfOk, IfSome};
 ghost use Rattle.regalloc2_checker.specs.Cells.{AreCells};
 ghost use Rattle.regalloc2_semantics.specs.Faithful.{IsFaithful};
 ghost use Rattle.regalloc2_function.specs.OutputValue.{IsInOrder};
-ghost use Rattle.regalloc2_semantics.specs.Runs.{IsWrittenFirst};
+ghost use Rattle.regalloc2_semantics.specs.Runs.{IsDefinitelyAssigned};
 ghost use Rattle.regalloc2_function.specs.Stored.{NamesValues, output_of_stored};
 ghost use Rattle.regalloc2_function.specs.Views.{machine_of, output_of};
 ghost use Rattle.regalloc2_function.specs.WellFormed.{IsFramed};
@@ -457,7 +457,7 @@ fn judge_reads<F: Function, W: Write>(
     to: &mut W,
 ) -> Result<bool, CallError>
     requires framed { IsFramed (F.function f.now) }
-    ensures written { IfOk result (λ b. b ≡ true → IsWrittenFirst (F.function f.now)) }
+    ensures written { IfOk result (λ b. b ≡ true → IsDefinitelyAssigned (F.function f.now)) }
 {
     let Ok(are_written) = reads_written(alloc, f) else {
         return Err(CallError::Memory);
@@ -481,7 +481,7 @@ fn test_reads<F: Function, W: Write, E: Write>(
     to: &mut W,
     err: &mut E,
 ) -> Result<Verdict, CallError>
-    ensures { IfOk result (λ v. v ≡ Verdict.Accepted → IsFramed (F.function f.now) × IsWrittenFirst (F.function f.now)) }
+    ensures { IfOk result (λ v. v ≡ Verdict.Accepted → IsFramed (F.function f.now) × IsDefinitelyAssigned (F.function f.now)) }
 {
     if !is_framed(f) {
         err.write_all(b"not framed\n")?;

@@ -3,7 +3,7 @@ use Rattle.std.proofs.lemmas.List.{length-map}
 use Rattle.regalloc2_index.proofs.Bools.{false_refutes}
 use Rattle.regalloc2_names.specs.declared.RegClass.{RegClass}
 use Rattle.regalloc2_names.specs.Place.{Place}
-use Rattle.regalloc2_semantics.specs.Places.{IsProperPlace}
+use Rattle.regalloc2_semantics.specs.Places.{IsValidPlace}
 use Rattle.regalloc2_function.specs.Views.{machine_of, output_of}
 use Rattle.regalloc2_checker.specs.Cells.{location_of_index, IsTakenByLocation}
 use Rattle.regalloc2_checker.proofs.AddedSlots.{adds_more, adds_at, adds_all}
@@ -19,7 +19,7 @@ returns-then-not-is_proper_of_any-clause-fault g c f =
     let place = location_is c.args.output.now c.loop-k.k c.index-location.result.now _ within c.index-location.ensures in (
       less,
       λ class h. false_refutes c.is_proper_of_any.result c.if-not-is_proper_of_any.true c.is_proper_of_any.ensures.1
-          (class, subst (λ (p : Place). IsProperPlace (machine_of c.args.env.now) out class p) (sym place) h),
+          (class, subst (λ (p : Place). IsValidPlace (machine_of c.args.env.now) out class p) (sym place) h),
     )
 
 pub loop-k-preserved : goal.loop-k-preserved
@@ -34,7 +34,7 @@ loop-k-preserved g c =
       whole = c.loop-k.invariant.whole;
       within = omega (arith, c.loop-k-test.true);
       cells = below_more _ _ c.loop-k.invariant.cells
-          (subst (λ (p : Place). (class : RegClass) × IsProperPlace env out class p) place (c.is_proper_of_any.ensures.0 c.if-not-is_proper_of_any.false));
+          (subst (λ (p : Place). (class : RegClass) × IsValidPlace env out class p) place (c.is_proper_of_any.ensures.0 c.if-not-is_proper_of_any.false));
       named = adds_more (λ j n u. IsTakenByLocation out j n u) c.loop-k.k c.args.named.now c.loop-k.named
           c.add_slot.new.named c.loop-k.invariant.named
           (adds_at _ (location_of_index out c.loop-k.k) 1 1 c.loop-k.named c.add_slot.new.named place refl c.in_ok-add_slot.ensures);

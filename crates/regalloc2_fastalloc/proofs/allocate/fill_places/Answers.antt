@@ -9,7 +9,7 @@ use Rattle.regalloc2_names.specs.Register.{VirtualRegister}
 use Rattle.regalloc2_function.specs.FunctionValue.{FunctionValue, IsLimited, inst_at, slot_size}
 use Rattle.regalloc2_function.specs.Machine.{MachineValue}
 use Rattle.regalloc2_function.specs.OutputValue.{OutputValue}
-use Rattle.regalloc2_semantics.specs.Runs.{Location, IsWrittenFirst}
+use Rattle.regalloc2_semantics.specs.Runs.{Location, IsDefinitelyAssigned}
 use Rattle.regalloc2_semantics.specs.Faithful.{IsFaithful}
 use Rattle.regalloc2_semantics.specs.Live.{PassesAt}
 use Rattle.regalloc2_function.specs.Stored.{location_of}
@@ -254,7 +254,7 @@ made g c =
     }
 
 -- where no path reads or passes a vreg before writing it, the output is faithful
-faithful_is : (g : Over) (c : goal.After-reads_the_same_numbers g) → IsWrittenFirst (g.F.Function.function c.args.f.now) →
+faithful_is : (g : Over) (c : goal.After-reads_the_same_numbers g) → IsDefinitelyAssigned (g.F.Function.function c.args.f.now) →
     IsFaithful (g.F.Function.function c.args.f.now) (machine_of c.args.env.now) (out_of g c)
 faithful_is g c = λ written.
     let f : FunctionValue = g.F.Function.function c.args.f.now in
@@ -282,7 +282,7 @@ slots_owned_are g c =
     (sizes_agree f last.slots (sizes_kept f begin last n f.named_by_last_slot _ e.slots c.alloc_blocks.ensures.machine)) refl (λ i class m. (m.1, m.2))
 
 -- values that are live between blocks are in slots of their vregs
-live_is : (g : Over) (c : goal.After-reads_the_same_numbers g) → IsWrittenFirst (g.F.Function.function c.args.f.now) →
+live_is : (g : Over) (c : goal.After-reads_the_same_numbers g) → IsDefinitelyAssigned (g.F.Function.function c.args.f.now) →
     LiveInSlots (g.F.Function.function c.args.f.now) (out_of g c) (slots_owned_are g c).owned.owner
 live_is g c =
     let f : FunctionValue = g.F.Function.function c.args.f.now in
