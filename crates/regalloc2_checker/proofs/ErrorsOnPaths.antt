@@ -7,7 +7,7 @@ use Rattle.regalloc2_names.specs.declared.OperandPos.TheVariants.{Early, Late}
 use Rattle.regalloc2_names.specs.Register.{VirtualRegister}
 use Rattle.regalloc2_names.specs.Operand.{OperandValue}
 use Rattle.regalloc2_names.specs.Place.{Place}
-use Rattle.regalloc2_function.specs.FunctionValue.{FunctionValue, inst_at}
+use Rattle.regalloc2_function.specs.FunctionValue.{FunctionValue, inst_at, op_at}
 use Rattle.regalloc2_function.specs.Machine.{MachineValue}
 use Rattle.regalloc2_function.specs.OutputValue.{OutputValue, MoveValue, allocs_of, place_at}
 use Rattle.regalloc2_semantics.specs.Runs.{Location, moves_at}
@@ -16,7 +16,7 @@ use Rattle.regalloc2_checker.specs.declared.errors.CheckerError.{CheckerError}
 use Rattle.regalloc2_checker.specs.Facts.{Facts, facts_early, facts_after, facts_after_moves, facts_after_early_defs, facts_for}
 use Rattle.regalloc2_checker.specs.CheckInputs.{AreFactsKnown}
 use Rattle.regalloc2_checker.proofs.TransferFollowsFacts.{IsReadAt}
-use Rattle.regalloc2_checker.specs.Report.{operand_at, AreVRegsInValue, IsValueFault, IsOperandFault, IsFine, AreOperandsJudged, AreMoveFaults, InstReport}
+use Rattle.regalloc2_checker.specs.Report.{AreVRegsInValue, IsValueFault, IsOperandFault, IsFine, AreOperandsJudged, AreMoveFaults, InstReport}
 use Rattle.regalloc2_checker.specs.Report.IsValueFault.{unknown, incorrect}
 use Rattle.regalloc2_checker.specs.Report.IsOperandFault.{missing, of_value, of_constraint}
 
@@ -43,14 +43,14 @@ module _ (A B : VirtualRegister → Type 0) (h : (v : VirtualRegister) → A v �
 pub judged_as : {T : Type 0} (env : MachineValue) (inst : ℕ) (os : List OperandValue) (ps : List Place) (position : OperandPos)
     (A B : Place → VirtualRegister → Type 0) (h : (p : Place) (v : VirtualRegister) → A p v ↔ B p v)
     (r : Option (CheckerError T)) → AreOperandsJudged env inst os ps position A r → AreOperandsJudged env inst os ps position B r
-judged_as env inst os ps position A B h None j = λ k less at. fine_as (A (place_at ps k)) (B (place_at ps k)) (h (place_at ps k)) env (operand_at os k)
+judged_as env inst os ps position A B h None j = λ k less at. fine_as (A (place_at ps k)) (B (place_at ps k)) (h (place_at ps k)) env (op_at os k)
     (length os) ps (place_at ps k) (j k less at)
 judged_as env inst os ps position A B h (Some e) (k, less, at, before, f) = (
   k,
   less,
   at,
-  λ i l a. fine_as (A (place_at ps i)) (B (place_at ps i)) (h (place_at ps i)) env (operand_at os i) (length os) ps (place_at ps i) (before i l a),
-  fault_as (A (place_at ps k)) (B (place_at ps k)) (h (place_at ps k)) env inst (operand_at os k) (length os) ps (place_at ps k) e f,
+  λ i l a. fine_as (A (place_at ps i)) (B (place_at ps i)) (h (place_at ps i)) env (op_at os i) (length os) ps (place_at ps i) (before i l a),
+  fault_as (A (place_at ps k)) (B (place_at ps k)) (h (place_at ps k)) env inst (op_at os k) (length os) ps (place_at ps k) e f,
 )
 
 -- what holds where early uses are read

@@ -21,7 +21,7 @@ use Rattle.regalloc2_semantics.specs.Faithful.{Meets, ConstraintsMet, IsStackToS
 use Rattle.regalloc2_function.specs.WellFormed.{IsFramed}
 use Rattle.regalloc2_checker.specs.declared.errors.CheckerError.{CheckerError}
 use Rattle.regalloc2_checker.specs.Fixpoint.{IsReachedBlock, nth_of}
-use Rattle.regalloc2_checker.specs.Report.{operand_at, IsValueFault, IsConstraintFault, IsOperandFault, IsFine, IsFineAt, AreFineBelow, AreOperandsJudged}
+use Rattle.regalloc2_checker.specs.Report.{IsValueFault, IsConstraintFault, IsOperandFault, IsFine, IsFineAt, AreFineBelow, AreOperandsJudged}
 use Rattle.regalloc2_checker.specs.Report.{AreMoveFaults, InstReport, InstReports, BlockReport, BlockReports, IsReport}
 use Rattle.regalloc2_checker.proofs.Fixpoint.{reached_block, from_first, located, reached_within}
 use Rattle.regalloc2_checker.proofs.FixpointDecides.{block_within, before_end}
@@ -93,17 +93,17 @@ fault_fine env inst op count places p Has e (IsOperandFault.of_constraint _ n r 
 
 none_judged : {A : Type 0} (env : MachineValue) (inst : ℕ) (ops : List OperandValue) (places : List Place) (position : OperandPos)
     (Has : OperandPos → Place → VirtualRegister → Type 0) (r : Option (CheckerError A)) →
-    ((k : ℕ) → k < length ops → IsFineAt env ops places (Has (operand_at ops k).position) k) → AreOperandsJudged env inst ops places position (Has position)
+    ((k : ℕ) → k < length ops → IsFineAt env ops places (Has (op_at ops k).position) k) → AreOperandsJudged env inst ops places position (Has position)
     r → r ≡ None
 none_judged env inst ops places position Has None h j = refl
 none_judged env inst ops places position Has (Some e) h (k, less, at, below, fault) =
-    absurd (fault_fine env inst (operand_at ops k) (length ops) places (place_at places k) (Has position (place_at places k)) e fault
+    absurd (fault_fine env inst (op_at ops k) (length ops) places (place_at places k) (Has position (place_at places k)) e fault
     (subst (λ (q : OperandPos). IsFineAt env ops places (Has q) k) at (h k less)))
 
 -- an instruction without errors
 fine_at : {A : Type 0} (f : FunctionValue) (env : MachineValue) (o : OutputValue) (l : Location) (r : InstReport {A = A} f env o l []) → (k : ℕ) →
     k < length (inst_at f l.inst).operands →
-    IsFineAt env (inst_at f l.inst).operands (allocs_of o l.inst) (HoldsOnPaths f o l (operand_at (inst_at f l.inst).operands k).position) k
+    IsFineAt env (inst_at f l.inst).operands (allocs_of o l.inst) (HoldsOnPaths f o l (op_at (inst_at f l.inst).operands k).position) k
 fine_at f env o l r k less =
     let operands : List OperandValue = (inst_at f l.inst).operands in
     let none = right_none r.of_moves (option_to_list r.of_early ++ option_to_list r.of_late) (sym r.all) in
@@ -111,12 +111,12 @@ fine_at f env o l r k less =
     (is_none r.of_early (left_none _ _ none)) r.early in
     let late = subst (λ (x : Option (CheckerError _)). AreOperandsJudged env l.inst operands (allocs_of o l.inst) Late (HoldsOnPaths f o l Late) x)
     (is_none r.of_late (right_none (option_to_list r.of_early) _ none)) r.late in
-    pick f env o l k less early late (operand_at operands k).position refl
+    pick f env o l k less early late (op_at operands k).position refl
   where
     pick : (f : FunctionValue) (env : MachineValue) (o : OutputValue) (l : Location) (k : ℕ) → k < length (inst_at f l.inst).operands →
         AreFineBelow env (inst_at f l.inst).operands (allocs_of o l.inst) Early (HoldsOnPaths f o l Early) (length (inst_at f l.inst).operands) →
         AreFineBelow env (inst_at f l.inst).operands (allocs_of o l.inst) Late (HoldsOnPaths f o l Late) (length (inst_at f l.inst).operands) →
-        (p : OperandPos) → (operand_at (inst_at f l.inst).operands k).position ≡ p →
+        (p : OperandPos) → (op_at (inst_at f l.inst).operands k).position ≡ p →
         IsFineAt env (inst_at f l.inst).operands (allocs_of o l.inst) (HoldsOnPaths f o l p) k
     pick f env o l k less early late Early e = early k less e
     pick f env o l k less early late Late e = late k less e
@@ -125,13 +125,9 @@ step_faithful : {A : Type 0} (f : FunctionValue) (env : MachineValue) (o : Outpu
     InstReport {A = A} f env o (end_of f ws) [] →
     ReadsAgree f o ws × ConstraintsMet f env o (end_of f ws).inst × All (λ m. IsStackToStack env m → ⊥) (moves_at f o (end_of f ws))
 step_faithful f env o ws h r =
-    let l : Location = end_of f ws in
-    let operands : List OperandValue = (inst_at f l.inst).operands in (
-      λ k less. subst (λ (op : OperandValue). is_reading op ≡ true → IsSome (source_read f ws op)
-          × (allocated_read f o ws k op ≡ source_read f ws op)) (get_or_default operands k _ no_operand less)
-          (λ reads. let x = (fine_at f env o l r k less).value reads ws h refl in (rw x.1 at x.0, x.1)),
-      λ k less. subst (λ (op : OperandValue). Meets env (length operands) (allocs_of o l.inst) op.constraint (place_at (allocs_of o l.inst) k))
-          (get_or_default operands k _ no_operand less) (fine_at f env o l r k less).constraint,
+    let l : Location = end_of f ws in (
+      λ k less reads. let x = (fine_at f env o l r k less).value reads ws h refl in (rw x.1 at x.0, x.1),
+      λ k less. (fine_at f env o l r k less).constraint,
       no_move_faults env (moves_at f o l) r.of_moves r.moves (left_none r.of_moves _ (sym r.all)),
     )
 
@@ -185,30 +181,24 @@ report_faithful f env o es ok r e =
 -- an instruction that a path reaches, of a faithful output
 fine_reached : (f : FunctionValue) (env : MachineValue) (o : OutputValue) → IsFaithful f env o → (l : Location) → IsReached f l → (k : ℕ) →
     k < length (inst_at f l.inst).operands →
-    IsFineAt env (inst_at f l.inst).operands (allocs_of o l.inst) (HoldsOnPaths f o l (operand_at (inst_at f l.inst).operands k).position) k
+    IsFineAt env (inst_at f l.inst).operands (allocs_of o l.inst) (HoldsOnPaths f o l (op_at (inst_at f l.inst).operands k).position) k
 fine_reached f env o h l r k less = record {
   value = λ reads ws p e. held ws p e reads;
   constraint = subst (λ (m : Location). k < length (inst_at f m.inst).operands →
-      Meets env (length (inst_at f m.inst).operands) (allocs_of o m.inst) (operand_at (inst_at f m.inst).operands k).constraint
+      Meets env (length (inst_at f m.inst).operands) (allocs_of o m.inst) (op_at (inst_at f m.inst).operands k).constraint
       (place_at (allocs_of o m.inst) k)) r.2
-      (λ less. let ops : List OperandValue = (inst_at f (end_of f r.0).inst).operands in
-      subst (λ (op : OperandValue). Meets env (length ops) (allocs_of o (end_of f r.0).inst) op.constraint (place_at (allocs_of o (end_of f r.0).inst) k))
-      (get_or_default ops k no_operand _ less) (h.constraints r.0 r.1 k less)) less;
+      (h.constraints r.0 r.1 k) less;
 }
   where
-    held : (ws : List Way) → IsPath f ws → (e : end_of f ws ≡ l) → is_reading (operand_at (inst_at f l.inst).operands k) ≡ true →
-        IsSome (cell_at f o ws (operand_at (inst_at f l.inst).operands k).position (place_at (allocs_of o l.inst) k))
-        × (cell_at f o ws (operand_at (inst_at f l.inst).operands k).position (place_at (allocs_of o l.inst) k) ≡ source_read f ws
-        (operand_at (inst_at f l.inst).operands k))
-    held ws p e reads = subst (λ (m : Location). k < length (inst_at f m.inst).operands → is_reading (operand_at (inst_at f m.inst).operands k) ≡ true →
-        IsSome (cell_at f o ws (operand_at (inst_at f m.inst).operands k).position (place_at (allocs_of o m.inst) k))
-        × (cell_at f o ws (operand_at (inst_at f m.inst).operands k).position (place_at (allocs_of o m.inst) k) ≡ source_read f ws
-        (operand_at (inst_at f m.inst).operands k))) e
-        (λ less reads. let ops : List OperandValue = (inst_at f (end_of f ws).inst).operands in
-        let same : op_at ops k ≡ operand_at ops k = get_or_default ops k no_operand _ less in
-        let x = subst (λ (op : OperandValue). is_reading op ≡ true → IsSome (source_read f ws op) × (allocated_read f o ws k op ≡ source_read f ws op)) same
-        (h.reads ws p k less) reads in
-        (rw (sym x.1) at x.0, x.1)) less reads
+    held : (ws : List Way) → IsPath f ws → (e : end_of f ws ≡ l) → is_reading (op_at (inst_at f l.inst).operands k) ≡ true →
+        IsSome (cell_at f o ws (op_at (inst_at f l.inst).operands k).position (place_at (allocs_of o l.inst) k))
+        × (cell_at f o ws (op_at (inst_at f l.inst).operands k).position (place_at (allocs_of o l.inst) k) ≡ source_read f ws
+        (op_at (inst_at f l.inst).operands k))
+    held ws p e reads = subst (λ (m : Location). k < length (inst_at f m.inst).operands → is_reading (op_at (inst_at f m.inst).operands k) ≡ true →
+        IsSome (cell_at f o ws (op_at (inst_at f m.inst).operands k).position (place_at (allocs_of o m.inst) k))
+        × (cell_at f o ws (op_at (inst_at f m.inst).operands k).position (place_at (allocs_of o m.inst) k) ≡ source_read f ws
+        (op_at (inst_at f m.inst).operands k))) e
+        (λ less reads. let x = h.reads ws p k less reads in (rw (sym x.1) at x.0, x.1)) less reads
 
 no_inst_errors : {A : Type 0} (f : FunctionValue) (env : MachineValue) (o : OutputValue) → IsFaithful f env o → (l : Location) → IsReached f l →
     (es : List (CheckerError A)) → InstReport f env o l es → es ≡ []

@@ -6,6 +6,7 @@ use Rattle.std.specs.Option.{is_some}
 use Rattle.std.specs.declared.vec.Vec.{Vec}
 use Rattle.std.proofs.lemmas.Bool.{cases_lt}
 use Rattle.std.proofs.lemmas.List.{get_or_default, append-nil, take_all}
+use Rattle.regalloc2_function.specs.FunctionValue.{no_operand, op_at}
 use Rattle.regalloc2_names.specs.declared.OperandPos.{OperandPos}
 use Rattle.regalloc2_names.specs.Register.{VirtualRegister}
 use Rattle.regalloc2_names.specs.Operand.{OperandValue, is_reading}
@@ -18,7 +19,7 @@ use Rattle.regalloc2_semantics.specs.Faithful.{Meets, IsStackToStack}
 use Rattle.regalloc2_checker.specs.declared.errors.CheckerError.{CheckerError}
 use Rattle.regalloc2_checker.specs.declared.errors.CheckerError.TheVariants.{MissingAllocation, UnknownValueInAllocation, IncorrectValuesInAllocation}
 use Rattle.regalloc2_checker.specs.declared.errors.CheckerError.TheVariants.{StackToStackMove}
-use Rattle.regalloc2_checker.specs.Report.{invalid_operand, operand_at, AreVRegsInValue, IsValueFault, IsConstraintFault, IsFineAt, IsFaultAt, AreFineBelow}
+use Rattle.regalloc2_checker.specs.Report.{AreVRegsInValue, IsValueFault, IsConstraintFault, IsFineAt, IsFaultAt, AreFineBelow}
 use Rattle.regalloc2_checker.specs.Report.{AreOperandsJudged, AreMoveFaults}
 use Rattle.regalloc2_checker.specs.Report.IsValueFault.{unknown, incorrect}
 use Rattle.regalloc2_checker.specs.Report.IsOperandFault.{missing, of_value, of_constraint}
@@ -50,8 +51,8 @@ incorrect_fault inst op p Has actual some other h = by_items actual.items refl
     by_items (v ∷ vs) e = incorrect other v ((h.members v).0 (subst (λ (xs : List VirtualRegister). Contains xs v) (sym e) (0, omega arith, refl))) actual h
 
 -- the operand that was read
-pub operand_is : (os : List OperandValue) (k : ℕ) (op : OperandValue) → k < length os → op ≡ get_or os k op → op ≡ operand_at os k
-operand_is os k op less is = is ∙ get_or_default os k op invalid_operand less
+pub operand_is : (os : List OperandValue) (k : ℕ) (op : OperandValue) → k < length os → op ≡ get_or os k op → op ≡ op_at os k
+operand_is os k op less is = is ∙ get_or_default os k op no_operand less
 
 -- a place that the test for a missing place accepts is the missing one
 pub is_missing : (p : Place) → is_no_place p ≡ true → p ≡ NoPlace
@@ -66,7 +67,7 @@ is_there (InRegister r) h e = absurd cc
 is_there (InSlot n) h e = absurd cc
 
 module _ {A : Type 0} (env : MachineValue) (inst : ℕ) (os : List OperandValue) (ps : List Place) (Has : Place → VirtualRegister → Type 0) (k : ℕ)
-    (op : OperandValue) (p : Place) (eo : op ≡ operand_at os k) (ep : p ≡ place_at ps k) where
+    (op : OperandValue) (p : Place) (eo : op ≡ op_at os k) (ep : p ≡ place_at ps k) where
   -- an operand whose place is missing has the error for that
   pub missing_at : is_no_place p ≡ true → IsFaultAt {A = A} env inst os ps Has k (MissingAllocation inst op)
   missing_at h = rw eo (missing (sym ep ∙ is_missing p h))
@@ -90,12 +91,12 @@ module _ {A : Type 0} (env : MachineValue) (inst : ℕ) (os : List OperandValue)
 -- one operand more
 pub fine_more : (env : MachineValue) (os : List OperandValue) (ps : List Place) (position : OperandPos) (Has : Place → VirtualRegister → Type 0) (k : ℕ) →
     AreFineBelow env os ps position Has k →
-    ((operand_at os k).position ≡ position → IsFineAt env os ps Has k) → AreFineBelow env os ps position Has (k + 1)
+    ((op_at os k).position ≡ position → IsFineAt env os ps Has k) → AreFineBelow env os ps position Has (k + 1)
 fine_more env os ps position Has k h here j less at = elim (cases_lt j k) [
   | inl l ↦ h j l at
   | inr g ↦ (
       let e : k ≡ j = omega arith in
-      subst (λ (n : ℕ). (operand_at os n).position ≡ position → IsFineAt env os ps Has n) e here at
+      subst (λ (n : ℕ). (op_at os n).position ≡ position → IsFineAt env os ps Has n) e here at
       )
 ]
 
@@ -107,7 +108,7 @@ fine_of P Q (Some e) s h = absurd cc
 -- an error of an operand is the first of its position, if all operands of that position before it are fine
 pub judged_some : {A : Type 0} (env : MachineValue) (inst : ℕ) (os : List OperandValue) (ps : List Place) (position : OperandPos)
     (Has : Place → VirtualRegister → Type 0) (k : ℕ) (r : Option (CheckerError A)) → is_some r ≡ true →
-    k < length os → (operand_at os k).position ≡ position → AreFineBelow env os ps position Has k →
+    k < length os → (op_at os k).position ≡ position → AreFineBelow env os ps position Has k →
     MatchOption r (IsFineAt env os ps Has k) (λ e. IsFaultAt env inst os ps Has k e) → AreOperandsJudged env inst os ps position Has r
 judged_some env inst os ps position Has k None s less at h m = absurd cc
 judged_some env inst os ps position Has k (Some e) s less at h m = (k, less, at, h, m)

@@ -5,15 +5,14 @@ use Rattle.regalloc2_names.specs.declared.RegClass.{RegClass}
 use Rattle.regalloc2_names.specs.Register.{Register}
 use Rattle.regalloc2_names.specs.Operand.{OperandValue, nonallocatable_register, is_fixed_nonallocatable}
 use Rattle.regalloc2_names.specs.Place.{Place, NoPlace, InRegister, InSlot}
-use Rattle.regalloc2_function.specs.FunctionValue.{FunctionValue, inst_at, slot_size}
+use Rattle.regalloc2_function.specs.FunctionValue.{FunctionValue, inst_at, slot_size, no_operand}
 use Rattle.regalloc2_function.specs.Machine.{MachineValue}
 use Rattle.regalloc2_function.specs.OutputValue.{OutputValue, MoveValue, allocs_of, place_at}
 use Rattle.regalloc2_semantics.specs.Places.{IsValidPlace, IsMoveEnd}
-use Rattle.regalloc2_checker.specs.Report.{invalid_operand}
 
 -- the operand of an instruction by its index, its place, the move of an index, and the place of a debug location
 abbrev pub operand_of : FunctionValue → ℕ → ℕ → OperandValue
-operand_of f i k = slice_index_or (inst_at f i).operands k invalid_operand
+operand_of f i k = slice_index_or (inst_at f i).operands k no_operand
 
 abbrev pub move_of_index : OutputValue → ℕ → MoveValue
 move_of_index out k = (slice_index_or out.edits k (0, record { from = NoPlace; to = NoPlace })).1

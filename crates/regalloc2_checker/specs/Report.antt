@@ -1,20 +1,19 @@
 -- The errors that a check reports, and their order.
 -- Kinds and fields are upstream's, of `CheckerError`. Which error of an operand is reported first, and that a place holds what it holds on every path, is
 -- this project's own.
-use Rattle.std.specs.Prelude.{ℕ, suc, ◌≡◌, ◌≢◌, ◌-◌, ◌<◌, ◌≤◌, ◌↔◌, true, false, List, [], ◌∷◌, ◌++◌, map, length, slice_index_or, Contains, Option, None, Some}
+use Rattle.std.specs.Prelude.{ℕ, suc, ◌≡◌, ◌≢◌, ◌-◌, ◌<◌, ◌≤◌, ◌↔◌, true, false, List, [], ◌∷◌, ◌++◌, map, length, Contains, Option, None, Some}
 use Rattle.std.specs.Option.{option_to_list}
 use Rattle.std.specs.List.Sorted.{IsStrictlyIncreasing}
 use Rattle.std.specs.declared.vec.Vec.{Vec}
 use Rattle.regalloc2_names.specs.declared.OperandConstraint.{OperandConstraint}
-use Rattle.regalloc2_names.specs.declared.OperandConstraint.TheVariants.{Any, Reg, Stack, FixedReg, Reuse, Limit}
-use Rattle.regalloc2_names.specs.declared.OperandKind.TheVariants.{Use}
+use Rattle.regalloc2_names.specs.declared.OperandConstraint.TheVariants.{Reg, Stack, FixedReg, Reuse, Limit}
 use Rattle.regalloc2_names.specs.declared.OperandPos.{OperandPos}
 use Rattle.regalloc2_names.specs.declared.OperandPos.TheVariants.{Early, Late}
-use Rattle.regalloc2_names.specs.Register.{Register, VirtualRegister, invalid_vreg}
+use Rattle.regalloc2_names.specs.Register.{Register, VirtualRegister}
 use Rattle.regalloc2_names.specs.RegisterBits.{bits_of_vreg}
 use Rattle.regalloc2_names.specs.Operand.{OperandValue, is_reading}
 use Rattle.regalloc2_names.specs.Place.{Place, NoPlace, InRegister, InSlot, is_in_register}
-use Rattle.regalloc2_function.specs.FunctionValue.{FunctionValue, block_at, inst_at}
+use Rattle.regalloc2_function.specs.FunctionValue.{FunctionValue, block_at, inst_at, op_at}
 use Rattle.regalloc2_function.specs.Machine.{MachineValue, IsStackPlace, IsPlainRegister}
 use Rattle.regalloc2_function.specs.OutputValue.{OutputValue, MoveValue, allocs_of, place_at}
 use Rattle.regalloc2_semantics.specs.Runs.{Location, moves_at}
@@ -32,14 +31,6 @@ abbrev pub IsNumberedBelow : Place → ℕ → Type 0
 IsNumberedBelow NoPlace n = ⊥
 IsNumberedBelow (InRegister r) n = r.number < n
 IsNumberedBelow (InSlot m) n = ⊥
-
--- an operand that no instruction has
-abbrev pub invalid_operand : OperandValue
-invalid_operand = record { vreg = invalid_vreg; constraint = Any; kind = Use; position = Early }
-
--- the operand of an index
-abbrev pub operand_at : List OperandValue → ℕ → OperandValue
-operand_at operands k = slice_index_or operands k invalid_operand
 
 -- the vregs that pass a test, by rising bits
 pub record AreVRegsInValue (Has : VirtualRegister → Type 0) (vs : List VirtualRegister) : Type 0 where
@@ -81,21 +72,21 @@ pub record IsFine (env : MachineValue) (op : OperandValue) (count : ℕ) (places
 
 -- what is found of the operand of an index, by what places hold where it is read or written
 abbrev pub IsFineAt : MachineValue → List OperandValue → List Place → (Place → VirtualRegister → Type 0) → ℕ → Type 0
-IsFineAt env operands places Has k = IsFine env (operand_at operands k) (length operands) places (place_at places k) (Has (place_at places k))
+IsFineAt env operands places Has k = IsFine env (op_at operands k) (length operands) places (place_at places k) (Has (place_at places k))
 
 abbrev pub IsFaultAt : {A : Type 0} → MachineValue → ℕ → List OperandValue → List Place → (Place → VirtualRegister → Type 0) → ℕ → CheckerError A → Type 0
-IsFaultAt env inst operands places Has k e = IsOperandFault env inst (operand_at operands k) (length operands) places (place_at places k)
+IsFaultAt env inst operands places Has k e = IsOperandFault env inst (op_at operands k) (length operands) places (place_at places k)
     (Has (place_at places k)) e
 
 -- the operands of a position below an index are fine
 abbrev pub AreFineBelow : MachineValue → List OperandValue → List Place → OperandPos → (Place → VirtualRegister → Type 0) → ℕ → Type 0
-AreFineBelow env operands places position Has n = (k : ℕ) → k < n → (operand_at operands k).position ≡ position → IsFineAt env operands places Has k
+AreFineBelow env operands places position Has n = (k : ℕ) → k < n → (op_at operands k).position ≡ position → IsFineAt env operands places Has k
 
 -- the first error among the operands of a position, or none
 abbrev pub AreOperandsJudged : {A : Type 0} → MachineValue → ℕ → List OperandValue → List Place → OperandPos → (Place → VirtualRegister → Type 0) →
     Option (CheckerError A) → Type 0
 AreOperandsJudged env inst operands places position Has None = AreFineBelow env operands places position Has (length operands)
-AreOperandsJudged env inst operands places position Has (Some e) = (k : ℕ) × (k < length operands) × ((operand_at operands k).position ≡ position)
+AreOperandsJudged env inst operands places position Has (Some e) = (k : ℕ) × (k < length operands) × ((op_at operands k).position ≡ position)
     × AreFineBelow env operands places position Has k
     × IsFaultAt env inst operands places Has k e
 

@@ -9,7 +9,7 @@ use Rattle.std.proofs.lemmas.List.Sorted.{All-permutation}
 use Rattle.regalloc2_names.specs.Operand.{OperandValue, is_fixed, is_fixed_nonallocatable}
 use Rattle.regalloc2_names.specs.Place.{Place, NoPlace, InRegister, InSlot, is_no_place}
 use Rattle.regalloc2_names.specs.Register.{VirtualRegister}
-use Rattle.regalloc2_function.specs.FunctionValue.{FunctionValue, IsLimited, Label, inst_at, op_at, op_at as operand_at}
+use Rattle.regalloc2_function.specs.FunctionValue.{FunctionValue, IsLimited, Label, inst_at, op_at}
 use Rattle.regalloc2_function.specs.Machine.{MachineValue}
 use Rattle.regalloc2_function.specs.OutputValue.{DebugLocation, OutputValue, allocs_of, place_at}
 use Rattle.regalloc2_semantics.specs.Runs.{IsDefinitelyAssigned, Location}
@@ -49,11 +49,11 @@ module _ (env : MachineValue) (f : FunctionValue) (limited : IsLimited f) (ok : 
       (op_at (inst_at f o.inst).operands o.index).vreg ≡ v → MayBeLocatedAt env t.slots v (operand_place offsets allocs o)
   operand_stands v made o lt less is =
       let ops : List OperandValue = (inst_at f o.inst).operands in
-      let same : (operand_at ops o.index).vreg ≡ v = ap (λ (x : OperandValue). x.vreg) (get_or_default ops o.index _ _ less) ∙ is in
-      let small : (operand_at ops o.index).vreg.number < f.num_vregs = (let s = made_small f ok.defined_once v made in
+      let same : (op_at ops o.index).vreg ≡ v = ap (λ (x : OperandValue). x.vreg) (get_or_default ops o.index _ _ less) ∙ is in
+      let small : (op_at ops o.index).vreg.number < f.num_vregs = (let s = made_small f ok.defined_once v made in
       let e = ap (λ (w : VirtualRegister). w.number) same in omega (arith, s, e)) in
-      let there : MayBeLocatedAt env t.slots (operand_at ops o.index).vreg
-      (place_of f allocs o.inst o.index) = (kept.good o.inst o.index (omega arith) lt less).good.place (allocated (operand_at ops o.index) small) in
+      let there : MayBeLocatedAt env t.slots (op_at ops o.index).vreg
+      (place_of f allocs o.inst o.index) = (kept.good o.inst o.index (omega arith) lt less).good.place (allocated (op_at ops o.index) small) in
       subst (λ (p : Place). MayBeLocatedAt env t.slots v p) (ap (λ (n : ℕ). slice_index_or allocs (n + o.index) NoPlace) (sym (at o.inst lt)))
       (subst (λ (w : VirtualRegister). MayBeLocatedAt env t.slots w (place_of f allocs o.inst o.index)) same there)
 

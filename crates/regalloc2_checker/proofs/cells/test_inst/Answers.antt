@@ -2,11 +2,10 @@ use Rattle.std.proofs.Common.{◌≡◌, ◌∙◌, ap, refl, subst, arith, belo
 use Rattle.std.proofs.lemmas.List.{get_or_default}
 use Rattle.regalloc2_names.specs.Operand.{OperandValue}
 use Rattle.regalloc2_names.specs.Place.{Place}
-use Rattle.regalloc2_function.specs.FunctionValue.{slot_size}
+use Rattle.regalloc2_function.specs.FunctionValue.{slot_size, no_operand}
 use Rattle.regalloc2_function.specs.OutputValue.{place_at, allocs_of}
 use Rattle.regalloc2_function.specs.Views.{machine_of, output_of}
 use Rattle.regalloc2_checker.specs.Cells.{operand_of, IsOperandCell, IsTakenByOperand}
-use Rattle.regalloc2_checker.specs.Report.{invalid_operand}
 use Rattle.regalloc2_checker.proofs.AddedSlots.{adds_none, adds_more, adds_at, adds_all}
 use Rattle.std.proofs.lemmas.Bool.{false≢true}
 use Rattle.regalloc2_checker.proofs.cells.test_inst.Goals as goal
@@ -18,8 +17,8 @@ loop-k-preserved g c =
     let env = machine_of c.args.env.now in
     let operands = c.inst_operands-operands.result.now in
     let op : c.index-operands-k.result ≡ operand_of f c.args.inst c.loop-k.k =
-    c.index-operands-k.is ∙ get_or_default operands c.loop-k.k c.index-operands-k.result invalid_operand c.loop-k-test.true
-    ∙ ap (λ os. get_or os c.loop-k.k invalid_operand) c.loop-k.invariant.operands in
+    c.index-operands-k.is ∙ get_or_default operands c.loop-k.k c.index-operands-k.result no_operand c.loop-k-test.true
+    ∙ ap (λ os. get_or os c.loop-k.k no_operand) c.loop-k.invariant.operands in
     let place : c.place_at-place.result ≡ place_at (allocs_of out c.args.inst) c.loop-k.k =
     c.place_at-place.ensures ∙ ap (λ ps. place_at ps c.loop-k.k) c.loop-k.invariant.places in
     let units : c.spillslot_size.result ≡ slot_size f.slot_sizes (operand_of f c.args.inst c.loop-k.k).vreg.class =
@@ -66,8 +65,8 @@ returns-then-not-is_operand_cell-clause-fault g c =
     let env = machine_of c.args.env.now in
     let operands = c.inst_operands-operands.result.now in
     let op : c.index-operands-k.result ≡ operand_of f c.args.inst c.loop-k.k =
-    c.index-operands-k.is ∙ get_or_default operands c.loop-k.k c.index-operands-k.result invalid_operand c.loop-k-test.true
-    ∙ ap (λ os. get_or os c.loop-k.k invalid_operand) c.loop-k.invariant.operands in
+    c.index-operands-k.is ∙ get_or_default operands c.loop-k.k c.index-operands-k.result no_operand c.loop-k-test.true
+    ∙ ap (λ os. get_or os c.loop-k.k no_operand) c.loop-k.invariant.operands in
     let place : c.place_at-place.result ≡ place_at (allocs_of out c.args.inst) c.loop-k.k =
     c.place_at-place.ensures ∙ ap (λ ps. place_at ps c.loop-k.k) c.loop-k.invariant.places in
     let count = ap length c.loop-k.invariant.operands in (

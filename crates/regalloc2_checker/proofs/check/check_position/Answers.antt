@@ -1,20 +1,20 @@
 use Rattle.std.proofs.Common.{◌≡◌, ◌∙◌, ◌<◌, ℕ, List, Bool, length, subst, sym, arith}
 use Rattle.std.specs.Prelude.{true, ◌↔◌, IsTrue, slice_index_or}
 use Rattle.std.proofs.lemmas.List.{get_or_default}
+use Rattle.regalloc2_function.specs.FunctionValue.{no_operand, op_at}
 use Rattle.regalloc2_names.specs.Operand.{OperandValue}
 use Rattle.regalloc2_names.specs.declared.OperandPos.{OperandPos}
 use Rattle.regalloc2_names.specs.Register.{VirtualRegister}
 use Rattle.regalloc2_names.specs.Place.{Place}
 use Rattle.regalloc2_checker.specs.TableFacts.{facts_now}
-use Rattle.regalloc2_checker.specs.Report.{invalid_operand, operand_at}
 use Rattle.regalloc2_checker.proofs.OperandErrors.{fine_more, fine_of, judged_some, not_so}
 use Rattle.regalloc2_checker.proofs.check.check_position.Goals as goal
 
 -- the test of an operand's position is one of the operand at its index
 is_at-operand : (operands : List OperandValue) (k : ℕ) (o : OperandValue) (position : OperandPos) (test : Bool) → o ≡ slice_index_or operands k o →
-    k < length operands → IsTrue test ↔ (o.position ≡ position) → IsTrue test ↔ ((operand_at operands k).position ≡ position)
+    k < length operands → IsTrue test ↔ (o.position ≡ position) → IsTrue test ↔ ((op_at operands k).position ≡ position)
 is_at-operand operands k o position test is less h =
-    subst (λ (x : OperandValue). IsTrue test ↔ (x.position ≡ position)) (is ∙ get_or_default operands k o invalid_operand less) h
+    subst (λ (x : OperandValue). IsTrue test ↔ (x.position ≡ position)) (is ∙ get_or_default operands k o no_operand less) h
 
 pub loop-k-init : goal.loop-k-init
 loop-k-init g c = λ env h j less at. absurd (omega (arith, less))
