@@ -4,8 +4,7 @@ use Rattle.std.proofs.lemmas.List.{get_or-map}
 use Rattle.regalloc2_names.specs.declared.sets.PRegSet.{PRegSet}
 use Rattle.regalloc2_names.specs.declared.RegClass.{RegClass}
 use Rattle.regalloc2_names.specs.declared.RegClass.TheVariants.{Int, Float, Vector}
-use Rattle.regalloc2_names.specs.Register.{Register, class_code, has_register}
-use Rattle.regalloc2_function.specs.Machine.{empty_set}
+use Rattle.regalloc2_names.specs.Register.{Register, class_code, has_register, empty_set}
 use Rattle.regalloc2_names.specs.Place.{Place, NoPlace}
 use Rattle.regalloc2_function.specs.OutputValue.{MoveValue, DebugLocation}
 use Rattle.regalloc2_function.specs.Views.{edit_of, move_of, output_of}

@@ -2,9 +2,9 @@
 use Rattle.std.specs.Prelude.{◌≡◌, ◌↔◌, true, slice_index_or}
 use Rattle.regalloc2_names.specs.declared.RegClass.{RegClass}
 use Rattle.regalloc2_names.specs.declared.sets.PRegSet.{PRegSet}
-use Rattle.regalloc2_names.specs.Register.{Register, class_code, has_register}
+use Rattle.regalloc2_names.specs.Register.{Register, class_code, has_register, empty_set}
 use Rattle.regalloc2_names.specs.Place.{Place, NoPlace, InRegister, InSlot}
-use Rattle.regalloc2_function.specs.Machine.{MachineValue, empty_set, is_allocatable}
+use Rattle.regalloc2_function.specs.Machine.{MachineValue, is_allocatable}
 use Rattle.regalloc2_checker.specs.CheckInputs.{AreStackSlots}
 use Rattle.regalloc2_checker.specs.declared.cell_registers.CellRegisters.{CellRegisters}
 

@@ -3,8 +3,7 @@ use Rattle.std.proofs.Common.{ℕ, zero, suc, ◌≡◌, List, [], ◌∷◌, re
 use Rattle.regalloc2_names.specs.declared.RegClass.{RegClass}
 use Rattle.regalloc2_names.specs.declared.RegClass.TheVariants.{Int, Float, Vector}
 use Rattle.regalloc2_names.specs.declared.sets.PRegSet.{PRegSet}
-use Rattle.regalloc2_names.specs.Register.{Register, class_code, has_register}
-use Rattle.regalloc2_function.specs.Machine.{empty_set}
+use Rattle.regalloc2_names.specs.Register.{Register, class_code, has_register, empty_set}
 
 -- past an array's end there is no register
 pub zeros : (c : RegClass) → slice_index (0 ∷ 0 ∷ 0 ∷ []) (class_code c) ≡ 0

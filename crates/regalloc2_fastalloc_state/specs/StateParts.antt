@@ -4,10 +4,10 @@ use Rattle.std.specs.Prelude.{slice_index, slice_index_or, Option, None, Some, i
 use Rattle.std.specs.Int.{next_multiple_of}
 use Rattle.std.specs.List.{count_by}
 use Rattle.regalloc2_names.specs.declared.RegClass.{RegClass}
-use Rattle.regalloc2_names.specs.Register.{class_code, Register, VirtualRegister, has_register}
+use Rattle.regalloc2_names.specs.Register.{class_code, Register, VirtualRegister, has_register, empty_set}
 use Rattle.regalloc2_parts.specs.Ring.{AreDistinctOf}
 use Rattle.regalloc2_semantics.specs.Fits.{register_number}
-use Rattle.regalloc2_function.specs.Machine.{count_below, empty_set}
+use Rattle.regalloc2_function.specs.Machine.{count_below}
 use Rattle.regalloc2_function.specs.OutputValue.{MoveValue}
 use Rattle.regalloc2_names.specs.RegisterBits.{bits_of_register}
 use Rattle.regalloc2_names.specs.declared.sets.PRegSet.{PRegSet}

@@ -3,11 +3,8 @@
 use Rattle.std.specs.Prelude.{Bool, ◌||◌, List, [], ◌∷◌, Contains, Option, None, slice_index_or, ℕ, zero, suc, ◌+◌, if◌then◌else◌}
 use Rattle.regalloc2_names.specs.declared.RegClass.{RegClass}
 use Rattle.regalloc2_names.specs.declared.sets.PRegSet.{PRegSet}
-use Rattle.regalloc2_names.specs.Register.{Register, class_code, has_register}
+use Rattle.regalloc2_names.specs.Register.{Register, class_code, empty_set, has_register}
 use Rattle.regalloc2_names.specs.Place.{Place, NoPlace, InRegister, InSlot}
-
-abbrev pub empty_set : PRegSet
-empty_set = record { bits = 0 ∷ 0 ∷ 0 ∷ [] }
 
 -- a machine; the lists by class have three members
 pub record MachineValue : Type 0 where

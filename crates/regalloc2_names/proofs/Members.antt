@@ -1,12 +1,22 @@
 -- The members of a word.
 use Rattle.std.proofs.Common.{ℕ, zero, suc, ◌≡◌, ◌≢◌, ◌<◌, ◌≤◌, ◌+◌, ◌-◌, ◌*◌, ◌%◌, ◌^◌, refl, arith, bit_and, ◌∙◌, sym, ap, [], ◌∷◌, w64, inl, inr}
-use Rattle.std.specs.Prelude.{◌⊎◌}
+use Rattle.std.specs.Prelude.{◌⊎◌, false, nat_eq, slice_index}
 use Rattle.std.proofs.lemmas.Bool.{cases_eq}
 use Rattle.std.specs.Int.{bit_at, trailing_zeros}
 use Rattle.std.proofs.lemmas.Nat.Bits.{bit_at-zero, bit_at-trailing_zeros, bit_at_clear_same, bit_at_clear_other}
 use Rattle.regalloc2_names.specs.declared.RegClass.{RegClass}
 use Rattle.regalloc2_names.specs.declared.RegClass.TheVariants.{Int, Float, Vector}
-use Rattle.regalloc2_names.specs.Register.{registers_of_words, word_members}
+use Rattle.regalloc2_names.specs.Register.{Register, class_code, empty_set, has_register, registers_of_words, word_members}
+
+-- the empty set has no register
+pub empty_has_none : (r : Register) → has_register empty_set r ≡ false
+unfolding has_register
+empty_has_none r = in_class r.class r.number
+  where
+    in_class : (class : RegClass) (n : ℕ) → nat_eq (bit_at (slice_index (0 ∷ 0 ∷ 0 ∷ []) (class_code class)) n) 1 ≡ false
+    in_class Int n = ap (λ b. nat_eq b 1) (bit_at-zero n)
+    in_class Float n = ap (λ b. nat_eq b 1) (bit_at-zero n)
+    in_class Vector n = ap (λ b. nat_eq b 1) (bit_at-zero n)
 
 -- a word without bits has no members
 pub members_zero : (class : RegClass) (n k : ℕ) → word_members class k n 0 ≡ []

@@ -67,6 +67,10 @@ invalid_vreg = record { number = 1073741823; class = Int }
 abbrev pub no_vreg : VirtualRegister
 no_vreg = record { number = 0; class = Int }
 
+-- the set without registers
+abbrev pub empty_set : PRegSet
+empty_set = record { bits = 0 ∷ 0 ∷ 0 ∷ [] }
+
 -- whether a set has a register: its bit in its class's word is 1
 unfoldable pub has_register : PRegSet → Register → Bool
 has_register s r = nat_eq (bit_at (slice_index s.bits (class_code r.class)) r.number) 1

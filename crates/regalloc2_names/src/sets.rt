@@ -1,7 +1,7 @@
 //! Sets of registers.
 
 ghost use Rattle.std.specs.Prelude.{◌≢◌, ◌∷◌, ◌^◌, slice_index, List, Contains, ◌≡◌, ◌≤◌, ℕ, ◌<◌, ◌↔◌, ◌||◌, ◌&&◌, not, false, true, IsTrue, IfSome, IsNone, length, nat_lt};
-ghost use Rattle.regalloc2_names.specs.Register.{IsRegister, Register, class_code, hw_limit, is_register, register_count, has_register, word_members};
+ghost use Rattle.regalloc2_names.specs.Register.{IsRegister, Register, class_code, hw_limit, is_register, register_count, empty_set, has_register, word_members};
 ghost use Rattle.regalloc2_names.specs.Register.{registers_of};
 ghost use Rattle.regalloc2_names.specs.RegisterBits.{bits_of_register, words_have};
 ghost use Rattle.std.specs.Int.{bit_at};
@@ -23,7 +23,8 @@ pub struct PRegSet {
 impl PRegSet {
     /// Returns the empty set.
     pub const fn empty() -> Self
-        ensures { (r : Register) → has_register result r ≡ false }
+        ensures none { (r : Register) → has_register result r ≡ false }
+        ensures same { result ≡ empty_set }
     {
         PRegSet { bits: [0; 3] }
     }

@@ -1,6 +1,6 @@
 //! Virtual registers.
 
-ghost use Rattle.std.specs.Prelude.{◌≡◌, ℕ, ◌<◌, ◌≤◌, ◌↔◌, IsTrue};
+ghost use Rattle.std.specs.Prelude.{◌≡◌, ℕ, ◌/◌, ◌<◌, ◌≤◌, ◌↔◌, IsTrue};
 ghost use Rattle.regalloc2_index.specs.Range.{number_limit};
 ghost use Rattle.regalloc2_names.specs.RegisterBits.{IsVRegBits, bits_of_vreg, vreg_of_bits};
 ghost use Rattle.regalloc2_names.specs.Register.{IsVirtualRegister, invalid_vreg};
@@ -86,6 +86,15 @@ impl VReg {
         ensures valid { IsVirtualRegister self }
     {
         self.bits as usize
+    }
+
+    /// Returns the number in `bits`, which may have the code of no class and then encode no vreg.
+    ///
+    /// Upstream: none.
+    pub const fn number_of_bits(bits: u32) -> u32
+        ensures { result ≡ bits / 4 }
+    {
+        bits >> Self::CLASS_BITS
     }
 
     /// Returns `true` if `bits` encode a vreg.

@@ -20,4 +20,3 @@ mod validate;
 pub use data::{InstOpcode, StoredFunction, StoredInst, StoredMachine};
 pub use from_json::FromValue;
 pub use tables::SerializableFunction;
-pub use validate::vreg_number;

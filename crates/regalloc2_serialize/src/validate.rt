@@ -162,25 +162,13 @@ fn are_ranges(ranges: &[(u32, u32)], count: usize) -> bool
         .all(|range| range.0 <= range.1 && range.1 as usize <= count)
 }
 
-/// The number of bits of the class in the word of a vreg, below the number.
-const CLASS_BITS: u32 = 2;
-
-/// Returns the number in the word `word` of a vreg.
-///
-/// The test of ranges comes before the test of words. Therefore `word` may encode no vreg.
-pub fn vreg_number(word: u32) -> u32
-    ensures { result ≡ word / 4 }
-{
-    word >> CLASS_BITS
-}
-
 /// Returns whether the number of each labelled vreg is below `num_vregs`.
 fn are_labels_below(labels: &[(u32, u32, u32, u32)], num_vregs: u64) -> bool
     ensures { IsTrue result ↔ All (λ l. l.0 / 4 < num_vregs) labels.now }
 {
     labels
         .iter()
-        .all(|label| u64::from(vreg_number(label.0)) < num_vregs)
+        .all(|label| u64::from(VReg::number_of_bits(label.0)) < num_vregs)
 }
 
 /// Returns whether `indexes` are indexes of registers.

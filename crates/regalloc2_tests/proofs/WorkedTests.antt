@@ -9,10 +9,10 @@ use Rattle.regalloc2_names.specs.declared.OperandPos.TheVariants.{Early, Late}
 use Rattle.regalloc2_names.specs.declared.RegClass.{RegClass}
 use Rattle.regalloc2_names.specs.declared.RegClass.TheVariants.{Int, Float, Vector}
 use Rattle.regalloc2_names.specs.Operand.{OperandValue, is_fixed_nonallocatable}
-use Rattle.regalloc2_names.specs.Register.{Register, has_register, class_code}
+use Rattle.regalloc2_names.specs.Register.{Register, has_register, class_code, empty_set}
 use Rattle.regalloc2_names.specs.Place.{after}
 use Rattle.regalloc2_function.specs.FunctionValue.{FunctionValue, InstValue, Label, EachOperand}
-use Rattle.regalloc2_function.specs.Machine.{MachineValue, empty_set, is_allocatable, IsFixedStackSlot, allocatable_count, count_below, scratch_of}
+use Rattle.regalloc2_function.specs.Machine.{MachineValue, is_allocatable, IsFixedStackSlot, allocatable_count, count_below, scratch_of}
 use Rattle.regalloc2_semantics.specs.Debug.{UsesAt, IsLastUse, IsLastPoint, IsKept}
 use Rattle.regalloc2_semantics.specs.Live.{ReadsAt, PassesAt}
 use Rattle.regalloc2_semantics.specs.Debug.IsFirstPoint.{of_definition as first_of_definition}

@@ -5,11 +5,10 @@ use Rattle.std.proofs.lemmas.List.Edits.{length-between}
 use Rattle.std.proofs.lemmas.List.{get_or_read}
 use Rattle.std.proofs.lemmas.List.FromFn.{get_or-map-range_with_len, length-map-range_with_len}
 use Rattle.regalloc2_index.specs.Range.{Span}
-use Rattle.regalloc2_names.specs.Register.{VirtualRegister}
+use Rattle.regalloc2_names.specs.Register.{VirtualRegister, empty_set}
 use Rattle.regalloc2_names.specs.Operand.{OperandValue}
 use Rattle.regalloc2_names.specs.declared.sets.PRegSet.{PRegSet}
 use Rattle.regalloc2_function.specs.FunctionValue.{no_block, no_inst}
-use Rattle.regalloc2_function.specs.Machine.{empty_set}
 use Rattle.regalloc2_serialize.specs.Flat.Columns.Value.{Columns, part, column_block, column_blocks, column_inst, column_insts}
 
 -- a block of columns has bounds

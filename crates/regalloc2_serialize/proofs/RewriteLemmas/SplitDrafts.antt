@@ -6,7 +6,6 @@ use Rattle.std.specs.List.{range_with_len}
 use Rattle.std.proofs.lemmas.Bool.Decides.{nat_tests}
 use Rattle.std.proofs.lemmas.List.{get_or-append-add, get_or-map, get_or_append_left, length-append, length-map}
 use Rattle.std.proofs.lemmas.List.FromFn.{get_or-map-range_with_len, length-map-range_with_len}
-use Rattle.regalloc2_names.specs.declared.sets.PRegSet.{PRegSet}
 use Rattle.regalloc2_function.specs.FunctionValue.{FunctionValue, InstValue, block_at, inst_at, no_inst, last_of}
 use Rattle.regalloc2_semantics.specs.Runs.{arguments_at}
 use Rattle.regalloc2_function.specs.WellFormed.{IsFramed, EndsBlock}
@@ -16,9 +15,9 @@ use Rattle.regalloc2_serialize.specs.Rewrite.SplitEdges.{Edge, edges_before, edg
 use Rattle.regalloc2_serialize.proofs.RewriteLemmas.EdgeLists.{IsAt, IsEdge, at-before, edge, edge-at, no_edge}
 use Rattle.regalloc2_serialize.proofs.RewriteLemmas.LaidLaws.{start-next}
 
-module _ (none : PRegSet) (f : FunctionValue) where
+module _ (f : FunctionValue) where
   abbrev pub all : List DraftValue
-  all = split_drafts none f
+  all = split_drafts f
 
   abbrev pub new : List Edge
   new = edges_before f (length f.blocks)
@@ -30,23 +29,23 @@ module _ (none : PRegSet) (f : FunctionValue) where
   kept-many = length-map-range_with_len (kept_block f) 0 (length f.blocks)
 
   pub all-many : length all ≡ length f.blocks + length new
-  all-many = length-append kept (map (jump_on none f) new) ∙ omega (arith, kept-many, length-map new (jump_on none f))
+  all-many = length-append kept (map (jump_on f) new) ∙ omega (arith, kept-many, length-map new (jump_on f))
 
   -- the first are the blocks
   pub draft-kept : (b : ℕ) → b < length f.blocks → draft_at all b ≡ kept_block f b
   draft-kept b less =
       let at : 0 + b ≡ b = omega arith in
-      get_or_append_left kept (map (jump_on none f) new) (declared_with []) b (omega (arith, kept-many, less))
+      get_or_append_left kept (map (jump_on f) new) (declared_with []) b (omega (arith, kept-many, less))
       ∙ get_or-map-range_with_len (kept_block f) 0 (length f.blocks) b b (declared_with []) less at
 
-  draft-new : (i : ℕ) (e : Edge) → IsAt new i e → draft_at all (length f.blocks + i) ≡ jump_on none f e
+  draft-new : (i : ℕ) (e : Edge) → IsAt new i e → draft_at all (length f.blocks + i) ≡ jump_on f e
   draft-new i e h =
-      ap (λ (n : ℕ). draft_at all (n + i)) (sym kept-many) ∙ get_or-append-add kept (map (jump_on none f) new) i (declared_with [])
-      ∙ get_or-map (jump_on none f) new i no_edge (declared_with []) h.less ∙ ap (jump_on none f) h.same
+      ap (λ (n : ℕ). draft_at all (n + i)) (sym kept-many) ∙ get_or-append-add kept (map (jump_on f) new) i (declared_with [])
+      ∙ get_or-map (jump_on f) new i no_edge (declared_with []) h.less ∙ ap (jump_on f) h.same
 
   -- behind them are the blocks on critical edges
   pub draft-between : (b k : ℕ) → b < length f.blocks → k < length (block_at f b).succs → is_critical f b k ≡ true →
-      draft_at all (number_on f b k) ≡ jump_on none f (edge b k)
+      draft_at all (number_on f b k) ≡ jump_on f (edge b k)
   draft-between b k less within critical =
       draft-new (length (edges_before f b ++ edges_upto f b k)) (edge b k) (at-before f b k (length f.blocks) less within critical)
 
@@ -112,8 +111,8 @@ arguments-split f b k less critical =
     let at : 0 + k ≡ k = omega arith in
     get_or-map-range_with_len (split_arguments f b) 0 (length (block_at f b).succs) k k [] less at ∙ rw critical refl
 
-module _ (none : PRegSet) (f : FunctionValue) (framed : IsFramed f) where
-  framed-kept : (b : ℕ) → b < length f.blocks → IsFramedDraft (all none f) (kept_block f b)
+module _ (f : FunctionValue) (framed : IsFramed f) where
+  framed-kept : (b : ℕ) → b < length f.blocks → IsFramedDraft (all f) (kept_block f b)
   framed-kept b less = record { nonempty = nonempty; last = last; others = others; counted = counted }
     where
       first : ℕ
@@ -147,24 +146,24 @@ module _ (none : PRegSet) (f : FunctionValue) (framed : IsFramed f) where
           rw at ((framed.end b less).1 (first + j) (omega arith) (omega (arith, many, more)) (omega (arith, many, more)))
 
       passes : (k : ℕ) → k < length (block_at f b).succs → (c : Bool) → is_critical f b k ≡ c →
-          length (slice_index_or d.arguments k []) ≡ length (draft_at (all none f) (slice_index d.succs k)).params
+          length (slice_index_or d.arguments k []) ≡ length (draft_at (all f) (slice_index d.succs k)).params
       passes k inside true e =
-          rw (arguments-split f b k inside e, succ-split f b k inside e, draft-between none f b k less inside e) refl
+          rw (arguments-split f b k inside e, succ-split f b k inside e, draft-between f b k less inside e) refl
       passes k inside false e =
           let t : ℕ = slice_index (block_at f b).succs k in
-          rw (arguments-plain f b k inside e, succ-plain f b k inside e, draft-kept none f t (framed.successors.1 b less k 0 inside)) (framed.counted b less k inside)
+          rw (arguments-plain f b k inside e, succ-plain f b k inside e, draft-kept f t (framed.successors.1 b less k 0 inside)) (framed.counted b less k inside)
 
-      counted : (k : ℕ) → k < length d.succs → length (slice_index_or d.arguments k []) ≡ length (draft_at (all none f) (slice_index d.succs k)).params
+      counted : (k : ℕ) → k < length d.succs → length (slice_index_or d.arguments k []) ≡ length (draft_at (all f) (slice_index d.succs k)).params
       counted k within = passes k (omega (arith, count-kept f b, within)) (is_critical f b k) refl
 
   jump-counted : (b k : ℕ) → b < length f.blocks → k < length (block_at f b).succs → (i : ℕ) → i < 1 →
-      length (slice_index_or (arguments_at f b k ∷ []) i []) ≡ length (draft_at (all none f) (slice_index (slice_index (block_at f b).succs k ∷ []) i)).params
+      length (slice_index_or (arguments_at f b k ∷ []) i []) ≡ length (draft_at (all f) (slice_index (slice_index (block_at f b).succs k ∷ []) i)).params
   jump-counted b k less inside zero within =
       let t : ℕ = slice_index (block_at f b).succs k in
-      rw (draft-kept none f t (framed.successors.1 b less k 0 inside)) (framed.counted b less k inside)
+      rw (draft-kept f t (framed.successors.1 b less k 0 inside)) (framed.counted b less k inside)
   jump-counted b k less inside (suc i) within = absurd (omega (arith, within))
 
-  framed-jump : (b k : ℕ) → b < length f.blocks → k < length (block_at f b).succs → IsFramedDraft (all none f) (jump_on none f (edge b k))
+  framed-jump : (b k : ℕ) → b < length f.blocks → k < length (block_at f b).succs → IsFramedDraft (all f) (jump_on f (edge b k))
   framed-jump b k less inside = record {
     nonempty = omega arith;
     last = inl (refl, refl);
@@ -173,26 +172,26 @@ module _ (none : PRegSet) (f : FunctionValue) (framed : IsFramed f) where
   }
 
   -- each partial block is structurally valid
-  pub framed-all : (n : ℕ) → n < length (all none f) → IsFramedDraft (all none f) (draft_at (all none f) n)
+  pub framed-all : (n : ℕ) → n < length (all f) → IsFramedDraft (all f) (draft_at (all f) n)
   framed-all n below = by (nat_lt n (length f.blocks)) refl
     where
-      by : (c : Bool) → nat_lt n (length f.blocks) ≡ c → IsFramedDraft (all none f) (draft_at (all none f) n)
+      by : (c : Bool) → nat_lt n (length f.blocks) ≡ c → IsFramedDraft (all f) (draft_at (all f) n)
       by true e =
           let less : n < length f.blocks = grind (arith, nat_tests) in
-          rw (draft-kept none f n less) (framed-kept n less)
+          rw (draft-kept f n less) (framed-kept n less)
       by false e =
           let from : length f.blocks ≤ n = grind (arith, nat_tests) in
-          let h = on-edge none f n from below in
-          let at : draft_at (all none f) n ≡ jump_on none f (edge h.from h.position) =
-          ap (draft_at (all none f)) (sym (edge-number none f n from h)) ∙ draft-between none f h.from h.position h.block h.successor h.critical in
+          let h = on-edge f n from below in
+          let at : draft_at (all f) n ≡ jump_on f (edge h.from h.position) =
+          ap (draft_at (all f)) (sym (edge-number f n from h)) ∙ draft-between f h.from h.position h.block h.successor h.critical in
           rw at (framed-jump h.from h.position h.block h.successor)
 
-  start-step : (b : ℕ) → b + 1 < length f.blocks → start_of (all none f) b ≡ (block_at f b).range.first →
-      start_of (all none f) (b + 1) ≡ (block_at f (b + 1)).range.first
+  start-step : (b : ℕ) → b + 1 < length f.blocks → start_of (all f) b ≡ (block_at f b).range.first →
+      start_of (all f) (b + 1) ≡ (block_at f (b + 1)).range.first
   start-step b less here =
-      let next = start-next (all none f) b (omega (arith, all-many none f, less)) in
-      let many : length (draft_at (all none f) b).insts ≡ size f b =
-      ap (λ (d : DraftValue). length d.insts) (draft-kept none f b (omega (arith, less))) ∙ long-kept f b in
+      let next = start-next (all f) b (omega (arith, all-many f, less)) in
+      let many : length (draft_at (all f) b).insts ≡ size f b =
+      ap (λ (d : DraftValue). length d.insts) (draft-kept f b (omega (arith, less))) ∙ long-kept f b in
       let rises = (framed.follow b (omega (arith, less))).0 in
       let back : b + 1 - 1 ≡ b = omega arith in
       let joined : (block_at f (b + 1)).range.first ≡ (block_at f b).range.end =
@@ -200,9 +199,9 @@ module _ (none : PRegSet) (f : FunctionValue) (framed : IsFramed f) where
       omega (arith, next, many, rises, joined, here)
 
   -- each old block begins where it did
-  pub start-kept : (b : ℕ) → b < length f.blocks → start_of (all none f) b ≡ (block_at f b).range.first
+  pub start-kept : (b : ℕ) → b < length f.blocks → start_of (all f) b ≡ (block_at f b).range.first
   start-kept zero less = sym ((framed.follow 0 less).1 refl)
   start-kept (suc b) less =
       let next : b + 1 ≡ suc b = omega arith in
-      subst (λ (n : ℕ). start_of (all none f) n ≡ (block_at f n).range.first) next
+      subst (λ (n : ℕ). start_of (all f) n ≡ (block_at f n).range.first) next
       (start-step b (omega (arith, less)) (start-kept b (omega (arith, less))))

@@ -6,7 +6,6 @@ use Rattle.std.specs.List.{range_with_len}
 use Rattle.std.proofs.lemmas.List.{append-nil, get_or_append_left, length-append}
 use Rattle.std.proofs.lemmas.List.Concat.{flat_map-append}
 use Rattle.std.proofs.lemmas.List.FromFn.{get_or-map-range_with_len, length-map-range_with_len}
-use Rattle.regalloc2_names.specs.declared.sets.PRegSet.{PRegSet}
 use Rattle.regalloc2_function.specs.FunctionValue.{FunctionValue, block_at, inst_at, no_inst, last_of, EachBlock}
 use Rattle.regalloc2_function.specs.WellFormed.{BlocksFollow, IsFramed, EndsAt}
 use Rattle.regalloc2_serialize.specs.CopyOfFunction.{shown_inst}
@@ -81,30 +80,30 @@ insts-kept f framed =
     ap (λ (n : ℕ). insts_of (map (kept_block f) (range_with_len 0 n))) (sym many) ∙ rest.insts
     ∙ ap (λ (i : ℕ). map (inst_at f) (range_with_len i (length f.insts - i))) begin ∙ ap (λ (n : ℕ). map (inst_at f) (range_with_len 0 n)) less
 
-jumps-many : (none : PRegSet) (f : FunctionValue) (es : List Edge) → length (insts_of (map (jump_on none f) es)) ≡ length es
-jumps-many none f [] = refl
-jumps-many none f (e ∷ es) =
-    length-append (jump_on none f e).insts (insts_of (map (jump_on none f) es)) ∙ omega (arith, jumps-many none f es)
+jumps-many : (f : FunctionValue) (es : List Edge) → length (insts_of (map (jump_on f) es)) ≡ length es
+jumps-many f [] = refl
+jumps-many f (e ∷ es) =
+    length-append (jump_on f e).insts (insts_of (map (jump_on f) es)) ∙ omega (arith, jumps-many f es)
 
-module _ (none : PRegSet) (f : FunctionValue) (framed : IsFramed f) where
+module _ (f : FunctionValue) (framed : IsFramed f) where
   abbrev jumps : List DraftValue
-  jumps = map (jump_on none f) (edges_before f (length f.blocks))
+  jumps = map (jump_on f) (edges_before f (length f.blocks))
 
   abbrev kept : List DraftValue
   kept = map (kept_block f) (range_with_len 0 (length f.blocks))
 
-  apart : insts_of (split_drafts none f) ≡ insts_of kept ++ insts_of jumps
+  apart : insts_of (split_drafts f) ≡ insts_of kept ++ insts_of jumps
   apart = flat_map-append (λ (d : DraftValue). d.insts) kept jumps
 
   kept-many : length (insts_of kept) ≡ length f.insts
   kept-many = ap length (insts-kept f framed) ∙ length-map-range_with_len (inst_at f) 0 (length f.insts)
 
   -- there is one instruction more for each new block
-  pub insts-many : length (insts_of (split_drafts none f)) ≡ length f.insts + length (edges_before f (length f.blocks))
-  insts-many = ap length apart ∙ length-append (insts_of kept) (insts_of jumps) ∙ omega (arith, kept-many, jumps-many none f (edges_before f (length f.blocks)))
+  pub insts-many : length (insts_of (split_drafts f)) ≡ length f.insts + length (edges_before f (length f.blocks))
+  insts-many = ap length apart ∙ length-append (insts_of kept) (insts_of jumps) ∙ omega (arith, kept-many, jumps-many f (edges_before f (length f.blocks)))
 
   -- the instructions are the first ones
-  pub inst-same : (i : ℕ) → i < length f.insts → get_or (insts_of (split_drafts none f)) i no_inst ≡ inst_at f i
+  pub inst-same : (i : ℕ) → i < length f.insts → get_or (insts_of (split_drafts f)) i no_inst ≡ inst_at f i
   inst-same i less =
       let at : 0 + i ≡ i = omega arith in
       ap (λ xs. get_or xs i no_inst) apart ∙ get_or_append_left (insts_of kept) (insts_of jumps) no_inst i (omega (arith, kept-many, less))

@@ -3,7 +3,6 @@ use Rattle.std.proofs.Common.{◌≡◌, ◌∙◌, ℕ, zero, suc, ◌+◌, ◌
 use Rattle.std.specs.Prelude.{◌≢◌, Contains, nat_lt, slice_index, sum_by}
 use Rattle.std.specs.List.{range_with_len}
 use Rattle.std.proofs.lemmas.List.{get_or_default, get_or_past, map-append}
-use Rattle.regalloc2_names.specs.declared.sets.PRegSet.{PRegSet}
 use Rattle.regalloc2_function.specs.FunctionValue.{FunctionValue, BlockValue, block_at, no_block, EachBlock}
 use Rattle.regalloc2_function.specs.WellFormed.{IsFramed, times_in, ways_into, NotCriticalAt, PredecessorsAt}
 use Rattle.regalloc2_serialize.specs.TableFunction.Draft.{DraftValue, draft_at}
@@ -93,16 +92,16 @@ record HasOldEnd (f : FunctionValue) (succs : List ℕ) : Type 0 where
   short : length succs ≤ 1
   old : (t : ℕ) → length f.blocks ≤ t → times_in t succs ≡ 0
 
-module _ (none : PRegSet) (f : FunctionValue) (framed : IsFramed f) (g : FunctionValue) (h : HasDrafts (all none f) g) where
-  many : length g.blocks ≡ length (all none f)
-  many = count-laid (all none f) g h
+module _ (f : FunctionValue) (framed : IsFramed f) (g : FunctionValue) (h : HasDrafts (all f) g) where
+  many : length g.blocks ≡ length (all f)
+  many = count-laid (all f) g h
 
   pub agree : EachBlock g (PredecessorsAt g)
-  agree = preds-agree (all none f) g h
+  agree = preds-agree (all f) g h
 
   succs-kept : (p : ℕ) → p < length f.blocks → (block_at g p).succs ≡ (kept_block f p).succs
   succs-kept p less =
-      (laid-at (all none f) g h p (omega (arith, all-many none f, less))).succs ∙ ap (λ (d : DraftValue). d.succs) (draft-kept none f p less)
+      (laid-at (all f) g h p (omega (arith, all-many f, less))).succs ∙ ap (λ (d : DraftValue). d.succs) (draft-kept f p less)
 
   old-end : (b k : ℕ) → b < length f.blocks → k < length (block_at f b).succs → HasOldEnd f (slice_index (block_at f b).succs k ∷ [])
   old-end b k less within =
@@ -113,19 +112,19 @@ module _ (none : PRegSet) (f : FunctionValue) (framed : IsFramed f) (g : Functio
       }
 
   new-end : (p : ℕ) → length f.blocks ≤ p → HasOldEnd f (block_at g p).succs
-  new-end p from = by (nat_lt p (length (all none f))) refl
+  new-end p from = by (nat_lt p (length (all f))) refl
     where
-      by : (c : Bool) → nat_lt p (length (all none f)) ≡ c → HasOldEnd f (block_at g p).succs
+      by : (c : Bool) → nat_lt p (length (all f)) ≡ c → HasOldEnd f (block_at g p).succs
       by true e =
-          let less : p < length (all none f) = is-below p (length (all none f)) e in
-          let i = on-edge none f p from less in
-          let at : draft_at (all none f) p ≡ jump_on none f (edge i.from i.position) =
-          ap (draft_at (all none f)) (sym (edge-number none f p from i)) ∙ draft-between none f i.from i.position i.block i.successor i.critical in
+          let less : p < length (all f) = is-below p (length (all f)) e in
+          let i = on-edge f p from less in
+          let at : draft_at (all f) p ≡ jump_on f (edge i.from i.position) =
+          ap (draft_at (all f)) (sym (edge-number f p from i)) ∙ draft-between f i.from i.position i.block i.successor i.critical in
           let succs : (block_at g p).succs ≡ slice_index (block_at f i.from).succs i.position ∷ [] =
-          (laid-at (all none f) g h p less).succs ∙ ap (λ (d : DraftValue). d.succs) at in
+          (laid-at (all f) g h p less).succs ∙ ap (λ (d : DraftValue). d.succs) at in
           subst (HasOldEnd f) (sym succs) (old-end i.from i.position i.block i.successor)
       by false e =
-          let past : length (all none f) ≤ p = is-past p (length (all none f)) e in
+          let past : length (all f) ≤ p = is-past p (length (all f)) e in
           let absent : block_at g p ≡ no_block = get_or_past g.blocks p no_block (omega (arith, many, past)) in
           rw absent (record { short = omega arith; old = λ t above. refl })
 
@@ -170,14 +169,14 @@ module _ (none : PRegSet) (f : FunctionValue) (framed : IsFramed f) (g : Functio
   pub single : (b k : ℕ) → b < length f.blocks → k < length (block_at f b).succs → is_critical f b k ≡ true →
       (block_at g (number_on f b k)).preds ≡ b ∷ []
   single b k less within critical =
-      let below : number_on f b k < length g.blocks = omega (arith, many, number-within none f b k less within critical) in
+      let below : number_on f b k < length g.blocks = omega (arith, many, number-within f b k less within critical) in
       only-one b (block_at g (number_on f b k)).preds (λ p. agree (number_on f b k) below p ∙ entered b k p less within critical)
 
   module _ (entry : g.entry ≡ f.entry) where
     ways-same : (t : ℕ) → t < length f.blocks → ways_into g t ≡ entries_into f t
     ways-same t less =
         let counted : length (block_at g t).preds ≡ sum_by (λ (b : BlockValue). times_in t b.succs) f.blocks =
-        ap length (h.preds t (omega (arith, all-many none f, less))) ∙ preds-many f framed t less none in
+        ap length (h.preds t (omega (arith, all-many f, less))) ∙ preds-many f framed t less in
         rw (counted, entry) refl
 
     short-from : (n p : ℕ) → n < length g.blocks → 1 < ways_into g n → 1 ≤ times_in n (block_at g p).succs → p < length f.blocks →

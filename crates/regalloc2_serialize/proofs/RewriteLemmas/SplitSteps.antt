@@ -4,8 +4,8 @@ use Rattle.std.specs.Prelude.{◌≢◌, slice_index, sum_by}
 use Rattle.std.specs.List.{range_with_len}
 use Rattle.std.proofs.lemmas.List.{append-nil, append_assoc, get_or-set_other, get_or-set_same, length-map, map-append, take_more}
 use Rattle.std.proofs.lemmas.List.Sums.{sum_by_push}
-use Rattle.regalloc2_names.specs.declared.sets.PRegSet.{PRegSet}
 use Rattle.regalloc2_names.specs.Register.{VirtualRegister}
+use Rattle.regalloc2_names.specs.Register.{empty_set}
 use Rattle.regalloc2_function.specs.FunctionValue.{FunctionValue, BlockValue, block_at, no_block}
 use Rattle.regalloc2_semantics.specs.Runs.{arguments_at}
 use Rattle.regalloc2_function.specs.WellFormed.{times_in}
@@ -98,61 +98,61 @@ upto-next : (f : FunctionValue) (b k : ℕ) → edges_upto f b (k + 1) ≡ edges
 upto-next f b k = let up : k + 1 ≡ suc k = omega arith in ap (edges_upto f b) up
 
 -- an edge that isn't critical adds nothing
-pub plain-jumps : (none : PRegSet) (f : FunctionValue) (b k : ℕ) (ds : List DraftValue) → is_critical f b k ≡ false → AreJumps none f b k ds →
-    AreJumps none f b (k + 1) ds
-plain-jumps none f b k ds plain before =
+pub plain-jumps : (f : FunctionValue) (b k : ℕ) (ds : List DraftValue) → is_critical f b k ≡ false → AreJumps f b k ds →
+    AreJumps f b (k + 1) ds
+plain-jumps f b k ds plain before =
     let none-more : cond (is_critical f b k) (edge b k ∷ []) [] ≡ [] = rw plain refl in
-    before ∙ ap (λ es. map (jump_on none f) (edges_before f b ++ es))
+    before ∙ ap (λ es. map (jump_on f) (edges_before f b ++ es))
     (sym (upto-next f b k ∙ ap (λ es. edges_upto f b k ++ es) none-more ∙ append-nil (edges_upto f b k)))
 
 -- a critical edge adds a block, which has the next number
-pub critical-succ : (none : PRegSet) (f : FunctionValue) (b k : ℕ) (ds : List DraftValue) → is_critical f b k ≡ true → AreJumps none f b k ds →
+pub critical-succ : (f : FunctionValue) (b k : ℕ) (ds : List DraftValue) → is_critical f b k ≡ true → AreJumps f b k ds →
     split_succ f b k ≡ length f.blocks + length ds
-critical-succ none f b k ds critical before =
+critical-succ f b k ds critical before =
     let to : split_succ f b k ≡ number_on f b k = rw critical refl in
-    let many : length ds ≡ length (edges_before f b ++ edges_upto f b k) = ap length before ∙ length-map (edges_before f b ++ edges_upto f b k) (jump_on none f) in
+    let many : length ds ≡ length (edges_before f b ++ edges_upto f b k) = ap length before ∙ length-map (edges_before f b ++ edges_upto f b k) (jump_on f) in
     omega (arith, to, many)
 
-pub critical-jumps : (none : PRegSet) (f : FunctionValue) (b k : ℕ) (ds : List DraftValue) → is_critical f b k ≡ true → AreJumps none f b k ds →
-    AreJumps none f b (k + 1) (ds ++ jump_on none f (edge b k) ∷ [])
-critical-jumps none f b k ds critical before =
+pub critical-jumps : (f : FunctionValue) (b k : ℕ) (ds : List DraftValue) → is_critical f b k ≡ true → AreJumps f b k ds →
+    AreJumps f b (k + 1) (ds ++ jump_on f (edge b k) ∷ [])
+critical-jumps f b k ds critical before =
     let more : cond (is_critical f b k) (edge b k ∷ []) [] ≡ edge b k ∷ [] = rw critical refl in
     let edges : edges_before f b ++ edges_upto f b (k + 1) ≡ (edges_before f b ++ edges_upto f b k) ++ edge b k ∷ [] =
     ap (λ es. edges_before f b ++ es) (upto-next f b k ∙ ap (λ es. edges_upto f b k ++ es) more)
     ∙ sym (append_assoc (edges_before f b) (edges_upto f b k) (edge b k ∷ [])) in
-    ap (λ xs. xs ++ jump_on none f (edge b k) ∷ []) before
-    ∙ sym (ap (map (jump_on none f)) edges ∙ map-append (jump_on none f) (edges_before f b ++ edges_upto f b k) (edge b k ∷ []))
+    ap (λ xs. xs ++ jump_on f (edge b k) ∷ []) before
+    ∙ sym (ap (map (jump_on f)) edges ∙ map-append (jump_on f) (edges_before f b ++ edges_upto f b k) (edge b k ∷ []))
 
 -- no more blocks are added than there are critical edges
-pub critical-more : (none : PRegSet) (f : FunctionValue) (b k : ℕ) (ds : List DraftValue) → b < length f.blocks → k < length (block_at f b).succs →
-    is_critical f b k ≡ true → AreJumps none f b k ds → length ds ≤ critical_in f
-critical-more none f b k ds less within critical before =
+pub critical-more : (f : FunctionValue) (b k : ℕ) (ds : List DraftValue) → b < length f.blocks → k < length (block_at f b).succs →
+    is_critical f b k ≡ true → AreJumps f b k ds → length ds ≤ critical_in f
+critical-more f b k ds less within critical before =
     let at = at-before f b k (length f.blocks) less within critical in
-    let many : length ds ≡ length (edges_before f b ++ edges_upto f b k) = ap length before ∙ length-map (edges_before f b ++ edges_upto f b k) (jump_on none f) in
+    let many : length ds ≡ length (edges_before f b ++ edges_upto f b k) = ap length before ∙ length-map (edges_before f b ++ edges_upto f b k) (jump_on f) in
     omega (arith, at.less, many, edges-counted f)
 
 -- the blocks before a block, and after it
-pub jumps-next : (none : PRegSet) (f : FunctionValue) (b n : ℕ) (ds : List DraftValue) → n ≡ length (block_at f b).succs → AreJumps none f b n ds →
-    AreJumps none f (b + 1) 0 ds
-jumps-next none f b n ds all before =
+pub jumps-next : (f : FunctionValue) (b n : ℕ) (ds : List DraftValue) → n ≡ length (block_at f b).succs → AreJumps f b n ds →
+    AreJumps f (b + 1) 0 ds
+jumps-next f b n ds all before =
     let up : b + 1 ≡ suc b = omega arith in
-    before ∙ ap (λ (m : ℕ). map (jump_on none f) (edges_before f b ++ edges_upto f b m)) all
-    ∙ ap (map (jump_on none f)) (sym (append-nil (edges_before f (b + 1)) ∙ ap (edges_before f) up))
+    before ∙ ap (λ (m : ℕ). map (jump_on f) (edges_before f b ++ edges_upto f b m)) all
+    ∙ ap (map (jump_on f)) (sym (append-nil (edges_before f (b + 1)) ∙ ap (edges_before f) up))
 
 -- a jump with an edge's end and arguments is the one on it
-pub jump-made : (none : PRegSet) (f : FunctionValue) (b k to : ℕ) (xs : List VirtualRegister) (d : DraftValue) → to ≡ slice_index (block_at f b).succs k →
+pub jump-made : (f : FunctionValue) (b k to : ℕ) (xs : List VirtualRegister) (d : DraftValue) → to ≡ slice_index (block_at f b).succs k →
     xs ≡ arguments_at f b k →
     d ≡ record {
       params = [];
-      insts = record { operands = []; clobbers = none; is_branch = true; is_ret = false } ∷ [];
+      insts = record { operands = []; clobbers = empty_set; is_branch = true; is_ret = false } ∷ [];
       succs = to ∷ [];
       arguments = xs ∷ [];
-    } → d ≡ jump_on none f (edge b k)
-jump-made none f b k to xs d end passed made = made ∙ rw (end, passed) refl
+    } → d ≡ jump_on f (edge b k)
+jump-made f b k to xs d end passed made = made ∙ rw (end, passed) refl
 
 -- the blocks, and the blocks on all critical edges
-pub all-made : (none : PRegSet) (f : FunctionValue) (n : ℕ) (ds js : List DraftValue) → n ≡ length f.blocks →
-    ds ≡ map (kept_block f) (range_with_len 0 n) → AreJumps none f n 0 js → ds ++ js ≡ split_drafts none f
-all-made none f n ds js all blocks jumps =
-    let whole : js ≡ map (jump_on none f) (edges_before f n) = jumps ∙ ap (map (jump_on none f)) (append-nil (edges_before f n)) in
+pub all-made : (f : FunctionValue) (n : ℕ) (ds js : List DraftValue) → n ≡ length f.blocks →
+    ds ≡ map (kept_block f) (range_with_len 0 n) → AreJumps f n 0 js → ds ++ js ≡ split_drafts f
+all-made f n ds js all blocks jumps =
+    let whole : js ≡ map (jump_on f) (edges_before f n) = jumps ∙ ap (map (jump_on f)) (append-nil (edges_before f n)) in
     rw (blocks, whole, all) refl

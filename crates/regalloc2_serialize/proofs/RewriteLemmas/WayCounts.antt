@@ -5,7 +5,6 @@ use Rattle.std.specs.List.{range_with_len}
 use Rattle.std.proofs.lemmas.Bool.Decides.{nat_tests}
 use Rattle.std.proofs.lemmas.List.{length-append, map-append}
 use Rattle.std.proofs.lemmas.List.Sums.{sum_by-append, sum_by-cons, sum_by_push}
-use Rattle.regalloc2_names.specs.declared.sets.PRegSet.{PRegSet}
 use Rattle.regalloc2_function.specs.FunctionValue.{FunctionValue, BlockValue, block_at, no_block}
 use Rattle.regalloc2_function.specs.WellFormed.{IsFramed, times_in}
 use Rattle.regalloc2_serialize.specs.TableFunction.Draft.{DraftValue}
@@ -118,13 +117,13 @@ module _ (f : FunctionValue) (framed : IsFramed f) (t : ℕ) (old : t < length f
         upto-same n (whole n),
       )
 
-  jumps-counted : (none : PRegSet) (es : List Edge) → sum_by (times_in t) (map (λ d. d.succs) (map (jump_on none f) es)) ≡ jumping es
-  jumps-counted none [] = refl
-  jumps-counted none (e ∷ es) =
-      sum_by-cons (times_in t) (jump_on none f e).succs (map (λ d. d.succs) (map (jump_on none f) es))
+  jumps-counted : (es : List Edge) → sum_by (times_in t) (map (λ d. d.succs) (map (jump_on f) es)) ≡ jumping es
+  jumps-counted [] = refl
+  jumps-counted (e ∷ es) =
+      sum_by-cons (times_in t) (jump_on f e).succs (map (λ d. d.succs) (map (jump_on f) es))
       ∙ omega (
         arith,
-        jumps-counted none es,
+        jumps-counted es,
         times-cons t (end_of_edge f e) [],
         times-cons t (end_of_edge f e) (map (end_of_edge f) es),
       )
@@ -133,10 +132,10 @@ module _ (f : FunctionValue) (framed : IsFramed f) (t : ℕ) (old : t < length f
   listed-whole b = ap (times_in t) (members (block_at f b).succs 0)
 
   -- a block that isn't new has as many predecessors as it is listed among successors
-  pub preds-many : (none : PRegSet) → length (preds_from t 0 (map (λ d. d.succs) (split_drafts none f))) ≡ sum_by (λ b. times_in t b.succs) f.blocks
-  preds-many none =
+  pub preds-many : length (preds_from t 0 (map (λ d. d.succs) (split_drafts f))) ≡ sum_by (λ b. times_in t b.succs) f.blocks
+  preds-many =
       let blocks : List DraftValue = map (kept_block f) (range_with_len 0 (length f.blocks)) in
-      let jumps : List DraftValue = map (jump_on none f) (edges_before f (length f.blocks)) in
+      let jumps : List DraftValue = map (jump_on f) (edges_before f (length f.blocks)) in
       let split : map (λ (d : DraftValue). d.succs) (blocks ++ jumps) ≡ map (λ d. d.succs) blocks ++ map (λ d. d.succs) jumps =
       map-append (λ (d : DraftValue). d.succs) blocks jumps in
       let first : sum_by (times_in t) (map (λ (d : DraftValue). d.succs) blocks) ≡ sum_by (λ b. kept b (whole b)) (range_with_len 0 (length f.blocks)) =
@@ -146,6 +145,6 @@ module _ (f : FunctionValue) (framed : IsFramed f) (t : ℕ) (old : t < length f
       ap (sum_by (λ (b : BlockValue). times_in t b.succs)) (sym (members f.blocks no_block))
       ∙ sum_by-map (λ (b : BlockValue). times_in t b.succs) (block_at f) (range_with_len 0 (length f.blocks))
       ∙ sum_by-alike (λ (b : ℕ). times_in t (block_at f b).succs) (λ b. listed b (whole b)) (range_with_len 0 (length f.blocks)) (λ b. sym (listed-whole b)) in
-      preds-count t 0 (map (λ d. d.succs) (split_drafts none f)) ∙ ap (sum_by (times_in t)) split
+      preds-count t 0 (map (λ d. d.succs) (split_drafts f)) ∙ ap (sum_by (times_in t)) split
       ∙ sum_by-append (times_in t) (map (λ (d : DraftValue). d.succs) blocks) (map (λ d. d.succs) jumps)
-      ∙ omega (arith, first, jumps-counted none (edges_before f (length f.blocks)), before-same (length f.blocks), old-blocks)
+      ∙ omega (arith, first, jumps-counted (edges_before f (length f.blocks)), before-same (length f.blocks), old-blocks)

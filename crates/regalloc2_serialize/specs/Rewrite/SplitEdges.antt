@@ -5,8 +5,7 @@ use Rattle.std.specs.Prelude.{ℕ, zero, suc, ◌≡◌, ◌+◌, ◌-◌, ◌<�
 use Rattle.std.specs.Prelude.{map, count_by, slice_index, sum_by}
 use Rattle.std.specs.List.{range_with_len}
 use Rattle.std.specs.Option.{option_map}
-use Rattle.regalloc2_names.specs.Register.{Register, VirtualRegister, has_register}
-use Rattle.regalloc2_names.specs.declared.sets.PRegSet.{PRegSet}
+use Rattle.regalloc2_names.specs.Register.{Register, VirtualRegister, empty_set, has_register}
 use Rattle.regalloc2_function.specs.FunctionValue.{FunctionValue, InstValue, block_at, inst_at, EachBlock}
 use Rattle.regalloc2_semantics.specs.Runs.{Way, Onward, ToSuccessor, IsPath, end_of, Stamp, arguments_at, source_before}
 use Rattle.regalloc2_function.specs.WellFormed.{IsFramed, times_in, NotCriticalAt, PredecessorsAt}
@@ -137,23 +136,23 @@ edges_before f (suc b) = edges_before f b ++ edges_upto f b (length (block_at f 
 abbrev pub number_on : FunctionValue → ℕ → ℕ → ℕ
 number_on f b k = length f.blocks + length (edges_before f b ++ edges_upto f b k)
 
--- the block on an edge, as it is laid out; `none` is the jump's set of clobbers
-abbrev pub jump_on : PRegSet → FunctionValue → Edge → DraftValue
-jump_on none f e = record {
+-- the block on an edge, as it is laid out
+abbrev pub jump_on : FunctionValue → Edge → DraftValue
+jump_on f e = record {
   params = [];
-  insts = record { operands = []; clobbers = none; is_branch = true; is_ret = false } ∷ [];
+  insts = record { operands = []; clobbers = empty_set; is_branch = true; is_ret = false } ∷ [];
   succs = slice_index (block_at f e.from).succs e.position ∷ [];
   arguments = arguments_at f e.from e.position ∷ [];
 }
 
 -- `jumps` are the blocks on the critical edges of the first `b` blocks and among the first `k` edges of block `b`
-abbrev pub AreJumps : PRegSet → FunctionValue → ℕ → ℕ → List DraftValue → Type 0
-AreJumps none f b k jumps = jumps ≡ map (jump_on none f) (edges_before f b ++ edges_upto f b k)
+abbrev pub AreJumps : FunctionValue → ℕ → ℕ → List DraftValue → Type 0
+AreJumps f b k jumps = jumps ≡ map (jump_on f) (edges_before f b ++ edges_upto f b k)
 
 -- the edge from block `b` at position `k` is split next: the new blocks so far are on the edges before it
-pub record IsToSplit (none : PRegSet) (f : FunctionValue) (b k : ℕ) (counts : List ℕ) (jumps : List DraftValue) : Type 0 where
+pub record IsToSplit (f : FunctionValue) (b k : ℕ) (counts : List ℕ) (jumps : List DraftValue) : Type 0 where
   pub counted : IsCountedBlock f b counts
-  pub before : AreJumps none f b k jumps
+  pub before : AreJumps f b k jumps
 
 -- a successor and its arguments, where the edge is split if it is critical
 abbrev pub split_succ : FunctionValue → ℕ → ℕ → ℕ
@@ -172,9 +171,9 @@ kept_block f b = record {
 }
 
 -- all blocks with their critical edges split, and behind them the new blocks
-abbrev pub split_drafts : PRegSet → FunctionValue → List DraftValue
-split_drafts none f =
-    map (kept_block f) (range_with_len 0 (length f.blocks)) ++ map (jump_on none f) (edges_before f (length f.blocks))
+abbrev pub split_drafts : FunctionValue → List DraftValue
+split_drafts f =
+    map (kept_block f) (range_with_len 0 (length f.blocks)) ++ map (jump_on f) (edges_before f (length f.blocks))
 
 -- how many critical edges leave a block
 abbrev pub critical_from : FunctionValue → ℕ → ℕ

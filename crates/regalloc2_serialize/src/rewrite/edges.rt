@@ -1,6 +1,7 @@
 //! Splits a function's critical edges.
 
 ghost use Rattle.std.specs.Prelude.{◌≡◌, ℕ, ◌+◌, ◌<◌, ◌∷◌, [], true, false, All, IfOk, IfErr, OnOk, length, map, slice_index};
+ghost use Rattle.regalloc2_names.specs.Register.{empty_set};
 ghost use Rattle.regalloc2_function.specs.FunctionValue.{block_at};
 ghost use Rattle.regalloc2_function.specs.WellFormed.{IsFramed, SuccessorsAreBlocks, times_in};
 ghost use Rattle.regalloc2_serialize.specs.TableFunction.Table.{function_of_table};
@@ -68,16 +69,15 @@ fn has_critical_edge<F: Function>(f: &F, block: Block, k: usize, entries: &[usiz
     entered > 1
 }
 
-/// Returns a block that jumps to `to` and passes `arguments`. `none` is the empty set of clobbers.
+/// Returns a block that jumps to `to` and passes `arguments`.
 fn jump_to<A: Allocator + Copy>(
     alloc: A,
-    none: PRegSet,
     to: Block,
     arguments: Vec<VReg, A>,
 ) -> Result<BlockDraft<A>, AllocError>
     ensures { IfOk result (λ draft. draft_of draft ≡ record {
       params = [];
-      insts = record { operands = []; clobbers = none; is_branch = true; is_ret = false } ∷ [];
+      insts = record { operands = []; clobbers = empty_set; is_branch = true; is_ret = false } ∷ [];
       succs = to ∷ [];
       arguments = arguments.items ∷ [];
     }) }
@@ -85,7 +85,7 @@ fn jump_to<A: Allocator + Copy>(
     let (mut insts, mut succs, mut lists) = (Vec::new(alloc), Vec::new(alloc), Vec::new(alloc));
     insts.push(TableInst {
         operands: Vec::new(alloc),
-        clobbers: none,
+        clobbers: PRegSet::empty(),
         op: InstOpcode::Branch,
     })?;
     succs.push(to)?;
@@ -103,16 +103,15 @@ fn jump_to<A: Allocator + Copy>(
 fn split_edge<F: Function, A: Allocator + Copy>(
     alloc: A,
     f: &F,
-    none: PRegSet,
     block: Block,
     k: usize,
     entries: &[usize],
     jumps: &mut Vec<BlockDraft<A>, A>,
 ) -> Result<(Block, Vec<VReg, A>), RewriteError>
-    requires to_split { IsToSplit none (F.function f.now) block k entries.now (map draft_of jumps.old.items) }
+    requires to_split { IsToSplit (F.function f.now) block k entries.now (map draft_of jumps.old.items) }
     requires position { k < length (block_at (F.function f.now) block).succs }
     ensures ends { IfOk result (λ r. (r.0 ≡ split_succ (F.function f.now) block k) × (r.1.items ≡ split_arguments (F.function f.now) block k)) }
-    ensures jumps { OnOk result (AreJumps none (F.function f.now) block (k + 1) (map draft_of jumps.new.items)) }
+    ensures jumps { OnOk result (AreJumps (F.function f.now) block (k + 1) (map draft_of jumps.new.items)) }
     ensures err { IfErr result (λ e. IsUnsplit (F.function f.now) e) }
 {
     let to = f.block_succs(block)[k];
@@ -125,7 +124,7 @@ fn split_edge<F: Function, A: Allocator + Copy>(
     if number >= BLOCK_LIMIT {
         return Err(RewriteError::TooManyBlocks);
     }
-    let jump = jump_to(alloc, none, to, arguments)?;
+    let jump = jump_to(alloc, to, arguments)?;
     jumps.push(jump)?;
     Ok((Block::new(number), Vec::new(alloc)))
 }
@@ -135,19 +134,18 @@ fn split_edge<F: Function, A: Allocator + Copy>(
 fn split_edges<F: Function, A: Allocator + Copy>(
     alloc: A,
     f: &F,
-    none: PRegSet,
     block: Block,
     entries: &[usize],
     jumps: &mut Vec<BlockDraft<A>, A>,
 ) -> Result<(Vec<Block, A>, Vec<Vec<VReg, A>, A>), RewriteError>
-    requires { IsToSplit none (F.function f.now) block 0 entries.now (map draft_of jumps.old.items) }
+    requires { IsToSplit (F.function f.now) block 0 entries.now (map draft_of jumps.old.items) }
     ensures ends { IfOk result (λ r. (r.0.items ≡ (kept_block (F.function f.now) block).succs) × (map (λ v. v.items) r.1.items ≡ (kept_block (F.function f.now) block).arguments)) }
-    ensures jumps { OnOk result (AreJumps none (F.function f.now) (block + 1) 0 (map draft_of jumps.new.items)) }
+    ensures jumps { OnOk result (AreJumps (F.function f.now) (block + 1) 0 (map draft_of jumps.new.items)) }
     ensures err { IfErr result (λ e. IsUnsplit (F.function f.now) e) }
 {
     let (mut succs, mut lists) = (Vec::new(alloc), Vec::new(alloc));
     for k in 0..f.block_succs(block).len() {
-        let (succ, arguments) = split_edge(alloc, f, none, block, k, entries, jumps)?;
+        let (succ, arguments) = split_edge(alloc, f, block, k, entries, jumps)?;
         lists.push(arguments)?;
         succs.push(succ)?;
     }
@@ -158,17 +156,16 @@ fn split_edges<F: Function, A: Allocator + Copy>(
 fn split_block<F: Function, A: Allocator + Copy>(
     alloc: A,
     f: &F,
-    none: PRegSet,
     block: Block,
     entries: &[usize],
     jumps: &mut Vec<BlockDraft<A>, A>,
 ) -> Result<BlockDraft<A>, RewriteError>
-    requires { IsToSplit none (F.function f.now) block 0 entries.now (map draft_of jumps.old.items) }
+    requires { IsToSplit (F.function f.now) block 0 entries.now (map draft_of jumps.old.items) }
     ensures ok { IfOk result (λ draft. draft_of draft ≡ kept_block (F.function f.now) block) }
-    ensures jumps { OnOk result (AreJumps none (F.function f.now) (block + 1) 0 (map draft_of jumps.new.items)) }
+    ensures jumps { OnOk result (AreJumps (F.function f.now) (block + 1) 0 (map draft_of jumps.new.items)) }
     ensures err { IfErr result (λ e. IsUnsplit (F.function f.now) e) }
 {
-    let (succs, arguments) = split_edges(alloc, f, none, block, entries, jumps)?;
+    let (succs, arguments) = split_edges(alloc, f, block, entries, jumps)?;
     Ok(BlockDraft {
         params: f.block_params(block).to_vec(alloc)?,
         insts: copied_insts(alloc, f, block)?,
@@ -177,14 +174,13 @@ fn split_block<F: Function, A: Allocator + Copy>(
     })
 }
 
-/// Returns the blocks of `f` with their critical edges split, followed by the new blocks, whose clobbers are `none`.
+/// Returns the blocks of `f` with their critical edges split, followed by the new blocks.
 fn split_blocks<F: Function, A: Allocator + Copy>(
     alloc: A,
     f: &F,
-    none: PRegSet,
 ) -> Result<Vec<BlockDraft<A>, A>, RewriteError>
     requires framed { IsFramed (F.function f.now) }
-    ensures ok { IfOk result (λ drafts. map draft_of drafts.items ≡ split_drafts none (F.function f.now)) }
+    ensures ok { IfOk result (λ drafts. map draft_of drafts.items ≡ split_drafts (F.function f.now)) }
     ensures err { IfErr result (λ e. IsUnsplit (F.function f.now) e) }
 {
     let entries = entries_of(alloc, f)?;
@@ -193,7 +189,6 @@ fn split_blocks<F: Function, A: Allocator + Copy>(
         let draft = split_block(
             alloc,
             f,
-            none,
             Block::new(block),
             entries.as_slice(),
             &mut jumps,
@@ -229,8 +224,7 @@ pub fn split_critical_edges<F: Function, A: Allocator + Copy>(
     if !is_framed(f) {
         return Err(RewriteError::Unframed);
     }
-    let none = PRegSet::empty();
-    let drafts = split_blocks(alloc, f, none)?;
+    let drafts = split_blocks(alloc, f)?;
     let labels = f.debug_value_labels().to_vec(alloc)?;
     Ok(laid_like(alloc, f, drafts, f.entry_block(), labels)?)
 }

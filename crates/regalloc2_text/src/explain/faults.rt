@@ -10,7 +10,7 @@ use crate::named::register_of;
 use regalloc2_function::{StoredFault, StoredOutput};
 use regalloc2_names::{Allocation, CLASSES, Operand, PReg, ProgPoint, RegClass, VReg};
 use regalloc2_serialize::limits::{BLOCK_LIMIT, INST_LIMIT, LARGEST_SLOT, VREG_LIMIT};
-use regalloc2_serialize::{StoredFunction, StoredInst, StoredMachine, vreg_number};
+use regalloc2_serialize::{StoredFunction, StoredInst, StoredMachine};
 use std::fmt;
 
 /// What is wrong with stored numbers: each variant is one of the several causes of an error.
@@ -395,7 +395,7 @@ fn ranges_cause(ranges: &[(u32, u32)], insts: usize) -> Option<StoredCause> {
 /// Returns the cause if one of `labels` is of a vreg whose number isn't below `count`.
 fn label_counts_cause(labels: &[(u32, u32, u32, u32)], count: u64) -> Option<StoredCause> {
     for (label, (word, _, _, _)) in labels.iter().enumerate() {
-        let number = vreg_number(*word);
+        let number = VReg::number_of_bits(*word);
         if u64::from(number) >= count {
             return Some(StoredCause::LabelPastCount {
                 label,

@@ -1,8 +1,7 @@
 use Rattle.std.proofs.Common.{ℕ, List, [], Bool, ◌∙◌, ap, slice_index_or}
 use Rattle.std.specs.Prelude.{◌||◌}
 use Rattle.regalloc2_names.specs.declared.sets.PRegSet.{PRegSet}
-use Rattle.regalloc2_names.specs.Register.{has_register}
-use Rattle.regalloc2_function.specs.Machine.{empty_set}
+use Rattle.regalloc2_names.specs.Register.{has_register, empty_set}
 use Rattle.regalloc2_checker.proofs.OutputItems.{default_set}
 use Rattle.regalloc2_checker.proofs.cell_registers.allocatable.Goals as goal
 

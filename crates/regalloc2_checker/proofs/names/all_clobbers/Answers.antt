@@ -8,7 +8,7 @@ use Rattle.regalloc2_checker.proofs.names.all_clobbers.Goals as goal
 pub loop-i-init : goal.loop-i-init
 loop-i-init g c = record {
   end = c.num_insts-i-end.ensures.count;
-  members = none-clobbered (g.F.Function.function c.args.f.now) c.empty-clobbers.result c.empty-clobbers.ensures;
+  members = none-clobbered (g.F.Function.function c.args.f.now) c.empty-clobbers.result c.empty-clobbers.ensures.none;
 }
 
 pub loop-i-preserved : goal.loop-i-preserved

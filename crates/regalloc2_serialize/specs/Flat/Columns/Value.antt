@@ -3,13 +3,13 @@ use Rattle.std.specs.Prelude.{ℕ, zero, suc, ◌≡◌, ◌+◌, ◌-◌, ◌*�
 use Rattle.std.specs.Prelude.{map, slice_index, slice_index_or, slice_range}
 use Rattle.std.specs.Int.{bit_at}
 use Rattle.std.specs.List.{range_with_len}
-use Rattle.regalloc2_names.specs.Register.{Register, VirtualRegister, has_register}
+use Rattle.regalloc2_names.specs.Register.{Register, VirtualRegister, has_register, empty_set}
 use Rattle.regalloc2_names.specs.RegisterBits.{register_of_bits, bits_of_register, vreg_of_bits}
 use Rattle.regalloc2_names.specs.Packing.{operand_of_bits}
 use Rattle.regalloc2_names.specs.Operand.{OperandValue}
 use Rattle.regalloc2_names.specs.declared.sets.PRegSet.{PRegSet}
 use Rattle.regalloc2_function.specs.FunctionValue.{FunctionValue, BlockValue, InstValue, SlotSizes, Label}
-use Rattle.regalloc2_function.specs.Machine.{MachineValue, empty_set}
+use Rattle.regalloc2_function.specs.Machine.{MachineValue}
 use Rattle.regalloc2_serialize.specs.Flat.Columns.Layout.{header_of, preferred_words, non_preferred_words, scratch_words, slot_words, set_words, kind_words}
 use Rattle.regalloc2_serialize.specs.Flat.Columns.Layout.{operand_ends, operand_words, inst_ends, pred_ends, succ_ends, param_ends, pred_words, succ_words}
 use Rattle.regalloc2_serialize.specs.Flat.Columns.Layout.{param_words, argument_ends, argument_words, label_words, int_log, float_log, vector_log}

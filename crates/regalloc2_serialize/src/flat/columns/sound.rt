@@ -14,7 +14,7 @@ use super::cut::{
 use super::kinds::{OPCODES, SET_STEP};
 use crate::flat::long::from_halves;
 use crate::limits::{BLOCK_LIMIT, INST_LIMIT, VREG_LIMIT};
-use crate::validate::{are_blocks, are_vregs, vreg_number};
+use crate::validate::{are_blocks, are_vregs};
 use regalloc2_function::StoredFault;
 use regalloc2_names::{Operand, PReg, VReg};
 
@@ -97,7 +97,7 @@ fn are_labels_below(words: &[u32], count: usize, vregs: u32) -> bool
     ensures { IsTrue result ↔ ((k : ℕ) → k < count → slice_index words.now (4 * k) / 4 < vregs) }
 {
     for k in 0..count {
-        if vreg_number(words[LABEL_WORDS * k]) >= vregs {
+        if VReg::number_of_bits(words[LABEL_WORDS * k]) >= vregs {
             return false;
         }
     }

@@ -1,8 +1,7 @@
 use Rattle.std.proofs.Common.{ℕ, ◌≡◌, true, List, [], subst, sym, ap, ◌∙◌, slice_index_or}
 use Rattle.std.specs.Prelude.{◌↔◌}
 use Rattle.regalloc2_names.specs.declared.sets.PRegSet.{PRegSet}
-use Rattle.regalloc2_names.specs.Register.{class_code, has_register}
-use Rattle.regalloc2_function.specs.Machine.{empty_set}
+use Rattle.regalloc2_names.specs.Register.{class_code, has_register, empty_set}
 use Rattle.regalloc2_fastalloc_state.specs.StateParts.{AllocatableRegsValue}
 use Rattle.regalloc2_fastalloc_state.proofs.ArraysByClass.{default_set}
 use Rattle.regalloc2_fastalloc_state.proofs.allocatable.AllocatableRegs.of_class.Goals as goal

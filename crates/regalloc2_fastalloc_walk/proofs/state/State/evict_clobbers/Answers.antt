@@ -49,7 +49,7 @@ loop-preg-preserved g c = record {
 
 pub returns-then-eq-clause-outcome : goal.returns-then-eq-clause-outcome
 returns-then-eq-clause-outcome g c =
-    let none : registers_of c.args.clobbers ≡ [] = none_listed c.args.clobbers (λ r. c.eq.ensures.members.0 c.if-eq.true r ∙ c.empty.ensures r) in
+    let none : registers_of c.args.clobbers ≡ [] = none_listed c.args.clobbers (λ r. c.eq.ensures.members.0 c.if-eq.true r ∙ c.empty.ensures.none r) in
     subst (λ (rs : List Register). EvictsEach c.args.point rs c.args.inst_regs.now (tables_of c.args.self.now) c.args.inst_regs.now
     (tables_of c.args.self.now)) (sym none) (none_left c.args.inst_regs.now (tables_of c.args.self.now))
 

@@ -6,7 +6,7 @@ use Rattle.std.proofs.lemmas.Bool.{false≢true}
 use Rattle.regalloc2_names.proofs.sets.PRegSet.from_slice.Goals as goal
 
 pub loop-reg-init : goal.loop-reg-init
-loop-reg-init c = λ r. (λ e. absurd (false≢true (sym (c.empty-set.ensures r) ∙ e)), λ m. absurd (omega (arith, m.1)))
+loop-reg-init c = λ r. (λ e. absurd (false≢true (sym (c.empty-set.ensures.none r) ∙ e)), λ m. absurd (omega (arith, m.1)))
 
 pub loop-reg-preserved : goal.loop-reg-preserved
 loop-reg-preserved c = λ r.

@@ -19,7 +19,7 @@ split_block-requires g c =
         block = omega (arith, c.new.ensures, c.loop-block-test.true, c.num_blocks-block-end.ensures.count);
         entries = subst (AreEntryCounts f) (sym c.as_slice.ensures.value) c.in_ok-entries.ensures;
       };
-      before = subst (λ (b : ℕ). AreJumps c.args.none f b 0 (map draft_of c.loop-block.jumps.items)) (sym c.new.ensures) c.loop-block.invariant.jumps;
+      before = subst (λ (b : ℕ). AreJumps f b 0 (map draft_of c.loop-block.jumps.items)) (sym c.new.ensures) c.loop-block.invariant.jumps;
     }
 
 pub loop-block-preserved : goal.loop-block-preserved
@@ -31,7 +31,7 @@ loop-block-preserved g c =
     record {
       drafts = ap (map draft_of) e ∙ map-append draft_of c.loop-block.drafts.items (c.in_ok-draft.draft ∷ [])
           ∙ filled-more (kept_block f) (map draft_of c.loop-block.drafts.items) (draft_of c.in_ok-draft.draft) n c.loop-block.invariant.drafts here;
-      jumps = subst (λ (b : ℕ). AreJumps c.args.none f (b + 1) 0 (map draft_of c.split_block.new.jumps.items)) c.new.ensures c.in_ok-draft.ensures.jumps;
+      jumps = subst (λ (b : ℕ). AreJumps f (b + 1) 0 (map draft_of c.split_block.new.jumps.items)) c.new.ensures c.in_ok-draft.ensures.jumps;
     }
 
 pub returns-clause-ok : goal.returns-clause-ok
@@ -44,7 +44,7 @@ returns-clause-ok g c =
     (fact_from_extend (λ x. x) c.extend.result c.extend.ensures.ran (λ it b. YieldsList-from_vec {s = it} _ b.0 (b.1 ∙ c.loop-block.jumps.ok.0))
     (λ xs e h. h.0 ∙ ap (λ (l : List (BlockDraft g.row.A.Denot)). c.loop-block.drafts.items ++ l) (sym (map-id xs) ∙ e))) in
     ap (map draft_of) e ∙ map-append draft_of c.loop-block.drafts.items c.loop-block.jumps.items
-    ∙ all-made c.args.none f c.loop-block.block (map draft_of c.loop-block.drafts.items) (map draft_of c.loop-block.jumps.items) all
+    ∙ all-made f c.loop-block.block (map draft_of c.loop-block.drafts.items) (map draft_of c.loop-block.jumps.items) all
     c.loop-block.invariant.drafts c.loop-block.invariant.jumps
 
 pub returns-in_err-draft-clause-err : goal.returns-in_err-draft-clause-err

@@ -29,7 +29,7 @@ returns-clause-ok g c =
     let copied : c.in_ok-labels.labels.items ≡ c.debug_value_labels.result.now =
     c.in_ok-labels.ensures.items_if_clones_equal same-label in
     let same : map label_of c.in_ok-labels.labels.items ≡ f.labels = rw copied c.debug_value_labels.ensures in
-    is-split c.empty-none.result c.empty-none.ensures f _ framed
+    is-split f _ framed
     (rw (c.entry_block.ensures, same, c.in_ok-drafts.ensures.ok) at c.in_ok-laid_like.ensures.ok)
 
 pub returns-in_err-laid_like-clause-err : goal.returns-in_err-laid_like-clause-err
@@ -37,7 +37,7 @@ returns-in_err-laid_like-clause-err g c =
     let f : FunctionValue = g.F.Function.function c.args.f.now in
     let framed : IsFramed f = c.is_framed.ensures.0 c.if-not-is_framed.false in
     let p = err_from_is_err_and c.from_residual-in_err-laid_like.result c.from_residual-in_err-laid_like.ensures.1 in
-    rw (p.1, p.2) (unbuilt-laid c.empty-none.result f framed (map draft_of c.in_ok-drafts.drafts.items) c.in_ok-drafts.ensures.ok _
+    rw (p.1, p.2) (unbuilt-laid f framed (map draft_of c.in_ok-drafts.drafts.items) c.in_ok-drafts.ensures.ok _
     (g.met.F.Function.limited c.args.f.now) c.in_err-laid_like.ensures.err)
 
 pub returns-in_err-drafts-clause-err : goal.returns-in_err-drafts-clause-err

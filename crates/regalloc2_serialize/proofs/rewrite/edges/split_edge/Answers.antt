@@ -25,13 +25,13 @@ pub returns-then-not-has_critical_edge-clause-jumps : goal.returns-then-not-has_
 returns-then-not-has_critical_edge-clause-jumps g c =
     let f : FunctionValue = g.F.Function.function c.args.f.now in
     let plain : is_critical f c.args.block c.args.k ≡ false = sym c.has_critical_edge.ensures ∙ c.if-not-has_critical_edge.true in
-    plain-jumps c.args.none f c.args.block c.args.k (map draft_of c.args.jumps.now.items) plain c.requires.to_split.before
+    plain-jumps f c.args.block c.args.k (map draft_of c.args.jumps.now.items) plain c.requires.to_split.before
 
 pub returns-then-number-ge-BLOCK_LIMIT-clause-err : goal.returns-then-number-ge-BLOCK_LIMIT-clause-err
 returns-then-number-ge-BLOCK_LIMIT-clause-err g c =
     let f : FunctionValue = g.F.Function.function c.args.f.now in
     let critical : is_critical f c.args.block c.args.k ≡ true = sym c.has_critical_edge.ensures ∙ c.if-not-has_critical_edge.false in
-    let more = critical-more c.args.none f c.args.block c.args.k (map draft_of c.args.jumps.now.items) c.requires.to_split.counted.block c.requires.position critical
+    let more = critical-more f c.args.block c.args.k (map draft_of c.args.jumps.now.items) c.requires.to_split.counted.block c.requires.position critical
     c.requires.to_split.before in
     too-many _ _ _ _ _ _ _ c.if-number-ge-BLOCK_LIMIT.true c.num_blocks.ensures.count c.len.ensures c.args.jumps.now.ok.0
     (length-map c.args.jumps.now.items draft_of) more
@@ -40,7 +40,7 @@ pub returns-clause-ends : goal.returns-clause-ends
 returns-clause-ends g c =
     let f : FunctionValue = g.F.Function.function c.args.f.now in
     let critical : is_critical f c.args.block c.args.k ≡ true = sym c.has_critical_edge.ensures ∙ c.if-not-has_critical_edge.false in
-    let at = critical-succ c.args.none f c.args.block c.args.k (map draft_of c.args.jumps.now.items) critical c.requires.to_split.before in (
+    let at = critical-succ f c.args.block c.args.k (map draft_of c.args.jumps.now.items) critical c.requires.to_split.before in (
       goes-to _ _ _ _ _ _ _ _ c.new.ensures c.num_blocks.ensures.count c.len.ensures c.args.jumps.now.ok.0 (length-map c.args.jumps.now.items draft_of) at,
       rw critical c.new-2.ensures.items,
     )
@@ -57,12 +57,12 @@ returns-clause-jumps g c =
     ∙ ap (λ (ss : List ℕ). slice_index ss k) c.block_succs.ensures in
     let passed : c.in_ok-arguments.arguments.items ≡ arguments_at f b k =
     c.in_ok-arguments.ensures.items_if_clones_equal (λ x y h. h) ∙ c.branch_blockparams.ensures in
-    let made : draft_of c.in_ok-jump.jump ≡ jump_on c.args.none f (edge b k) =
-    jump-made c.args.none f b k c.index-block_succs-k.result c.in_ok-arguments.arguments.items (draft_of c.in_ok-jump.jump) to passed c.in_ok-jump.ensures in
+    let made : draft_of c.in_ok-jump.jump ≡ jump_on f (edge b k) =
+    jump-made f b k c.index-block_succs-k.result c.in_ok-arguments.arguments.items (draft_of c.in_ok-jump.jump) to passed c.in_ok-jump.ensures in
     let e : c.push.new.self.items ≡ c.args.jumps.now.items ++ c.in_ok-jump.jump ∷ [] = c.in_ok-push.ensures.items in
     ap (map draft_of) e ∙ map-append draft_of c.args.jumps.now.items (c.in_ok-jump.jump ∷ [])
     ∙ ap (λ (d : DraftValue). map draft_of c.args.jumps.now.items ++ d ∷ []) made
-    ∙ critical-jumps c.args.none f b k (map draft_of c.args.jumps.now.items) critical c.requires.to_split.before
+    ∙ critical-jumps f b k (map draft_of c.args.jumps.now.items) critical c.requires.to_split.before
 
 pub block_succs-requires : goal.block_succs-requires
 block_succs-requires g c = c.requires.to_split.counted.block

@@ -43,7 +43,7 @@ returns-clause-jumps g c =
     let f : FunctionValue = g.F.Function.function c.args.f.now in
     let all : c.loop-k.k ≡ length (block_at f c.args.block).succs =
     omega (arith, c.loop-k-test.false, c.loop-k.auto.k-end, ap length c.block_succs-k-end.ensures) in
-    jumps-next c.args.none f c.args.block c.loop-k.k (map draft_of c.loop-k.jumps.items) all c.loop-k.invariant.jumps
+    jumps-next f c.args.block c.loop-k.k (map draft_of c.loop-k.jumps.items) all c.loop-k.invariant.jumps
 
 pub returns-in_err-succ-clause-err : goal.returns-in_err-succ-clause-err
 returns-in_err-succ-clause-err g c =

@@ -8,5 +8,5 @@ abbrev pub invariant-loop-k : goal.invariant-loop-k
 invariant-loop-k g l = record {
   succs : l.succs.items ≡ map (split_succ (g.F.Function.function l.f) l.block) (range_with_len 0 l.k);
   lists : map (λ v. v.items) l.lists.items ≡ map (split_arguments (g.F.Function.function l.f) l.block) (range_with_len 0 l.k);
-  jumps : AreJumps l.none (g.F.Function.function l.f) l.block l.k (map draft_of l.jumps.items);
+  jumps : AreJumps (g.F.Function.function l.f) l.block l.k (map draft_of l.jumps.items);
 }

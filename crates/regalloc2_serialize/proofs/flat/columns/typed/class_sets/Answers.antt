@@ -1,8 +1,8 @@
 use Rattle.std.proofs.Common.{ℕ, zero, suc, ◌≡◌, ◌<◌, ◌∷◌, [], List, length, take, drop, refl, arith}
 use Rattle.std.specs.Prelude.{slice_index_or}
 use Rattle.std.proofs.lemmas.List.{length-take-le, length-drop}
+use Rattle.regalloc2_names.specs.Register.{empty_set}
 use Rattle.regalloc2_names.specs.declared.sets.PRegSet.{PRegSet}
-use Rattle.regalloc2_function.specs.Machine.{empty_set}
 use Rattle.regalloc2_serialize.specs.Flat.Columns.Value.{HasBits, HaveBits, set_words_at}
 use Rattle.regalloc2_serialize.proofs.flat.columns.typed.class_sets.Goals as goal
 

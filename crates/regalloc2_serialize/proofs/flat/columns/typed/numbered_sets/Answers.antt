@@ -1,7 +1,7 @@
 use Rattle.std.proofs.Common.{◌≡◌, ◌∙◌, ◌+◌, ◌++◌, ◌∷◌, [], ℕ, List, ap, arith, below_more, refl}
 use Rattle.std.proofs.lemmas.List.{get_or_append_left, get_or_push, length_push}
+use Rattle.regalloc2_names.specs.Register.{empty_set}
 use Rattle.regalloc2_names.specs.declared.sets.PRegSet.{PRegSet}
-use Rattle.regalloc2_function.specs.Machine.{empty_set}
 use Rattle.regalloc2_serialize.specs.Flat.Columns.Value.{AreNumbered, HasBits, set_words_at}
 use Rattle.regalloc2_serialize.proofs.flat.columns.typed.numbered_sets.Goals as goal
 
@@ -18,7 +18,7 @@ more words k sets s old here = record {
 pub loop-k-init : goal.loop-k-init
 loop-k-init g c =
     let one : c.push.new.self.items ≡ c.empty.result ∷ [] = c.in_ok-push.ensures.items ∙ ap (λ l. l ++ c.empty.result ∷ []) c.in_ok-sets.ensures.items in
-    rw one (record { count_is = refl; none = c.empty.ensures; each = λ k less. absurd (omega (arith, less)) })
+    rw one (record { count_is = refl; none = c.empty.ensures.none; each = λ k less. absurd (omega (arith, less)) })
 
 pub loop-k-preserved : goal.loop-k-preserved
 loop-k-preserved g c = rw c.in_ok-push-2.ensures.items (more c.args.words.now c.loop-k.k c.loop-k.sets.items c.set_of.result c.loop-k.invariant c.set_of.ensures)
