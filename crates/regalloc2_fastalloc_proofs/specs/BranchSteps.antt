@@ -6,7 +6,7 @@ use Rattle.std.specs.List.{All}
 use Rattle.regalloc2_names.specs.declared.RegClass.{RegClass}
 use Rattle.regalloc2_names.specs.declared.RegClass.TheVariants.{Int, Float, Vector}
 use Rattle.regalloc2_names.specs.Register.{Register, VirtualRegister, class_code, no_vreg, has_register}
-use Rattle.regalloc2_names.specs.Place.{Place, NoPlace, InRegister, InSlot, is_memory, before}
+use Rattle.regalloc2_names.specs.Place.{Place, NoPlace, InRegister, InSlot, is_on_stack, before}
 use Rattle.regalloc2_function.specs.FunctionValue.{FunctionValue, block_at, inst_at, last_of}
 use Rattle.regalloc2_semantics.specs.Runs.{arguments_at}
 use Rattle.regalloc2_semantics.specs.Sound.{HasEdge, target_at}
@@ -67,7 +67,7 @@ IsScratchUsed inst_regs old new class p =
 -- a move that implements the given ones
 pub record IsOrdered (inst_regs : InstRegs) (class : RegClass) (given : Moves) (old new : StateValue) (m : Place × Place × Unit {0}) : Type 0 where
   pub between : (m.0 ≢ NoPlace) × (m.1 ≢ NoPlace)
-  pub apart : is_memory old.fixed_stack m.0 ≡ true → is_memory old.fixed_stack m.1 ≡ true → ⊥
+  pub apart : is_on_stack old.fixed_stack m.0 ≡ true → is_on_stack old.fixed_stack m.1 ≡ true → ⊥
   pub source : IsScratchUsed inst_regs old new class m.0 ⊎ ((n : Place × Place × Unit {0}) × Contains given n × (m.0 ≡ n.0))
   pub target : IsScratchUsed inst_regs old new class m.1 ⊎ ((n : Place × Place × Unit {0}) × Contains given n × (m.1 ≡ n.1))
 

@@ -8,7 +8,7 @@ use Rattle.regalloc2_names.specs.declared.OperandConstraint.{OperandConstraint}
 use Rattle.regalloc2_names.specs.declared.OperandConstraint.TheVariants.{Any, Reg, Stack, FixedReg, Reuse, Limit}
 use Rattle.regalloc2_names.specs.declared.sets.PRegSet.{PRegSet}
 use Rattle.regalloc2_names.specs.Register.{Register, VirtualRegister, class_code, is_register, has_register, registers_of}
-use Rattle.regalloc2_names.specs.Place.{is_memory, Place, NoPlace, InRegister, InSlot, is_place, before, after}
+use Rattle.regalloc2_names.specs.Place.{is_on_stack, Place, NoPlace, InRegister, InSlot, is_place, before, after}
 use Rattle.regalloc2_names.specs.Operand.{OperandValue, is_def, is_late, is_reading, is_fixed_nonallocatable}
 use Rattle.std.specs.List.{count_by}
 use Rattle.regalloc2_semantics.specs.Fits.{is_under_reg}
@@ -79,7 +79,7 @@ a_move point from to = (point, record { from = from; to = to })
 
 -- a stack place
 abbrev pub is_stack_in : StateValue → Place → Bool
-is_stack_in t p = is_memory t.fixed_stack p
+is_stack_in t p = is_on_stack t.fixed_stack p
 
 -- a register that may hold values of a class
 pub record MayHold (t : StateValue) (class : RegClass) (r : Register) : Type 0 where

@@ -3,7 +3,7 @@ use Rattle.std.specs.Prelude.{ℕ, ◌≡◌, ◌≢◌, ◌<◌, ◌⊎◌, ◌
 use Rattle.regalloc2_names.specs.declared.RegClass.{RegClass}
 use Rattle.regalloc2_names.specs.Register.{Register, VirtualRegister, class_code, no_vreg}
 use Rattle.regalloc2_names.specs.Operand.{OperandValue}
-use Rattle.regalloc2_names.specs.Place.{Place, NoPlace, InRegister, is_memory, before}
+use Rattle.regalloc2_names.specs.Place.{Place, NoPlace, InRegister, is_on_stack, before}
 use Rattle.regalloc2_function.specs.FunctionValue.{FunctionValue, block_at, inst_at, op_at, last_of}
 use Rattle.regalloc2_function.specs.OutputValue.{MoveValue}
 use Rattle.regalloc2_semantics.specs.Runs.{arguments_at}
@@ -53,7 +53,7 @@ IsStoredAt f b v = (e k : ℕ) × IsEdgeInto f b e k × IsConcerned f e k v
 
 -- a store from the stack goes through a register: the machine's dedicated one of the class, or an allocatable one
 pub record IsByWay (t : StateValue) (class : RegClass) (s : Store) : Type 0 where
-  pub direct : s.by ≡ None → is_memory t.fixed_stack s.from ≡ false
+  pub direct : s.by ≡ None → is_on_stack t.fixed_stack s.from ≡ false
   pub through : (q : Place) → s.by ≡ Some q → (r : Register) × (q ≡ InRegister r)
       × ((slice_index_or t.dedicated_scratch (class_code class) None ≡ Some r) ⊎ MayHold t class r)
 
@@ -73,7 +73,7 @@ pushed_moves point (m ∷ ms) = pushed_moves point ms ++ (point, m) ∷ []
 -- the stores on the edge k out of the block e, each once, are pushed at a point
 pub record StoresOn (f : FunctionValue) (e k point : ℕ) (old new : StateValue) : Type 0 where
   pub stores : List Store
-  pub in_order : AreInOrder (is_memory old.fixed_stack) stores
+  pub in_order : AreInOrder (is_on_stack old.fixed_stack) stores
   pub each : (s : Store) → IsOneOf s stores → (j : ℕ) × (v : VirtualRegister) × StoresFor f e k old new s j v
   pub all : (j : ℕ) (v : VirtualRegister) → IsStoredFor f e k old.slots j v → (s : Store) × IsOneOf s stores × StoresFor f e k old new s j v
   pub slots : GetsSlots (IsConcerned f e k) old.slots new.slots

@@ -6,7 +6,7 @@ ghost use Rattle.regalloc2_names.specs.declared.RegClass.{RegClass};
 ghost use Rattle.regalloc2_function.specs.Machine.{is_allocatable};
 ghost use Rattle.regalloc2_function.specs.Views.{machine_of};
 ghost use Rattle.regalloc2_names.specs.Register.{Register, class_code, is_register, has_register};
-ghost use Rattle.regalloc2_names.specs.Place.{is_memory};
+ghost use Rattle.regalloc2_names.specs.Place.{is_on_stack};
 ghost use Rattle.regalloc2_fastalloc_state.specs.Choice.{chosen};
 ghost use Rattle.regalloc2_fastalloc_state.specs.ClassLrus.{AreLrusOf};
 ghost use Rattle.regalloc2_fastalloc_state.specs.StateParts.{IsLeastRecentIn, NoneIsIn, NoneIsFrom, AreLrus, AreThoseBelow, SameRegisters, lru_of};
@@ -142,9 +142,9 @@ impl<A: Allocator> AllocatableRegs<A> {
 
     /// Whether `place` is on the stack: a spill slot or a fixed stack slot.
     pub fn is_stack(&self, place: Allocation) -> bool
-        ensures { result ≡ is_memory self.now.fixed_stack place }
+        ensures { result ≡ is_on_stack self.now.fixed_stack place }
     {
-        // `Allocation::is_memory` takes the set by value, which is a copy of three words
+        // `Allocation::is_on_stack` takes the set by value, which is a copy of three words
         match place.as_reg() {
             Some(preg) => self.fixed_stack.contains(preg),
             None => place.is_some(),

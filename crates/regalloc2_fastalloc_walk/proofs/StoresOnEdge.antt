@@ -9,7 +9,7 @@ use Rattle.std.proofs.lemmas.List.Sums.{sum_by-cons}
 use Rattle.regalloc2_names.specs.declared.RegClass.TheVariants.{Int}
 use Rattle.regalloc2_names.specs.Register.{Register, VirtualRegister}
 use Rattle.regalloc2_names.specs.Operand.{OperandValue}
-use Rattle.regalloc2_names.specs.Place.{Place, NoPlace, InRegister, InSlot, is_memory}
+use Rattle.regalloc2_names.specs.Place.{Place, NoPlace, InRegister, InSlot, is_on_stack}
 use Rattle.regalloc2_function.specs.FunctionValue.{FunctionValue, block_at, op_at, last_of}
 use Rattle.regalloc2_function.specs.OutputValue.{MoveValue}
 use Rattle.regalloc2_function.specs.WellFormed.{IsWellFormed}
@@ -211,7 +211,7 @@ made_on t s es from_stack ms ss (one_made m x ns ts is made rest) = one_made m x
 
 module _ (t : StateValue) (apart : RegsAvoidStack t) where
   abbrev Memory : Place → Bool
-  Memory = is_memory t.fixed_stack
+  Memory = is_on_stack t.fixed_stack
 
   -- each store is made of a move from a place of the kind
   made_of : (fm : Bool) (ms : List StoreMove) (ss : List Store) → AreMadeOf t fm ms ss → (x : Store) → IsOneOf x ss →
@@ -350,8 +350,8 @@ module _ (at_edge : EdgeStores) where
   defines_at : (n j : ℕ) → DefinesNumber (branch_operands f e) n j → IsDefOperand f n (last_of (block_at f e)) j
   defines_at n j d = record { inst = last_within f ok.follow e edge.block; operand = d.operand; definition = d.definition; number = d.number }
 
-  to_memory : (i : ℕ) → i < length ms → is_memory t.fixed_stack (store_move_at ms i).to ≡ true
-  to_memory i lt = ap (is_memory t.fixed_stack) (fits i lt).slot.1
+  to_memory : (i : ℕ) → i < length ms → is_on_stack t.fixed_stack (store_move_at ms i).to ≡ true
+  to_memory i lt = ap (is_on_stack t.fixed_stack) (fits i lt).slot.1
 
   -- what is in its own slot isn't stored for that vreg
   not_own : (i j : ℕ) (v : VirtualRegister) → IsStoredFor f e k t.slots i v → DefinesNumber (branch_operands f e) (op_at (branch_operands f e)
@@ -446,7 +446,7 @@ module _ (at_edge : EdgeStores) where
           λ i lt from.
               let o = made_of t apart true ms p.stores from_stack x one in
               let sep = separate i o.0 lt o.1 (λ same. (
-              let z : is_memory t.fixed_stack (store_move_at ms o.0).from ≡ false = subst (λ y. is_memory t.fixed_stack (store_move_at ms y).from ≡ false) same from in
+              let z : is_on_stack t.fixed_stack (store_move_at ms o.0).from ≡ false = subst (λ y. is_on_stack t.fixed_stack (store_move_at ms y).from ≡ false) same from in
               let zz : true ≡ false = sym o.2 ∙ z in cc)) in
               (λ e. sep.0 (e ∙ o.3.to), λ e. sep.1 (sym o.3.from ∙ e)),
         ));
@@ -461,7 +461,7 @@ module _ (at_edge : EdgeStores) where
         let lt : c.0 < length ms = (let less = c.1 in let l = long in omega (arith, less, l)) in
         let is : store_at ds c.0 ≡ record { index = j; to = v } = listed_at ds c.0 (record { index = j; to = v }) c.1 c.2 in
         subst (λ (d : StoredDef). (x : Store) × IsOneOf x (q.stores ++ p.stores) × StoresFor f e k t w x d.index d.to) is
-        (elim (cases_Bool (is_memory t.fixed_stack (store_move_at ms c.0).from)) [
+        (elim (cases_Bool (is_on_stack t.fixed_stack (store_move_at ms c.0).from)) [
           | inl memory ↦ (let o = makes_one t apart true ms p.stores from_stack c.0 lt memory in
               (o.0, of_second o.0 q.stores p.stores o.1, is_for_vreg w slots_are c.0 lt o.0 o.2))
           | inr none ↦ (let o = makes_one t apart false ms q.stores from_registers c.0 lt none in
@@ -501,8 +501,8 @@ module _ (at_edge : EdgeStores) where
       from_registers = made_on t s (t.edits ++ pushed_moves point (store_moves p.stores)) false ms q.stores
           (subst (λ (z : StateValue). AreMadeOf z false ms q.stores) after_memory q.made)
 
-      order_memory : AreInOrder (is_memory t.fixed_stack) p.stores
-      order_memory = subst (AreInOrder (is_memory t.fixed_stack)) (append-nil p.stores)
+      order_memory : AreInOrder (is_on_stack t.fixed_stack) p.stores
+      order_memory = subst (AreInOrder (is_on_stack t.fixed_stack)) (append-nil p.stores)
           (in_order t apart true ms p.stores from_stack to_memory separate [] (empty_order t apart) (λ x none. elim none [ ]))
 
       listed_at : (xs : List StoredDef) (i : ℕ) (d : StoredDef) → i < length xs → slice_index_or xs i d ≡ d → store_at xs i ≡ d

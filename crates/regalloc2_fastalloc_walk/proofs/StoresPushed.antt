@@ -4,7 +4,7 @@ use Rattle.std.specs.Prelude.{not, slice_index_or}
 use Rattle.std.proofs.Math.Bool.{beq}
 use Rattle.std.specs.Cmp.{booleans_Decides}
 use Rattle.std.proofs.lemmas.List.{append-nil, drop_more}
-use Rattle.regalloc2_names.specs.Place.{Place, is_memory}
+use Rattle.regalloc2_names.specs.Place.{Place, is_on_stack}
 use Rattle.regalloc2_function.specs.OutputValue.{MoveValue}
 use Rattle.regalloc2_carry.specs.Stores.{Store, moves_by, store_moves}
 use Rattle.regalloc2_fastalloc_proofs.specs.InstSteps.{StateValue}
@@ -60,7 +60,7 @@ module _ (point : ℕ) (from_stack : Bool) (ms : List StoreMove) (t : StateValue
   }
 
   -- a move of the other kind is passed over
-  pub pushes_over : (k : ℕ) (d : StoreMove) (u : StateValue) → k < length ms → is_memory t.fixed_stack (slice_index_or ms k d).from ≡ not from_stack →
+  pub pushes_over : (k : ℕ) (d : StoreMove) (u : StateValue) → k < length ms → is_on_stack t.fixed_stack (slice_index_or ms k d).from ≡ not from_stack →
       PushesStores point from_stack (drop (k + 1) ms) t u → PushesStores point from_stack (drop k ms) t u
   pushes_over k d u lt other h = record {
     stores = h.stores;
@@ -70,7 +70,7 @@ module _ (point : ℕ) (from_stack : Bool) (ms : List StoreMove) (t : StateValue
   }
 
   -- one more store is pushed
-  pub pushes_one : (k : ℕ) (d : StoreMove) (u v : StateValue) (s : Store) → k < length ms → is_memory t.fixed_stack (slice_index_or ms k d).from ≡ from_stack →
+  pub pushes_one : (k : ℕ) (d : StoreMove) (u v : StateValue) (s : Store) → k < length ms → is_on_stack t.fixed_stack (slice_index_or ms k d).from ≡ from_stack →
       PushesStores point from_stack (drop (k + 1) ms) t u → IsMadeOf u (slice_index_or ms k d) s →
       v ≡ record u { edits = u.edits ++ pushed_moves point (moves_by s.from s.by s.to) } → PushesStores point from_stack (drop k ms) t v
   unfolding store_moves
@@ -89,11 +89,11 @@ module _ (point : ℕ) (from_stack : Bool) (ms : List StoreMove) (t : StateValue
       }
 
   -- a place that is of a kind in the tables after pushes is of the kind in the tables before them
-  pub kind_there : (xs : List StoreMove) (u : StateValue) → PushesStores point from_stack xs t u → (p : Place) (b : Bool) → b ≡ is_memory u.fixed_stack p →
-      beq b from_stack ≡ true → is_memory t.fixed_stack p ≡ from_stack
-  kind_there xs u h p b is same = sym (ap (λ (x : StateValue). is_memory x.fixed_stack p) h.pushed) ∙ sym is ∙ (booleans_Decides b from_stack).0 same
+  pub kind_there : (xs : List StoreMove) (u : StateValue) → PushesStores point from_stack xs t u → (p : Place) (b : Bool) → b ≡ is_on_stack u.fixed_stack p →
+      beq b from_stack ≡ true → is_on_stack t.fixed_stack p ≡ from_stack
+  kind_there xs u h p b is same = sym (ap (λ (x : StateValue). is_on_stack x.fixed_stack p) h.pushed) ∙ sym is ∙ (booleans_Decides b from_stack).0 same
 
-  pub other_kind : (xs : List StoreMove) (u : StateValue) → PushesStores point from_stack xs t u → (p : Place) (b : Bool) → b ≡ is_memory u.fixed_stack p →
-      beq b from_stack ≡ false → is_memory t.fixed_stack p ≡ not from_stack
-  other_kind xs u h p b is other = sym (ap (λ (x : StateValue). is_memory x.fixed_stack p) h.pushed) ∙ sym is ∙ opposite b from_stack (λ same.
+  pub other_kind : (xs : List StoreMove) (u : StateValue) → PushesStores point from_stack xs t u → (p : Place) (b : Bool) → b ≡ is_on_stack u.fixed_stack p →
+      beq b from_stack ≡ false → is_on_stack t.fixed_stack p ≡ not from_stack
+  other_kind xs u h p b is other = sym (ap (λ (x : StateValue). is_on_stack x.fixed_stack p) h.pushed) ∙ sym is ∙ opposite b from_stack (λ same.
       let x : true ≡ false = sym ((booleans_Decides b from_stack).1 same) ∙ other in cc)

@@ -4,7 +4,7 @@ use Rattle.std.specs.Prelude.{ℕ, ◌≡◌, ◌≢◌, ◌+◌, ◌<◌, ◌�
 use Rattle.std.specs.Prelude.{None, Some, slice_index_or}
 use Rattle.regalloc2_names.specs.Register.{Register, VirtualRegister, no_vreg}
 use Rattle.regalloc2_names.specs.Operand.{OperandValue}
-use Rattle.regalloc2_names.specs.Place.{Place, NoPlace, InRegister, is_memory}
+use Rattle.regalloc2_names.specs.Place.{Place, NoPlace, InRegister, is_on_stack}
 use Rattle.regalloc2_function.specs.FunctionValue.{FunctionValue, op_at}
 use Rattle.regalloc2_carry.specs.Stores.{Store, moves_by, store_moves}
 use Rattle.regalloc2_analysis.specs.BranchDefs.BranchDefs.{fixed_definition}
@@ -79,15 +79,15 @@ pub data FindsStores (operands : List OperandValue) (stores : List StoredDef) (o
 pub record IsMadeOf (t : StateValue) (m : StoreMove) (s : Store) : Type 0 where
   pub from : s.from ≡ m.from
   pub to : s.to ≡ m.to
-  pub direct : is_memory t.fixed_stack m.from ≡ false → s.by ≡ None
+  pub direct : is_on_stack t.fixed_stack m.from ≡ false → s.by ≡ None
   pub by_way : IsByWay t m.class s
 
 -- the moves from the stack, or the moves from registers, as they are made, in their order
 pub data AreMadeOf (t : StateValue) (from_stack : Bool) : List StoreMove → List Store → Type 0 where
   none_made : AreMadeOf t from_stack [] []
-  passed_over : (m : StoreMove) (ms : List StoreMove) (ss : List Store) → is_memory t.fixed_stack m.from ≡ not from_stack → AreMadeOf t from_stack ms ss →
+  passed_over : (m : StoreMove) (ms : List StoreMove) (ss : List Store) → is_on_stack t.fixed_stack m.from ≡ not from_stack → AreMadeOf t from_stack ms ss →
       AreMadeOf t from_stack (m ∷ ms) ss
-  one_made : (m : StoreMove) (s : Store) (ms : List StoreMove) (ss : List Store) → is_memory t.fixed_stack m.from ≡ from_stack → IsMadeOf t m s →
+  one_made : (m : StoreMove) (s : Store) (ms : List StoreMove) (ss : List Store) → is_on_stack t.fixed_stack m.from ≡ from_stack → IsMadeOf t m s →
       AreMadeOf t from_stack ms ss
       → AreMadeOf t from_stack (m ∷ ms) (s ∷ ss)
 

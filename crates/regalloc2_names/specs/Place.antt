@@ -46,10 +46,10 @@ is_in_slot (InRegister r) = false
 is_in_slot (InSlot n) = true
 
 -- a stack place: a spill slot, or a register that names a fixed stack slot
-abbrev pub is_memory : PRegSet → Place → Bool
-is_memory fixed_stack NoPlace = false
-is_memory fixed_stack (InRegister r) = has_register fixed_stack r
-is_memory fixed_stack (InSlot n) = true
+abbrev pub is_on_stack : PRegSet → Place → Bool
+is_on_stack fixed_stack NoPlace = false
+is_on_stack fixed_stack (InRegister r) = has_register fixed_stack r
+is_on_stack fixed_stack (InSlot n) = true
 
 -- the places are equal
 abbrev pub is_place : Place → Place → Bool

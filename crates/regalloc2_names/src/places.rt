@@ -2,7 +2,7 @@
 
 ghost use Rattle.std.specs.Prelude.{None, Some, false, ◌≡◌, ℕ, ◌+◌, ◌%◌, ◌<◌, ◌≤◌, ◌↔◌, IsTrue};
 ghost use Rattle.regalloc2_names.specs.PlaceBits.{IsPlaceBits, bits_of_place, index_of_place, place_of_bits};
-ghost use Rattle.regalloc2_names.specs.Place.{NoPlace, InRegister, InSlot, invalid_slot, is_in_register, is_in_slot, is_memory, is_no_place};
+ghost use Rattle.regalloc2_names.specs.Place.{NoPlace, InRegister, InSlot, invalid_slot, is_in_register, is_in_slot, is_on_stack, is_no_place};
 ghost use Rattle.regalloc2_names.specs.Place.{kind_of_place, register_of_place, slot_limit, slot_of_place};
 
 use super::{AllocationKind, PReg, PRegSet};
@@ -193,8 +193,8 @@ impl Allocation {
 
     /// Returns `true` if the place is on the stack: a spill slot, or a register of `fixed_stack`, which names a
     /// fixed stack slot.
-    pub fn is_memory(self, fixed_stack: PRegSet) -> bool
-        ensures { result ≡ is_memory fixed_stack self }
+    pub fn is_on_stack(self, fixed_stack: PRegSet) -> bool
+        ensures { result ≡ is_on_stack fixed_stack self }
     {
         match self.as_reg() {
             Some(preg) => fixed_stack.contains(preg),

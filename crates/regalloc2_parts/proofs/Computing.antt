@@ -18,7 +18,7 @@ use Rattle.regalloc2_parts.specs.declared.moves.passing.Held.TheVariants.{Free, 
 use Rattle.regalloc2_parts.specs.declared.moves.passing.ScratchReg.{ScratchReg}
 use Rattle.regalloc2_parts.specs.Tracking.{CanExpand, IsExpanded, IsMade, IsEither, IsUnused}
 use Rattle.regalloc2_parts.specs.Computed.{Asked, MayBeAskedTwice, Owes, IsHanding, IsRefusing, IsVia, IsPlaceChosen, IsAnswer, IsComputed}
-use Rattle.regalloc2_parts.specs.Computed.{AreApartInMemory, AreSeenApart, handed_place}
+use Rattle.regalloc2_parts.specs.Computed.{AreApartOnStack, AreSeenApart, handed_place}
 use Rattle.regalloc2_parts.proofs.Filling.{fills_same, fills_real, or_some, or_none}
 use Rattle.regalloc2_parts.proofs.Places.{cases_place}
 
@@ -231,7 +231,7 @@ module _ {F G T : Type 0} (registers : F → Option Place → F → Type 0) (slo
   -- moves were made by way of a register
   computed_by_way : (given made out : List (Place × Place × T)) (scratch : Bool) (f f' : F) (g g' : G) (c : Chosen given scratch f f' g g' made)
       (qs ts : List (Option Place)) (register save : Place) → (IsAnswer (c.rs ++ qs) (c.ss ++ ts) register ⊎ (register ≡ borrowed)) →
-      IsAnswer (c.rs ++ qs) (c.ss ++ ts) save → (AreApartInMemory stack made → ⊥) →
+      IsAnswer (c.rs ++ qs) (c.ss ++ ts) save → (AreApartOnStack stack made → ⊥) →
       ((q : Place) → q ≢ save → in_turn (ends_of out) own_names q ≡ in_turn (ends_of made) own_names q) → All (IsMade stack register save made) out →
       IsComputed stack borrowed (IsAnswer (c.rs ++ qs) (c.ss ++ ts)) scratch given out
   computed_by_way given made out scratch f f' g g' c qs ts register save lent_register lent_save some same each =
@@ -262,7 +262,7 @@ module _ {F G T : Type 0} (registers : F → Option Place → F → Type 0) (slo
                   (c.targets n.0 n.1))
                   m.target;
             };
-        plain = λ e a. absurd (some (subst (λ xs. AreApartInMemory stack xs) (sym (c.plain e)) a));
+        plain = λ e a. absurd (some (subst (λ xs. AreApartOnStack stack xs) (sym (c.plain e)) a));
       }
 
   -- what was returned the first time, and the second
@@ -339,7 +339,7 @@ module _ {F G T : Type 0} (registers : F → Option Place → F → Type 0) (slo
   -- all places requested, and the moves made by way of what was handed out
   pub computes_by_way : {given made : List (Place × Place × T)} {scratch : Bool} {f f' : F} {g g' : G} (f'' : F) (g'' : G) →
       Chosen given scratch f f' g g' made →
-      (AreApartInMemory stack made → ⊥) → (h : Handed) → IsHanding registers slots f' f'' g' g'' h → (via : ScratchReg) (first : Held) →
+      (AreApartOnStack stack made → ⊥) → (h : Handed) → IsHanding registers slots f' f'' g' g'' h → (via : ScratchReg) (first : Held) →
       IsVia h borrowed via first
       → (a : Asked registers f f'') × (b : Asked slots g g'') × ((out : List (Place × Place × T)) → IsExpanded stack via.register via.save made out →
       IsComputed stack borrowed (IsAnswer a.answers b.answers) scratch given out)
@@ -377,7 +377,7 @@ refused_first registers slots f f' g g' h = (
 
 -- what a closure returned, where the closure and the list are the same
 pub not_apart : {S T : Type 0} (post : S → Place → Bool → Type 0) (f f' : S) (xs ys : List (Place × Place × T)) → f ≡ f' → xs ≡ ys →
-    (AreApartInMemory (λ p b. post f p b) xs → true ≡ false) → AreApartInMemory (λ p b. post f' p b) ys → ⊥
+    (AreApartOnStack (λ p b. post f p b) xs → true ≡ false) → AreApartOnStack (λ p b. post f' p b) ys → ⊥
 not_apart post f f' xs ys ef e some a =
-    let no : true ≡ false = some (subst (λ s. AreApartInMemory (λ p b. post s p b) xs) (sym ef)
-    (subst (λ zs. AreApartInMemory (λ p b. post f' p b) zs) (sym e) a)) in absurd cc
+    let no : true ≡ false = some (subst (λ s. AreApartOnStack (λ p b. post s p b) xs) (sym ef)
+    (subst (λ zs. AreApartOnStack (λ p b. post f' p b) zs) (sym e) a)) in absurd cc

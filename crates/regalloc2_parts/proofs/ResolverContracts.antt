@@ -7,13 +7,13 @@ use Rattle.std.specs.List.{FoldsTo}
 use Rattle.std.proofs.lemmas.Bool.{cases_eq}
 use Rattle.regalloc2_index.proofs.Bools.{not_both}
 use Rattle.regalloc2_names.specs.declared.sets.PRegSet.{PRegSet}
-use Rattle.regalloc2_names.specs.Place.{Place, NoPlace, InRegister, InSlot, is_memory}
+use Rattle.regalloc2_names.specs.Place.{Place, NoPlace, InRegister, InSlot, is_on_stack}
 use Rattle.regalloc2_names.specs.Register.{Register}
 use Rattle.regalloc2_parts.specs.Computed.{Asked, Owes, MayAnswer, AnswersDiffer, IsAnswer, IsAway, IsComputed}
 use Rattle.regalloc2_parts.specs.declared.scratch_pool.ScratchPair.{ScratchPair}
 use Rattle.regalloc2_parts.specs.declared.scratch_pool.ScratchPool.{ScratchPool}
 use Rattle.regalloc2_parts.specs.ScratchPool.{Moves, IsOfScratchPair, IsScratchTaken, DoDiffer, YieldsInOrder, DecidesStack, MayDecideStack, IsUsableFor}
-use Rattle.regalloc2_parts.specs.ScratchPool.{IsOrderedWith, HasTooFewSlots, AreNotBothInMemory}
+use Rattle.regalloc2_parts.specs.ScratchPool.{IsOrderedWith, HasTooFewSlots, AreNotBothOnStack}
 
 -- a value of a list is its first one, or one of the rest
 split_head : {X : Type 0} (a : X) (xs : List X) (x : X) → Contains (a ∷ xs) x → (x ≡ a) ⊎ Contains xs x
@@ -98,12 +98,12 @@ module _ {F : Type 0} (g : Mut F (Unit {0}) (Option Place)) (f : F) (pair : Scra
     was_taken (a ∷ b ∷ x ∷ rest) f' f'' few calls after p c = absurd (omega arith)
 
 -- a slot is on the stack
-memory_slot : (fixed_stack : PRegSet) (q : Place) (k : ℕ) → q ≡ InSlot k → is_memory fixed_stack q ≡ true
-memory_slot fixed_stack q k e = ap (is_memory fixed_stack) e
+memory_slot : (fixed_stack : PRegSet) (q : Place) (k : ℕ) → q ≡ InSlot k → is_on_stack fixed_stack q ≡ true
+memory_slot fixed_stack q k e = ap (is_on_stack fixed_stack) e
 
 -- the closure doesn't report both of two ends as on the stack, where they aren't
 pub stay_apart : {H : Type 0} (m : Shared H (Place × Unit {0}) Bool) (h : H) (fixed_stack : PRegSet) → DecidesStack m h fixed_stack →
-    (mv : Place × Place × Unit {0}) → AreNotBothInMemory fixed_stack mv.0 mv.1 → m.post h (mv.0, tt) true → m.post h (mv.1, tt) true → ⊥
+    (mv : Place × Place × Unit {0}) → AreNotBothOnStack fixed_stack mv.0 mv.1 → m.post h (mv.0, tt) true → m.post h (mv.1, tt) true → ⊥
 stay_apart m h fixed_stack tells mv apart a b = apart (tells mv.0 true a) (tells mv.1 true b)
 
 -- closures yield a pool's registers and slots in order and tell what is on the stack, and the pool serves the moves
@@ -141,17 +141,17 @@ module _ {F G H : Type 0} {r : Mut F (Unit {0}) (Option Place)} {s : Mut G (Unit
     apart = λ p q a b e.
         let x = serves.free p (answered r f l.registers lend.registers p a) in
         let y = serves.unused q (answered s g l.slots lend.slots q b) in
-        not_both (is_memory l.fixed_stack q) (memory_slot l.fixed_stack q y.1.0 y.1.1) (ap (is_memory l.fixed_stack) (sym e) ∙ x.2);
-    no_memory = λ p a x. not_both (is_memory l.fixed_stack p) (sym (tells p true x)) (serves.free p (answered r f l.registers lend.registers p a)).2;
-    borrowed_no_memory = λ x. not_both (is_memory l.fixed_stack (InRegister borrowed)) (sym (tells (InRegister borrowed) true x))
-        (ap (λ b. is_memory l.fixed_stack (InRegister b)) is ∙ serves.borrowed);
+        not_both (is_on_stack l.fixed_stack q) (memory_slot l.fixed_stack q y.1.0 y.1.1) (ap (is_on_stack l.fixed_stack) (sym e) ∙ x.2);
+    no_memory = λ p a x. not_both (is_on_stack l.fixed_stack p) (sym (tells p true x)) (serves.free p (answered r f l.registers lend.registers p a)).2;
+    borrowed_no_memory = λ x. not_both (is_on_stack l.fixed_stack (InRegister borrowed)) (sym (tells (InRegister borrowed) true x))
+        (ap (λ b. is_on_stack l.fixed_stack (InRegister b)) is ∙ serves.borrowed);
   }
 
   module _ (may_tell : MayDecideStack m h l.fixed_stack) {taken : ℕ} (have : HaveTaken r s f g l.slots taken) where
     open have use {registers_left, slots_left, asked, slots_asked, next, last, after, counts}
 
     -- what the closure reports as not on the stack, or can't report otherwise, is not
-    away : (p : Place) → IsAway (λ q b. m.post h (q, tt) b) p → true ≡ is_memory l.fixed_stack p → ⊥
+    away : (p : Place) → IsAway (λ q b. m.post h (q, tt) b) p → true ≡ is_on_stack l.fixed_stack p → ⊥
     away p (inl n) so = let no : false ≡ true = tells p false n ∙ sym so in cc
     away p (inr n) so = n (subst (λ t. m.post h (p, tt) t) (sym so) (may_tell p))
 

@@ -113,8 +113,8 @@ pub record IsComputedMove {T : Type 0} (are_apart : Place → Place → Type 0) 
   pub target : lent m.1 ⊎ ((n : Place × Place × T) × Contains given n × (m.1 ≡ n.1) × (m.2 ≡ n.2))
 
 -- none of the moves is stack-to-stack
-abbrev pub AreApartInMemory : {T : Type 0} → (Place → Bool → Type 0) → List (Place × Place × T) → Type 0
-AreApartInMemory stack ms = All (λ m. stack m.0 true → stack m.1 true → ⊥) ms
+abbrev pub AreApartOnStack : {T : Type 0} → (Place → Bool → Type 0) → List (Place × Place × T) → Type 0
+AreApartOnStack stack ms = All (λ m. stack m.0 true → stack m.1 true → ⊥) ms
 
 -- for one end of each move, a call of the closure said that it isn't on the stack
 abbrev pub AreSeenApart : {T : Type 0} → (Place → Bool → Type 0) → List (Place × Place × T) → Type 0
@@ -127,7 +127,7 @@ pub record IsComputed {T : Type 0} (stack : Place → Bool → Type 0) (borrowed
   pub same : (q : Place) → q ≢ NoPlace → (handed q → ⊥) → in_turn (ends_of made) own_names q ≡ in_turn (ends_of given) own_names q
   pub each : All (IsComputedMove (IsEitherAway stack) (λ p. handed p ⊎ (p ≡ borrowed)) given) made
   -- if there is nothing to do they come back unchanged
-  pub plain : scratch ≡ false → AreApartInMemory stack given → made ≡ given
+  pub plain : scratch ≡ false → AreApartOnStack stack given → made ≡ given
 
 -- What the closures returned as the resolver went from the state old to the state new, and the moves that it made of the given ones or why it made
 -- none.
@@ -143,4 +143,4 @@ pub record Computes {F G H T A : Type 0} (registers : F → Option Place → F �
       made.items)
       (λ fault. fault ≡ NoSlot → Contains slots_asked.answers None)
   -- where nothing is needed nothing fails
-  pub plain : has_scratch moves ≡ false → AreApartInMemory stack (moves_listed moves) → IsOk result
+  pub plain : has_scratch moves ≡ false → AreApartOnStack stack (moves_listed moves) → IsOk result

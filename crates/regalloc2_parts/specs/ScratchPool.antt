@@ -6,7 +6,7 @@ use Rattle.regalloc2_names.specs.declared.RegAllocError.{RegAllocError}
 use Rattle.regalloc2_names.specs.declared.RegAllocError.TheVariants.{TooManySpillSlots, Memory as OutOfMemory}
 use Rattle.regalloc2_names.specs.declared.sets.PRegSet.{PRegSet}
 use Rattle.regalloc2_names.specs.Register.{has_register}
-use Rattle.regalloc2_names.specs.Place.{Place, NoPlace, InRegister, InSlot, is_memory}
+use Rattle.regalloc2_names.specs.Place.{Place, NoPlace, InRegister, InSlot, is_on_stack}
 use Rattle.regalloc2_parts.specs.AtOnce.{ends_of, own_names, in_turn}
 use Rattle.regalloc2_parts.specs.Resolved.{IsUnnamed}
 use Rattle.regalloc2_parts.specs.Computed.{IsComputedMove}
@@ -40,18 +40,18 @@ YieldsInOrder {F} g f pair =
 
 -- a call returns whether a place is on the stack, and may return that
 abbrev pub DecidesStack : {H : Type 0} → Shared H (Place × Unit {0}) Bool → H → PRegSet → Type 0
-DecidesStack g f fixed_stack = (p : Place) (b : Bool) → g.post f (p, tt) b → b ≡ is_memory fixed_stack p
+DecidesStack g f fixed_stack = (p : Place) (b : Bool) → g.post f (p, tt) b → b ≡ is_on_stack fixed_stack p
 
 abbrev pub MayDecideStack : {H : Type 0} → Shared H (Place × Unit {0}) Bool → H → PRegSet → Type 0
-MayDecideStack g f fixed_stack = (p : Place) → g.post f (p, tt) (is_memory fixed_stack p)
+MayDecideStack g f fixed_stack = (p : Place) → g.post f (p, tt) (is_on_stack fixed_stack p)
 
 -- not both places are on the stack
-abbrev pub AreNotBothInMemory : PRegSet → Place → Place → Type 0
-AreNotBothInMemory fixed_stack p q = true ≡ is_memory fixed_stack p → true ≡ is_memory fixed_stack q → ⊥
+abbrev pub AreNotBothOnStack : PRegSet → Place → Place → Type 0
+AreNotBothOnStack fixed_stack p q = true ≡ is_on_stack fixed_stack p → true ≡ is_on_stack fixed_stack q → ⊥
 
 -- registers and slots that serve the moves: no move names them, they differ, and of registers none is on the stack
 pub record IsUsableFor (l : ScratchPool) (ms : Moves) : Type 0 where
-  pub free : (p : Place) → IsOfScratchPair l.registers p → (p ≢ NoPlace) × IsUnnamed p ms × (is_memory l.fixed_stack p ≡ false)
+  pub free : (p : Place) → IsOfScratchPair l.registers p → (p ≢ NoPlace) × IsUnnamed p ms × (is_on_stack l.fixed_stack p ≡ false)
   pub unused : (n : Place) → IsOfScratchPair l.slots n → IsUnnamed n ms × ((k : ℕ) × (n ≡ InSlot k))
   pub registers_differ : DoDiffer l.registers
   pub slots_differ : DoDiffer l.slots
@@ -62,7 +62,7 @@ pub record IsUsableFor (l : ScratchPool) (ms : Moves) : Type 0 where
 pub record IsOrderedWith (l : ScratchPool) (taken : ℕ) (given made : Moves) : Type 0 where
   pub same : (q : Place) → q ≢ NoPlace → (IsOfScratchPair l.registers q → ⊥) → (IsScratchTaken l.slots taken q → ⊥) →
       in_turn (ends_of made) own_names q ≡ in_turn (ends_of given) own_names q
-  pub each : All (IsComputedMove (AreNotBothInMemory l.fixed_stack) (λ p. IsOfScratchPair l.registers p
+  pub each : All (IsComputedMove (AreNotBothOnStack l.fixed_stack) (λ p. IsOfScratchPair l.registers p
       ⊎ (IsScratchTaken l.slots taken p ⊎ (p ≡ InRegister l.borrowed))) given)
       made
 

@@ -6,7 +6,7 @@ use Rattle.regalloc2_names.specs.Place.{Place}
 use Rattle.regalloc2_parts.specs.AtOnce.{ends_of, IsOfMoves}
 use Rattle.regalloc2_parts.specs.Giving.{AreMovesApart, AreNexts, IsOrder}
 use Rattle.regalloc2_parts.specs.Resolved.{moves_listed, has_scratch, IsResolution, IsRunnable}
-use Rattle.regalloc2_parts.specs.ScratchPool.{AreNotBothInMemory, AreThere, DecidesStack, HasTooFewSlots, IsOrderedWith, IsUsableFor, MayDecideStack}
+use Rattle.regalloc2_parts.specs.ScratchPool.{AreNotBothOnStack, AreThere, DecidesStack, HasTooFewSlots, IsOrderedWith, IsUsableFor, MayDecideStack}
 use Rattle.regalloc2_parts.specs.ScratchPool.{YieldsInOrder}
 use Rattle.regalloc2_parts.specs.declared.moves.MoveFault.{MoveFault}
 use Rattle.regalloc2_parts.specs.declared.moves.MoveFault.TheVariants.{NoSlot}
@@ -60,4 +60,4 @@ pub record HasOrdered {A : Type 0} (l : ScratchPool) (moves : MoveVecWithScratch
   pub made : IfOk result (λ m. IsOrderedWith l m.slots (moves_listed moves) m.moves.items)
   pub there : IfOk result (λ m. AreThere l.slots m.slots)
   pub err : IfErr result (λ e. e ≡ NoSlot → HasTooFewSlots l.slots)
-  pub plain : has_scratch moves ≡ false → All (λ m. AreNotBothInMemory l.fixed_stack m.0 m.1) (moves_listed moves) → IsOk result
+  pub plain : has_scratch moves ≡ false → All (λ m. AreNotBothOnStack l.fixed_stack m.0 m.1) (moves_listed moves) → IsOk result

@@ -2,9 +2,9 @@
 
 ghost use Rattle.std.specs.Prelude.{◌≡◌, ◌⊎◌, false, None, Some, IfOk, IfErr, IsOk};
 ghost use Rattle.std.specs.List.{All};
-ghost use Rattle.regalloc2_names.specs.Place.{is_memory};
+ghost use Rattle.regalloc2_names.specs.Place.{is_on_stack};
 ghost use Rattle.regalloc2_parts.specs.Resolved.{has_scratch, moves_listed, IsRunnable};
-ghost use Rattle.regalloc2_parts.specs.ScratchPool.{AreNotBothInMemory, AreThere, HasTooFewSlots, IsOrderedWith, IsUsableFor};
+ghost use Rattle.regalloc2_parts.specs.ScratchPool.{AreNotBothOnStack, AreThere, HasTooFewSlots, IsOrderedWith, IsUsableFor};
 ghost use Rattle.regalloc2_parts.specs.Steps.{CanOrder, HasOrdered};
 
 use crate::moves::{MoveAndScratchResolver, MoveFault, MoveVec, MoveVecWithScratch};
@@ -139,7 +139,7 @@ impl ScratchPool {
         ensures made { IfOk result (λ m. IsOrderedWith self.now m.slots (moves_listed moves) m.moves.items) }
         ensures there { IfOk result (λ m. AreThere self.now.slots m.slots) }
         ensures err { IfErr result (λ e. e ≡ MoveFault.NoSlot → HasTooFewSlots self.now.slots) }
-        ensures plain { has_scratch moves ≡ false → All (λ m. AreNotBothInMemory self.now.fixed_stack m.0 m.1) (moves_listed moves) → IsOk result }
+        ensures plain { has_scratch moves ≡ false → All (λ m. AreNotBothOnStack self.now.fixed_stack m.0 m.1) (moves_listed moves) → IsOk result }
     {
         let fixed_stack = self.fixed_stack;
         let mut registers = self.registers;
@@ -148,8 +148,8 @@ impl ScratchPool {
             find_free_reg: move || registers.take(),
             get_stackslot: move || slots.take(),
             is_stack_alloc: |place: Allocation|
-                ensures told { result ≡ is_memory fixed_stack place }
-            { place.is_memory(fixed_stack) },
+                ensures told { result ≡ is_on_stack fixed_stack place }
+            { place.is_on_stack(fixed_stack) },
             borrowed_scratch_reg: self.borrowed,
         };
         compute_with_resolver(&mut resolver, self, moves)

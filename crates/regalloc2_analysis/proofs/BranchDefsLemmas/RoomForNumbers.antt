@@ -12,7 +12,7 @@ use Rattle.regalloc2_carry.proofs.SingleDef.Made.{by_operand}
 
 -- what is made has an entry
 pub made_room : (f : FunctionValue) → DefinedOnce f → (n : ℕ) → CoversDefinitions f n → (v : VirtualRegister) → Made f v → v.number < n
-made_room f once n room v (by_operand i k x e) = room v (after i) (inr (i, k, no_operand, omega arith, x.operand, x.definition, e))
+made_room f once n room v (by_operand i k x e) = room v (after i) (inr (i, k, omega arith, x.operand, x.definition, e))
     (made_small f once v (by_operand i k x e))
 made_room f once n room v (Made.by_param b k x e) = room v (before (block_at f b).range.first)
     (inl (b, x.block, omega arith, (k, x.param, get_or_default (block_at f b).params k v no_vreg x.param ∙ e)))

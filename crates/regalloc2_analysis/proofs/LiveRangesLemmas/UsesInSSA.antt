@@ -87,7 +87,7 @@ item_defines f i k ops o lt same less is def =
 module _ (f : FunctionValue) (ssa : IsSSA f) where
   -- what is defined has an entry in a table with room
   pub definer_small : (n : ℕ) → CoversDefinitions f n → (v : VirtualRegister) (o : InstOperand) → IsDefiner f v o → v.number < n
-  definer_small n room v o d = room v (after o.inst) (inr (o.inst, o.index, no_operand, omega arith, d.index, d.definition, d.vreg))
+  definer_small n room v o d = room v (after o.inst) (inr (o.inst, o.index, omega arith, d.index, d.definition, d.vreg))
       (made_small f ssa.once v (made_by_definition f v o.inst (definer_defines f v o d)))
 
   -- as an operand of an instruction

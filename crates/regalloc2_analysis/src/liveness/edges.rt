@@ -56,7 +56,7 @@ fn add_all_edges<A: Allocator + Copy, F: Function>(
 
 /// Returns, for each block, the blocks with an edge to it, found by successors: the predecessors that
 /// `f` names needn't be right. Linear in the blocks and edges.
-pub fn edges_into<A: Allocator + Copy, F: Function>(
+pub fn predecessors<A: Allocator + Copy, F: Function>(
     alloc: A,
     f: &F,
 ) -> Result<Vec<Vec<Block, A>, A>, AllocError>

@@ -6,7 +6,7 @@ use Rattle.std.proofs.lemmas.Bool.{cases_Bool}
 use Rattle.regalloc2_names.specs.declared.OperandConstraint.TheVariants.{FixedReg}
 use Rattle.regalloc2_names.specs.Register.{Register, VirtualRegister, no_vreg}
 use Rattle.regalloc2_names.specs.Operand.{OperandValue, is_def, fixed_register}
-use Rattle.regalloc2_names.specs.Place.{Place, NoPlace, InSlot, is_memory, before}
+use Rattle.regalloc2_names.specs.Place.{Place, NoPlace, InSlot, is_on_stack, before}
 use Rattle.regalloc2_function.specs.FunctionValue.{FunctionValue, block_at, inst_at, op_at, last_of}
 use Rattle.regalloc2_semantics.specs.Runs.{arguments_at}
 use Rattle.regalloc2_function.specs.WellFormed.{DefinedOnce}
@@ -93,9 +93,9 @@ module _ (stored : StoredAtBegin) where
     -- the place to which a store goes is its vreg's slot at the walk's end
     goes_to : (x : Store) → IsOneOf x s.stores → (j : ℕ) (w : VirtualRegister) → StoresFor f e k middle new x j w → F w.number ≡ Some x.to
     goes_to x is j w r =
-        let ends = order_each (is_memory middle.fixed_stack) s.stores s.in_order x is in
-        let there : x.to ≢ NoPlace = λ none. (let y : is_memory middle.fixed_stack x.to ≡ false = ap (is_memory middle.fixed_stack) none in
-        let z : is_memory middle.fixed_stack x.to ≡ true = ends.0 in cc) in
+        let ends = order_each (is_on_stack middle.fixed_stack) s.stores s.in_order x is in
+        let there : x.to ≢ NoPlace = λ none. (let y : is_on_stack middle.fixed_stack x.to ≡ false = ap (is_on_stack middle.fixed_stack) none in
+        let z : is_on_stack middle.fixed_stack x.to ≡ true = ends.0 in cc) in
         stays w.number x.to (subst (λ q. slots_at new w.number ≡ Some q) r.to (opt_some (slot_in new w.number) (λ none. there (sym r.to ∙ none))))
 
     -- a store for v copies a place to v's slot
@@ -111,7 +111,7 @@ module _ (stored : StoredAtBegin) where
     avoids : (p : Place) → F v.number ≡ Some p → ((j : ℕ) → IsStoredFor f e k middle.slots j v → ⊥) → (t : Store) → IsOneOf t s.stores → Avoids t p
     avoids p mine none t is =
         let one = s.each t is in
-        let ends = order_each (is_memory middle.fixed_stack) s.stores s.in_order t is in
+        let ends = order_each (is_on_stack middle.fixed_stack) s.stores s.in_order t is in
         let n = only v.number p mine in (
           λ same.
               let w : VirtualRegister = one.1 in
@@ -120,8 +120,8 @@ module _ (stored : StoredAtBegin) where
               let is_v : w ≡ v = one_made f once w v (concerned b e k w edge (stored_concerned f e k middle.slots one.0 w one.2.stored)) made number in
               none one.0 (subst (IsStoredFor f e k middle.slots one.0) is_v one.2.stored),
           λ q by same.
-              let flat : is_memory middle.fixed_stack q ≡ false = ends.1 q by in
-              let full : is_memory middle.fixed_stack q ≡ true = ap (is_memory middle.fixed_stack) (sym same ∙ n.1) in cc,
+              let flat : is_on_stack middle.fixed_stack q ≡ false = ends.1 q by in
+              let full : is_on_stack middle.fixed_stack q ≡ true = ap (is_on_stack middle.fixed_stack) (sym same ∙ n.1) in cc,
         )
 
     abbrev pub Brought : Place → Type 0
@@ -266,7 +266,7 @@ module _ (stored : StoredAtBegin) where
       (sym (ap (λ es. walked (inst_at f) (at_point (listed es)) placesf first (suc n)) s.edits
       ∙ walked_stores (inst_at f) placesf first n (store_moves s.stores) middle.edits))
       (carries_stores v s.stores L (StandsBefore f (λ w. F w.number) b v) (ComesIn f stand b v) E
-      (in_order (is_memory middle.fixed_stack) refl s.stores s.in_order)
+      (in_order (is_on_stack middle.fixed_stack) refl s.stores s.in_order)
       (λ p h. elim (defs_brought e k edge s (λ d l into. one e k d l edge into) p h.1) [
         | inl x ↦ inl (x.0, x.1, x.2, (h.0, x.3))
         | inr x ↦ inr ((h.0, x.0), x.1)

@@ -4,7 +4,7 @@ use Rattle.regalloc2_parts.proofs.Resolving.{All-reversed}
 use Rattle.std.proofs.Common.{ℕ, ◌≡◌, ◌≢◌, ◌+◌, ◌<◌, ◌⊎◌, inl, inr, true, false, List, length, refl, sym, ap, ◌∙◌, subst, arith}
 use Rattle.std.specs.Prelude.{All, Option, Some, slice_index_or}
 use Rattle.regalloc2_names.specs.Register.{VirtualRegister, no_vreg}
-use Rattle.regalloc2_names.specs.Place.{Place, NoPlace, InRegister, InSlot, is_memory, before}
+use Rattle.regalloc2_names.specs.Place.{Place, NoPlace, InRegister, InSlot, is_on_stack, before}
 use Rattle.regalloc2_function.specs.FunctionValue.{FunctionValue, block_at, inst_at, op_at, last_of}
 use Rattle.regalloc2_function.specs.Fitting.{MachineFits}
 use Rattle.regalloc2_function.specs.Machine.{MachineValue}
@@ -223,7 +223,7 @@ module _ (walk : WholeWalk) (fits : MachineFits walk.f walk.env) (m : IsOutputOf
           }) e k edge s
           (λ d j into. one_edge_into env f ok b e k d j edge into) (InSlot n) mine_there) [
             | inl y ↦ subst (λ (q : Place). then q ≡ x) y.2 (targets_after_stores s.stores (in_order
-                (is_memory reloaded.fixed_stack) refl s.stores s.in_order) c y.0 y.1
+                (is_on_stack reloaded.fixed_stack) refl s.stores s.in_order) c y.0 y.1
                 ∙ holds y.0.from y.3)
             | inr y ↦ stores_else s.stores c (InSlot n) y.1 ∙ holds (InSlot n) y.0
           ] in

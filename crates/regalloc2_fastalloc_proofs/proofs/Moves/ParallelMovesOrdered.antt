@@ -13,7 +13,7 @@ use Rattle.regalloc2_index.proofs.Bools.{not_with_itself}
 use Rattle.regalloc2_names.specs.declared.RegClass.{RegClass}
 use Rattle.regalloc2_names.specs.declared.sets.PRegSet.{PRegSet}
 use Rattle.regalloc2_names.specs.Register.{has_register, Register, class_code, is_register}
-use Rattle.regalloc2_names.specs.Place.{Place, NoPlace, InRegister, InSlot, is_no_place, is_memory}
+use Rattle.regalloc2_names.specs.Place.{Place, NoPlace, InRegister, InSlot, is_no_place, is_on_stack}
 use Rattle.regalloc2_names.proofs.Bits.{class_code-lt}
 use Rattle.regalloc2_parts.specs.AtOnce.{Ends, ends, ends_of, own_names, in_turn, IsOfMoves}
 use Rattle.regalloc2_parts.specs.Resolved.{IsResolution, IsUnnamed}
@@ -345,7 +345,7 @@ module _ (moves : GivenMoves) where
           (λ e. let no : InRegister x.0 ≡ NoPlace = sym x.1 ∙ e in cc),
           unnamed old.slots.count given listed p between is.of_moves (λ e. let no : InRegister x.0 ≡ NoPlace = sym x.1 ∙ e in cc)
               (λ b. let no : InRegister x.0 ≡ InSlot b.0 = sym x.1 ∙ b.1 in cc),
-          ap (is_memory l.fixed_stack) x.1 ∙ ap (λ z. has_register z x.0) fixed ∙ pair_plain x.0 x.2,
+          ap (is_on_stack l.fixed_stack) x.1 ∙ ap (λ z. has_register z x.0) fixed ∙ pair_plain x.0 x.2,
         );
     unused = λ n a.
         let x = next_new old.slots class l.slots next n a in (
@@ -403,7 +403,7 @@ module _ (moves : GivenMoves) where
         let m = get_or made k d in
         record {
           between = x.between;
-          apart = λ a b. x.apart (sym (ap (λ z. is_memory z m.0) fixed ∙ a)) (sym (ap (λ z. is_memory z m.1) fixed ∙ b));
+          apart = λ a b. x.apart (sym (ap (λ z. is_on_stack z m.0) fixed ∙ a)) (sym (ap (λ z. is_on_stack z m.1) fixed ∙ b));
           source = ⊎_elim (λ a. inl (in_hand m.0 a)) (λ y. source_of m.0 x.between.0 y.0 y.1 y.2) x.source;
           target = ⊎_elim (λ a. inl (in_hand m.1 a)) (λ y. target_of m.1 x.between.1 y.0 y.1 y.2) x.target;
         }

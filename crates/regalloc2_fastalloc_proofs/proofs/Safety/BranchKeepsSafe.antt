@@ -8,7 +8,7 @@ use Rattle.regalloc2_names.specs.declared.RegClass.{RegClass}
 use Rattle.regalloc2_names.specs.declared.sets.PRegSet.{PRegSet}
 use Rattle.regalloc2_names.specs.declared.RegClass.TheVariants.{Int, Float, Vector}
 use Rattle.regalloc2_names.specs.Register.{Register, VirtualRegister, class_code, no_vreg, has_register}
-use Rattle.regalloc2_names.specs.Place.{Place, NoPlace, InRegister, InSlot, is_memory, before}
+use Rattle.regalloc2_names.specs.Place.{Place, NoPlace, InRegister, InSlot, is_on_stack, before}
 use Rattle.regalloc2_function.specs.Machine.{MachineValue, IsStackPlace}
 use Rattle.regalloc2_function.specs.FunctionValue.{FunctionValue, block_at}
 use Rattle.regalloc2_semantics.specs.Sound.{target_at}
@@ -89,7 +89,7 @@ pushed_all P point (m ∷ ms) h = All-push P (pushed point ms) (point, record { 
     (pushed_all P point ms (λ k d lt. h (suc k) d (omega arith))) (h 0 m (omega arith))
 
 -- a stack place, according to the tables
-in_memory : (env : MachineValue) (t : StateValue) (p : Place) → HasMachine env t → IsStackPlace env p → is_memory t.fixed_stack p ≡ true
+in_memory : (env : MachineValue) (t : StateValue) (p : Place) → HasMachine env t → IsStackPlace env p → is_on_stack t.fixed_stack p ≡ true
 in_memory env t NoPlace m h = absurd h
 in_memory env t (InRegister r) m h = m.memory r h
 in_memory env t (InSlot k) m h = refl

@@ -3,7 +3,7 @@ use Rattle.std.proofs.Common.{ℕ, suc, ◌≡◌, ◌≢◌, ◌<◌, ◌⊎◌
 use Rattle.std.specs.Prelude.{All, Option, None, Some, slice_index_or}
 use Rattle.std.proofs.lemmas.List.Elements.{All-append, All-push, All-cons, All-nil}
 use Rattle.regalloc2_names.specs.Register.{Register, VirtualRegister, class_code}
-use Rattle.regalloc2_names.specs.Place.{Place, NoPlace, InRegister, InSlot, is_memory, before}
+use Rattle.regalloc2_names.specs.Place.{Place, NoPlace, InRegister, InSlot, is_on_stack, before}
 use Rattle.regalloc2_names.specs.Operand.{OperandValue}
 use Rattle.regalloc2_function.specs.FunctionValue.{FunctionValue, block_at, op_at}
 use Rattle.regalloc2_function.specs.Machine.{MachineValue, IsStackPlace, scratch_of}
@@ -108,7 +108,7 @@ stored_concerned f e k slots j v (its_own own is) = inl (
 )
 stored_concerned f e k slots j v (given n lt is d has) = inr (n, lt, is)
 
-stack_memory : (env : MachineValue) (t : StateValue) → HasMachine env t → (p : Place) → IsStackPlace env p → is_memory t.fixed_stack p ≡ true
+stack_memory : (env : MachineValue) (t : StateValue) → HasMachine env t → (p : Place) → IsStackPlace env p → is_on_stack t.fixed_stack p ≡ true
 stack_memory env t h NoPlace s = absurd s
 stack_memory env t h (InRegister r) s = h.memory r s
 stack_memory env t h (InSlot n) s = refl
@@ -134,8 +134,8 @@ pub record OneStore (env : MachineValue) (Known : VirtualRegister → Type 0) (W
   pub known_op : Known (op_at (branch_operands f e) j).vreg
   pub alike : IsAlike env f e j v
   pub written : (n : ℕ) → Writes point v n
-  pub to_memory : is_memory old.fixed_stack x.to ≡ true
-  pub by_register : (q : Place) → x.by ≡ Some q → is_memory old.fixed_stack q ≡ false
+  pub to_memory : is_on_stack old.fixed_stack x.to ≡ true
+  pub by_register : (q : Place) → x.by ≡ Some q → is_on_stack old.fixed_stack q ≡ false
 
 module _ (env : MachineValue) (Known : VirtualRegister → Type 0) (Writes : ℕ → VirtualRegister → ℕ → Type 0) (May : ℕ → Type 0) where
   -- what one store writes, and its ends
@@ -151,19 +151,19 @@ module _ (env : MachineValue) (Known : VirtualRegister → Type 0) (Writes : ℕ
     from_end None is at = subst (IsEndOfMove env new.slots o.vreg) (sym at)
         (own_slot_is_end env new.slots o.vreg (slot_name new.slots o.vreg.number) refl (λ n. r.there (at ∙ n)) (below o.vreg.number))
 
-    direct_end : is_memory old.fixed_stack x.from ≡ false → (d : Option Register) → fixed_definition o ≡ d →
+    direct_end : is_on_stack old.fixed_stack x.from ≡ false → (d : Option Register) → fixed_definition o ≡ d →
         x.from ≡ fixed_or_slot d (slot_name new.slots o.vreg.number) → IsEndOfMove env new.slots v x.from
     direct_end flat (Some g) is at = subst (IsEndOfMove env new.slots v) (sym at) (inl (alike.fixed g is))
     direct_end flat None is at = absurd (in_memory (slot_name new.slots o.vreg.number) (below o.vreg.number) (λ n. r.there (at ∙ n))
-        (subst (λ p. is_memory old.fixed_stack p ≡ false) at flat))
+        (subst (λ p. is_on_stack old.fixed_stack p ≡ false) at flat))
       where
-        in_memory : (p : Place) → IsSlotOrNone new.slots.count p → p ≢ NoPlace → is_memory old.fixed_stack p ≡ false → ⊥
+        in_memory : (p : Place) → IsSlotOrNone new.slots.count p → p ≢ NoPlace → is_on_stack old.fixed_stack p ≡ false → ⊥
         in_memory NoPlace b there m = there refl
         in_memory (InRegister g) b there m = b
         in_memory (InSlot n) b there m = cc
 
     to_end : IsEndOfMove env new.slots v x.to
-    to_end = own_slot_is_end env new.slots v x.to r.to (λ none. let y : is_memory old.fixed_stack x.to ≡ false = ap (is_memory old.fixed_stack) none in cc)
+    to_end = own_slot_is_end env new.slots v x.to r.to (λ none. let y : is_on_stack old.fixed_stack x.to ≡ false = ap (is_on_stack old.fixed_stack) none in cc)
         (subst (IsSlotOrNone new.slots.count) r.to (below v.number))
 
     by_end : (g : Register) → (slice_index_or old.dedicated_scratch (class_code o.vreg.class) None ≡ Some g) ⊎ MayHold old o.vreg.class g →
@@ -175,7 +175,7 @@ module _ (env : MachineValue) (Known : VirtualRegister → Type 0) (Writes : ℕ
     -- the moves of a store
     pub store_safe : (by : Option Place) → x.by ≡ by → All (λ m. IsSafeEdit env Known Writes new.slots May (point, m)) (moves_by x.from by x.to)
     store_safe None is =
-        let flat : is_memory old.fixed_stack x.from ≡ false = r.by_way.direct is in
+        let flat : is_on_stack old.fixed_stack x.from ≡ false = r.by_way.direct is in
         All-cons (λ m. IsSafeEdit env Known Writes new.slots May (point, m)) (record { from = x.from; to = x.to }) [] (record {
           moves = inl (record {
             vreg = v;
@@ -184,12 +184,12 @@ module _ (env : MachineValue) (Known : VirtualRegister → Type 0) (Writes : ℕ
             to = to_end;
             written = λ n at. written n;
           });
-          not_both = λ both. let y : is_memory old.fixed_stack x.from ≡ true = stack_memory env old machine x.from both.0 in cc;
+          not_both = λ both. let y : is_on_stack old.fixed_stack x.from ≡ true = stack_memory env old machine x.from both.0 in cc;
           point = can;
         }) (All-nil (λ m. IsSafeEdit env Known Writes new.slots May (point, m)))
     store_safe (Some q) is =
         let g = r.by_way.through q is in
-        let flat : is_memory old.fixed_stack q ≡ false = by_register q is in
+        let flat : is_on_stack old.fixed_stack q ≡ false = by_register q is in
         All-cons (λ m. IsSafeEdit env Known Writes new.slots May (point, m)) (record { from = x.from; to = q }) (record { from = q; to = x.to } ∷ []) (record {
           moves = inl (record {
             vreg = o.vreg;
@@ -198,7 +198,7 @@ module _ (env : MachineValue) (Known : VirtualRegister → Type 0) (Writes : ℕ
             to = subst (IsEndOfMove env new.slots o.vreg) (sym g.1) (by_end g.0 g.2 o.vreg refl);
             written = λ n at. (let y : InRegister g.0 ≡ InSlot n = sym g.1 ∙ at in cc);
           });
-          not_both = λ both. let y : is_memory old.fixed_stack q ≡ true = stack_memory env old machine q both.1 in cc;
+          not_both = λ both. let y : is_on_stack old.fixed_stack q ≡ true = stack_memory env old machine q both.1 in cc;
           point = can;
         })
         (All-cons (λ m. IsSafeEdit env Known Writes new.slots May (point, m)) (record { from = q; to = x.to }) [] (record {
@@ -209,7 +209,7 @@ module _ (env : MachineValue) (Known : VirtualRegister → Type 0) (Writes : ℕ
             to = to_end;
             written = λ n at. written n;
           });
-          not_both = λ both. let y : is_memory old.fixed_stack q ≡ true = stack_memory env old machine q both.0 in cc;
+          not_both = λ both. let y : is_on_stack old.fixed_stack q ≡ true = stack_memory env old machine q both.0 in cc;
           point = can;
         }) (All-nil (λ m. IsSafeEdit env Known Writes new.slots May (point, m))))
 
@@ -236,7 +236,7 @@ module _ (env : MachineValue) (Known : VirtualRegister → Type 0) (Writes : ℕ
       (λ v is. concerned e k v edge is) old new.slots s.slots h in
       let moves : All (λ m. IsSafeEdit env Known Writes new.slots May (point, m)) (store_moves s.stores) = all_stores new.slots point s.stores (λ x is.
       let one = s.each x is in
-      let ends = order_each (is_memory old.fixed_stack) s.stores s.in_order x is in
+      let ends = order_each (is_on_stack old.fixed_stack) s.stores s.in_order x is in
       let stored : IsStoredFor f e k old.slots one.0 one.1 = one.2.stored in
       store_safe (record {
         f = f;

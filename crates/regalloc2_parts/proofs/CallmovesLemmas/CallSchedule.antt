@@ -4,7 +4,7 @@ use Rattle.std.proofs.Common.{subst, inl, inr, ◌⊎◌, ⊎_elim, arith}
 use Rattle.std.specs.Prelude.{Contains}
 use Rattle.std.proofs.lemmas.Bool.{cases_lt}
 use Rattle.regalloc2_names.specs.declared.sets.PRegSet.{PRegSet}
-use Rattle.regalloc2_names.specs.Place.{Place, NoPlace, InRegister, InSlot, is_memory}
+use Rattle.regalloc2_names.specs.Place.{Place, NoPlace, InRegister, InSlot, is_on_stack}
 use Rattle.regalloc2_names.specs.Register.{Register, has_register}
 use Rattle.regalloc2_parts.specs.declared.moves.MoveFault.{MoveFault}
 use Rattle.regalloc2_parts.specs.declared.moves.MoveFault.TheVariants.{NoSlot, Memory}
@@ -156,10 +156,10 @@ module _ {A : Type 0} (ms : CallMoves) (f : CallFrame A) (l : ScratchPool) (prop
   not_true true h = absurd (h refl)
   not_true false h = refl
 
-  no_memory : (p : Place) → IsOfScratchPair l.registers p → is_memory l.fixed_stack p ≡ false
+  no_memory : (p : Place) → IsOfScratchPair l.registers p → is_on_stack l.fixed_stack p ≡ false
   no_memory p a =
       let x = lends.registers p a in
-      ap (is_memory l.fixed_stack) x.2
+      ap (is_on_stack l.fixed_stack) x.2
       ∙ ap (λ (s : PRegSet). has_register s (free_at f x.0)) lends.fixed_stack
       ∙ not_true (has_register f.stack_pregs (free_at f x.0)) (λ e. proper.free.registers x.0 x.1 (inr (inr e)))
 

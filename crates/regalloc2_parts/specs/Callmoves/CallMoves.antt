@@ -2,7 +2,7 @@
 use Rattle.std.specs.Prelude.{ℕ, ◌≡◌, ◌≢◌, ◌+◌, ◌<◌, ◌≤◌, ◌⊎◌, true, List, map, length, slice_index_or, Option, None, Some}
 use Rattle.std.specs.List.{All}
 use Rattle.regalloc2_names.specs.declared.sets.PRegSet.{PRegSet}
-use Rattle.regalloc2_names.specs.Place.{Place, NoPlace, InRegister, InSlot, is_memory}
+use Rattle.regalloc2_names.specs.Place.{Place, NoPlace, InRegister, InSlot, is_on_stack}
 use Rattle.regalloc2_names.specs.Register.{Register, has_register}
 use Rattle.regalloc2_parts.specs.AtOnce.{ends_of, own_names, in_turn}
 use Rattle.regalloc2_parts.specs.declared.moves.MoveFault.{MoveFault}
@@ -145,7 +145,7 @@ pub record IsPoolOf {A : Type 0} (f : CallFrame A) (l : ScratchPool) : Type 0 wh
 
 -- a move between places that are not both on the stack
 pub record IsMove (stack_pregs : PRegSet) (from to : Place) : Type 0 where
-  pub apart : is_memory stack_pregs from ≡ true → is_memory stack_pregs to ≡ true → ⊥
+  pub apart : is_on_stack stack_pregs from ≡ true → is_on_stack stack_pregs to ≡ true → ⊥
   pub between : (from ≢ NoPlace) × (to ≢ NoPlace)
 
 -- The moves `made`, one after another, do what the parallel moves ms do, except in free registers and slots.

@@ -4,7 +4,7 @@ ghost use Rattle.std.specs.Prelude.{◌≡◌, ◌⊎◌, true, false, IfOk, IfE
 ghost use Rattle.regalloc2_names.specs.Place.{InRegister};
 ghost use Rattle.regalloc2_parts.specs.Tracking.{CanExpandBy, IsExpanded};
 ghost use Rattle.regalloc2_parts.specs.Computed.{CanAsk, CanCompute, IsHanding, IsRefusing, IsVia, IsPlaceChosen};
-ghost use Rattle.regalloc2_parts.specs.Computed.{Computes, AreApartInMemory, AreSeenApart};
+ghost use Rattle.regalloc2_parts.specs.Computed.{Computes, AreApartOnStack, AreSeenApart};
 
 use super::passing::{self, Held, ScratchReg};
 use super::{MoveFault, MoveVec, MoveVecWithScratch};
@@ -106,7 +106,7 @@ where
     fn has_stack_to_stack<T: Copy + Default>(&self, moves: &[(Allocation, Allocation, T)]) -> bool
         requires callable { IsStackAlloc.IsAlwaysCallable self.now.is_stack_alloc }
         ensures none { result ≡ false → AreSeenApart (λ p b. IsStackAlloc.post self.now.is_stack_alloc p b) moves.now }
-        ensures some { AreApartInMemory (λ p b. IsStackAlloc.post self.now.is_stack_alloc p b) moves.now → result ≡ false }
+        ensures some { AreApartOnStack (λ p b. IsStackAlloc.post self.now.is_stack_alloc p b) moves.now → result ≡ false }
     {
         for m in moves {
             if self.is_stack_to_stack(m.0, m.1) {

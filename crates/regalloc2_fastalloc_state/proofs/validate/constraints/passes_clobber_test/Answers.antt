@@ -4,6 +4,6 @@ use Rattle.regalloc2_fastalloc_state.proofs.validate.constraints.passes_clobber_
 
 pub returns-then-eq : goal.returns-then-eq
 returns-then-eq g c = (
-  λ t. λ k d lt r is why. ap (λ s. has_register s r) (sym c.inst_clobbers.ensures) ∙ c.eq.ensures.members.0 c.if-eq.true r ∙ c.empty.ensures.none r,
+  λ t. λ k lt r is why. ap (λ s. has_register s r) (sym c.inst_clobbers.ensures) ∙ c.eq.ensures.members.0 c.if-eq.true r ∙ c.empty.ensures.none r,
   λ h. c.if-eq.true,
 )

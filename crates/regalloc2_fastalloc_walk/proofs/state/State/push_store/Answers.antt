@@ -1,6 +1,6 @@
 use Rattle.std.proofs.Common.{ℕ, ◌≡◌, ◌++◌, ◌∷◌, [], List, true, false, refl, sym, ap, ◌∙◌, append_assoc, rules}
 use Rattle.std.specs.Prelude.{None, Some}
-use Rattle.regalloc2_names.specs.Place.{Place, is_memory}
+use Rattle.regalloc2_names.specs.Place.{Place, is_on_stack}
 use Rattle.regalloc2_function.specs.OutputValue.{MoveValue}
 use Rattle.regalloc2_fastalloc_proofs.specs.InstSteps.{StateValue}
 use Rattle.regalloc2_fastalloc_proofs.specs.StoreSteps.{pushed_moves}
@@ -14,7 +14,7 @@ pub returns-then-not-is_stack-clause-outcome : goal.returns-then-not-is_stack-cl
 unfolding pushed_moves
 returns-then-not-is_stack-clause-outcome g c =
     let t : StateValue = tables_of c.args.self.now in
-    let flat : is_memory t.fixed_stack c.args.m.from ≡ false = sym c.is_stack.ensures ∙ c.if-not-is_stack.true in (
+    let flat : is_on_stack t.fixed_stack c.args.m.from ≡ false = sym c.is_stack.ensures ∙ c.if-not-is_stack.true in (
       record { from = c.args.m.from; by = None; to = c.args.m.to },
       record {
         from = refl;
@@ -31,7 +31,7 @@ unfolding pushed_moves
 returns-clause-outcome g c =
     let t : StateValue = tables_of c.args.self.now in
     let by : Place = c.reg-by.result in
-    let there : is_memory t.fixed_stack c.args.m.from ≡ true = sym c.is_stack.ensures ∙ c.if-not-is_stack.false in
+    let there : is_on_stack t.fixed_stack c.args.m.from ≡ true = sym c.is_stack.ensures ∙ c.if-not-is_stack.false in
     let first : ℕ × MoveValue = (c.args.point, record { from = by; to = c.args.m.to }) in
     let second : ℕ × MoveValue = (c.args.point, record { from = c.args.m.from; to = by }) in (
       record { from = c.args.m.from; by = Some by; to = c.args.m.to },

@@ -1,7 +1,7 @@
 use Rattle.std.proofs.Common.{ℕ, ◌≡◌, ◌+◌, ◌-◌, ◌<◌, List, drop, length, refl, subst, arith, slice_index_or}
 use Rattle.std.specs.Prelude.{not}
 use Rattle.std.proofs.Math.Seq.{drop-length}
-use Rattle.regalloc2_names.specs.Place.{is_memory}
+use Rattle.regalloc2_names.specs.Place.{is_on_stack}
 use Rattle.regalloc2_fastalloc_proofs.specs.InstSteps.{StateValue}
 use Rattle.regalloc2_fastalloc_walk.specs.BranchStores.{IsMadeOf, PushesStores}
 use Rattle.regalloc2_fastalloc_walk.specs.StateView.{tables_of}
@@ -33,7 +33,7 @@ loop-k-preserved-in-Continue-1 g c =
     record {
       within = omega (arith, next, c.loop-k.invariant.within);
       pushes = pushes_one c.args.point c.args.from_stack ms t k m u (tables_of c.push_store.new.self) y.0 lt
-          (subst (λ (x : StoreMove). is_memory t.fixed_stack x.from ≡ c.args.from_stack) item
+          (subst (λ (x : StoreMove). is_on_stack t.fixed_stack x.from ≡ c.args.from_stack) item
           (kind_there c.args.point c.args.from_stack ms t _ u c.loop-k.invariant.pushes m.from c.is_stack.result c.is_stack.ensures
           c.if-is_stack-from_stack.true))
           (subst P next c.loop-k.invariant.pushes) (subst (λ (x : StoreMove). IsMadeOf u x y.0) item y.1) y.2;
@@ -55,7 +55,7 @@ loop-k-preserved g c =
     record {
       within = omega (arith, next, c.loop-k.invariant.within);
       pushes = pushes_over c.args.point c.args.from_stack ms t k m u lt
-          (subst (λ (x : StoreMove). is_memory t.fixed_stack x.from ≡ not c.args.from_stack) item
+          (subst (λ (x : StoreMove). is_on_stack t.fixed_stack x.from ≡ not c.args.from_stack) item
           (other_kind c.args.point c.args.from_stack ms t _ u c.loop-k.invariant.pushes m.from c.is_stack.result c.is_stack.ensures
           c.if-is_stack-from_stack.false))
           (subst P next c.loop-k.invariant.pushes);

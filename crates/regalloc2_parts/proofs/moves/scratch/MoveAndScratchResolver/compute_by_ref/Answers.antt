@@ -3,7 +3,7 @@ use Rattle.std.proofs.lemmas.Result.{err_from_is_err_and, MatchResult-weaker}
 use Rattle.regalloc2_names.specs.Place.{Place, InRegister}
 use Rattle.regalloc2_parts.specs.Resolved.{moves_listed, has_scratch}
 use Rattle.regalloc2_parts.specs.Tracking.{CanExpand, IsExpanded}
-use Rattle.regalloc2_parts.specs.Computed.{IsVia, AreApartInMemory, AreSeenApart}
+use Rattle.regalloc2_parts.specs.Computed.{IsVia, AreApartOnStack, AreSeenApart}
 use Rattle.regalloc2_parts.proofs.Computing.{Chosen, choice, chosen, may_ask_again, refused_first, computes_at_once, computes_refused, can_expand}
 use Rattle.regalloc2_parts.proofs.Computing.{computes_by_way, not_apart}
 use Rattle.std.proofs.lemmas.Bool.{false≢true}
@@ -99,7 +99,7 @@ returns-in_err-hand_out g c =
     self.find_free_reg
     mid.find_free_reg last.find_free_reg self.get_stackslot mid.get_stackslot last.get_stackslot ch c.in_err-hand_out.ensures.none.1 in
     let p = err_from_is_err_and c.from_residual-in_err-hand_out.result c.from_residual-in_err-hand_out.ensures.1 in
-    let some : AreApartInMemory stack made → ⊥ =
+    let some : AreApartOnStack stack made → ⊥ =
     not_apart (λ (f : g.row.IsStackAlloc.Denot) (p : Place) (b : Bool). goal.IsStackAlloc-post g f p b) mid.is_stack_alloc self.is_stack_alloc
     c.as_slice-list.result.now made c.in_ok-scratch.ensures.stack c.as_slice-list.ensures c.if-not-has_stack_to_stack.ensures.some in
     record {
@@ -109,7 +109,7 @@ returns-in_err-hand_out g c =
         stack_kept = c.hand_out.ensures.stack ∙ c.in_ok-scratch.ensures.stack;
         borrowed_kept = c.hand_out.ensures.borrowed ∙ c.in_ok-scratch.ensures.borrowed;
         outcome = λ e. h.2;
-        plain = λ f a. absurd (some (subst (λ xs. AreApartInMemory stack xs) (sym (ch.plain f)) a));
+        plain = λ f a. absurd (some (subst (λ xs. AreApartOnStack stack xs) (sym (ch.plain f)) a));
       });
     }
 
@@ -171,7 +171,7 @@ returns g c =
     let first = c.via-via.result.1 in
     let handed = c.in_ok-hand_out.field-0 in
     let is : IsVia handed (InRegister self.borrowed_scratch_reg) via first = subst (λ r. IsVia handed (InRegister r) via first) borrowed c.via-via.ensures in
-    let some : AreApartInMemory stack made → ⊥ =
+    let some : AreApartOnStack stack made → ⊥ =
     not_apart (λ (f : g.row.IsStackAlloc.Denot) (p : Place) (b : Bool). goal.IsStackAlloc-post g f p b) mid.is_stack_alloc self.is_stack_alloc
     c.as_slice-list.result.now made c.in_ok-scratch.ensures.stack c.as_slice-list.ensures c.if-not-has_stack_to_stack.ensures.some in
     let by = computes_by_way reg slots stack (InRegister self.borrowed_scratch_reg) last.find_free_reg last.get_stackslot ch some
@@ -187,6 +187,6 @@ returns g c =
             (λ out x. by.2 out.items (subst (λ xs. IsExpanded stack via.register via.save xs out.items) c.as_slice-list.ensures
             (subst (λ f. IsExpanded (λ p b. goal.IsStackAlloc-post g f p b) via.register via.save c.as_slice-list.result.now out.items) same x)))
             (λ fault memory slot. absurd (memory_is_no_slot (sym memory ∙ slot)));
-        plain = λ f a. absurd (some (subst (λ xs. AreApartInMemory stack xs) (sym (ch.plain f)) a));
+        plain = λ f a. absurd (some (subst (λ xs. AreApartOnStack stack xs) (sym (ch.plain f)) a));
       };
     }

@@ -1,7 +1,7 @@
 use Rattle.std.proofs.Common.{List, Vec, ℕ, ◌∙◌, length, ap}
 use Rattle.std.proofs.lemmas.List.{with_items_is}
 use Rattle.regalloc2_analysis.specs.Liveness.Edges.{blocks_of, names_block}
-use Rattle.regalloc2_analysis.proofs.liveness.edges.edges_into.Goals as goal
+use Rattle.regalloc2_analysis.proofs.liveness.edges.predecessors.Goals as goal
 
 pub add_all_edges-requires : goal.add_all_edges-requires
 add_all_edges-requires g c = record {
