@@ -19,7 +19,7 @@ use Rattle.regalloc2_semantics.specs.Faithful.{Meets, IsStackToStack}
 use Rattle.regalloc2_semantics.specs.Places.{IsValidPlace, IsMoveEnd}
 use Rattle.regalloc2_function.proofs.Following.{end_within}
 use Rattle.regalloc2_function.specs.WellFormed.{IsWellFormed, EndsBlock}
-use Rattle.regalloc2.specs.Promise.{IsAllocation}
+use Rattle.regalloc2.specs.Guarantee.{IsAllocation}
 use Rattle.codegen_operation.specs.Operands.{argument_registers, arguments_in, call_operands, count_in, def_in, operands_of, part_register, passed_in}
 use Rattle.codegen_operation.specs.Operands.{passed_on_stack, right_in, use_in, is_jump, is_return}
 use Rattle.codegen_machine.specs.Successors.{wanted_by}

@@ -4,7 +4,7 @@ use Rattle.regalloc2_function.specs.Machine.{MachineValue}
 use Rattle.regalloc2_function.specs.OutputValue.{OutputValue}
 use Rattle.regalloc2_function.specs.WellFormed.{IsWellFormed}
 use Rattle.regalloc2_semantics.specs.Alike.{RunAlike}
-use Rattle.regalloc2.specs.Promise.{IsAllocation}
+use Rattle.regalloc2.specs.Guarantee.{IsAllocation}
 use Rattle.codegen_machine.specs.Seen.{function_of_procedure, operations}
 use Rattle.codegen_machine.specs.declared.procedure.Procedure.{Procedure}
 use Rattle.codegen_machine.specs.declared.module.NamedProcedure.{NamedProcedure}

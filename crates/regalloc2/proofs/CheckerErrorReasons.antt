@@ -5,7 +5,7 @@ use Rattle.regalloc2_function.specs.FunctionValue.{FunctionValue}
 use Rattle.regalloc2_function.specs.Machine.{MachineValue}
 use Rattle.regalloc2_function.specs.OutputValue.{OutputValue}
 use Rattle.regalloc2_semantics.specs.Faithful.{IsFaithful}
-use Rattle.regalloc2_fastalloc.specs.Promise.{IsAllocation}
+use Rattle.regalloc2_fastalloc.specs.Guarantee.{IsAllocation}
 use Rattle.regalloc2_fastalloc.specs.ErrorReason.{PassesAllChecks}
 use Rattle.regalloc2_checker.specs.declared.errors.CheckerError.{CheckerError}
 use Rattle.regalloc2_checker.specs.declared.errors.CheckerError.TheVariants.{Memory}

@@ -6,12 +6,12 @@ use Rattle.regalloc2_function.specs.OutputValue.{OutputValue, IsInOrder}
 use Rattle.regalloc2_semantics.specs.Runs.{IsDefinitelyAssigned}
 use Rattle.regalloc2_semantics.specs.Faithful.{IsFaithful}
 use Rattle.regalloc2_function.specs.WellFormed.{IsWellFormed}
-use Rattle.regalloc2_fastalloc.specs.Promise.{RunsAsTheFunction}
+use Rattle.regalloc2_fastalloc.specs.Guarantee.{RunsAsTheFunction}
 use Rattle.regalloc2_checker.specs.declared.errors.CheckerError.{CheckerError}
 use Rattle.regalloc2_checker.specs.Report.{IsReport}
 
 -- what `run` guarantees of an output, as far as the checker requires it
-pub record IsPromised (f : FunctionValue) (env : MachineValue) (out : OutputValue) : Type 0 where
+pub record IsGuaranteed (f : FunctionValue) (env : MachineValue) (out : OutputValue) : Type 0 where
   pub in_order : IsInOrder f out
   pub runs : IsDefinitelyAssigned f → RunsAsTheFunction f env out
 
@@ -23,6 +23,6 @@ pub record IsAcceptedByChecker (A : Type 0) (f : FunctionValue) (env : MachineVa
 
 -- of a well-formed function in which no path from the entry reads or passes a vreg before writing it, what is
 -- guaranteed is accepted
-abbrev pub PromisedIsAccepted : Type 0 → Type 0
-PromisedIsAccepted A = (f : FunctionValue) (env : MachineValue) (out : OutputValue) → IsWellFormed env f → IsDefinitelyAssigned f → IsPromised f env out →
+abbrev pub GuaranteedIsAccepted : Type 0 → Type 0
+GuaranteedIsAccepted A = (f : FunctionValue) (env : MachineValue) (out : OutputValue) → IsWellFormed env f → IsDefinitelyAssigned f → IsGuaranteed f env out →
     IsAcceptedByChecker A f env out

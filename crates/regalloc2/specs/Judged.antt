@@ -4,7 +4,7 @@ use Rattle.regalloc2_function.specs.FunctionValue.{FunctionValue}
 use Rattle.regalloc2_function.specs.Machine.{MachineValue}
 use Rattle.regalloc2_function.specs.OutputValue.{OutputValue}
 use Rattle.regalloc2_semantics.specs.Faithful.{IsFaithful}
-use Rattle.regalloc2_fastalloc.specs.Promise.{IsAllocation}
+use Rattle.regalloc2_fastalloc.specs.Guarantee.{IsAllocation}
 use Rattle.regalloc2_fastalloc.specs.ErrorReason.{IsReason, PassesAllChecks}
 use Rattle.regalloc2_checker.specs.ErrorsFound.{errors_of}
 use Rattle.regalloc2_checker.specs.Report.{IsReport}

@@ -2,7 +2,7 @@
 -- crate.
 -- Read first: `Accepted`: the checker accepts what the allocator guarantees; `Allocated` and `Judged`: errors;
 -- `ErrorTexts`: their texts.
--- Depends on regalloc2_fastalloc (`Promise`, `ErrorReason`) and regalloc2_checker (`Report`).
+-- Depends on regalloc2_fastalloc (`Guarantee`, `ErrorReason`) and regalloc2_checker (`Report`).
 pub mod Accepted
 pub mod Judged
 pub mod Allocated
@@ -44,7 +44,7 @@ pub use Rattle.regalloc2_serialize.specs.TableFunction.Table
 pub use Rattle.regalloc2_serialize.specs.TableFunction.Draft
 pub use Rattle.regalloc2_serialize.specs.TableFunction.Built
 pub use Rattle.regalloc2_serialize.specs.TableFunction.BuildText
-pub use Rattle.regalloc2_fastalloc.specs.Promise
+pub use Rattle.regalloc2_fastalloc.specs.Guarantee
 pub use Rattle.regalloc2_fastalloc.specs.ErrorReason
 pub use Rattle.regalloc2_fastalloc.specs.Lending
 pub use Rattle.regalloc2_checker.specs.Facts

@@ -8,7 +8,7 @@ ghost use Rattle.regalloc2_semantics.specs.Runs.{IsDefinitelyAssigned};
 ghost use Rattle.regalloc2_semantics.specs.Faithful.{IsFaithful};
 ghost use Rattle.regalloc2_function.specs.Fitting.{MachineFits};
 ghost use Rattle.regalloc2_function.specs.WellFormed.{IsFramed, IsWellFormed};
-ghost use Rattle.regalloc2_fastalloc.specs.Promise.{IsAllocation};
+ghost use Rattle.regalloc2_fastalloc.specs.Guarantee.{IsAllocation};
 ghost use Rattle.regalloc2_fastalloc.specs.ErrorReason.{PassesAllChecks};
 ghost use Rattle.regalloc2_checker.specs.ErrorsFound.{errors_of};
 ghost use Rattle.regalloc2_checker.specs.Report.{IsReport};

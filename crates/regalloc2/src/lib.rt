@@ -15,7 +15,7 @@ mod laws;
 mod tested;
 
 pub use checked::{CheckedRunError, run_checked};
-pub use laws::accepts_what_is_promised;
+pub use laws::accepts_what_is_guaranteed;
 pub use regalloc2_fastalloc::{Algorithm, Ctx, RegallocOptions, run, run_into_ctx, run_with_ctx};
 pub use regalloc2_function::{
     Edit, Function, InstOrEdit, MachineEnv, MachineMisfit, Output, OutputIter, StoredFault,

@@ -7,7 +7,7 @@ ghost use Rattle.regalloc2_semantics.specs.Runs.{IsDefinitelyAssigned};
 ghost use Rattle.regalloc2_semantics.specs.Faithful.{IsFaithful};
 ghost use Rattle.regalloc2_function.specs.Fitting.{MachineFits};
 ghost use Rattle.regalloc2_function.specs.WellFormed.{IsWellFormed};
-ghost use Rattle.regalloc2_fastalloc.specs.Promise.{IsAllocation, LiveInSlots, RunsAsTheFunction};
+ghost use Rattle.regalloc2_fastalloc.specs.Guarantee.{IsAllocation, LiveInSlots, RunsAsTheFunction};
 ghost use Rattle.regalloc2_fastalloc.specs.ErrorReason.{PassesAllChecks};
 ghost use Rattle.regalloc2.specs.Allocated.{allocate_error, IsAllocateFault, IsAllocateReason, IsTestedReason, IsTestedRunReason};
 

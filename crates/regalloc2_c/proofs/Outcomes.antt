@@ -12,7 +12,7 @@ use Rattle.regalloc2.specs.Stored.{NamesValues, output_of_stored}
 use Rattle.regalloc2.specs.Runs.{IsDefinitelyAssigned}
 use Rattle.regalloc2.specs.Faithful.{IsFaithful}
 use Rattle.regalloc2.specs.WellFormed.{IsWellFormed}
-use Rattle.regalloc2.specs.Promise.{IsAllocation, RunsAsTheFunction, LiveInSlots}
+use Rattle.regalloc2.specs.Guarantee.{IsAllocation, RunsAsTheFunction, LiveInSlots}
 use Rattle.regalloc2.specs.Report.{IsReport}
 use Rattle.regalloc2.specs.Allocated.{IsTestedReason, IsTestedRunReason}
 use Rattle.regalloc2.specs.declared.tested.AllocateError.{AllocateError}

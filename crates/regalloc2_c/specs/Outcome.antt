@@ -15,7 +15,7 @@ use Rattle.regalloc2.specs.Stored.{NamesMove, NamesValues, stored_move, output_o
 use Rattle.regalloc2.specs.Faithful.{IsFaithful}
 use Rattle.regalloc2_checker.specs.Cells.{AreCells}
 use Rattle.regalloc2.specs.WellFormed.{IsWellFormed, IsFramed}
-use Rattle.regalloc2.specs.Promise.{IsAllocation, RunsAsTheFunction, LiveInSlots}
+use Rattle.regalloc2.specs.Guarantee.{IsAllocation, RunsAsTheFunction, LiveInSlots}
 use Rattle.regalloc2.specs.Runs.{IsDefinitelyAssigned}
 use Rattle.regalloc2.specs.ErrorReason.{IsReason, PassesAllChecks}
 use Rattle.regalloc2_function.specs.declared.serialize.StoredOutput.{StoredOutput}

@@ -8,7 +8,7 @@ use Rattle.regalloc2_semantics.specs.Places.{IsSlotOf, OfBranch}
 use Rattle.regalloc2_fastalloc_state.specs.StateParts.{SpillSlotsValue}
 use Rattle.regalloc2_fastalloc_proofs.proofs.Slots.ApartSlotsAreOwned.{OwnsSlots}
 use Rattle.regalloc2_fastalloc_proofs.proofs.Slots.StepsKeepSlotsApart.{not_branch}
-use Rattle.regalloc2_fastalloc.specs.Promise.{ServesBranch}
+use Rattle.regalloc2_fastalloc.specs.Guarantee.{ServesBranch}
 
 -- two at most for a class, and named by no operand, by no debug location, and by moves before the branch alone
 pub branch_slots_serve : (Known : VirtualRegister → Type 0) (f : FunctionValue) (s : SpillSlotsValue) (out : OutputValue) → (owns : OwnsSlots Known f s out) →

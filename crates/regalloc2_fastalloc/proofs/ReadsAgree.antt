@@ -41,7 +41,7 @@ use Rattle.regalloc2_analysis.specs.declared.live_ranges.LiveRange.{LiveRange}
 use Rattle.regalloc2_analysis.specs.LiveRanges.LiveRanges.{IsKeptRange}
 use Rattle.regalloc2_fastalloc_proofs.specs.Debug.ShownPlace.{shown_place}
 use Rattle.regalloc2_fastalloc_proofs.proofs.Debug.DebugLocationsHoldValues.{label_shown}
-use Rattle.regalloc2_fastalloc.specs.Promise.{LiveInSlots, IsPassedTo, ArrivesAt, defined, given, in_slot}
+use Rattle.regalloc2_fastalloc.specs.Guarantee.{LiveInSlots, IsPassedTo, ArrivesAt, defined, given, in_slot}
 use Rattle.regalloc2_fastalloc_proofs.specs.InstSteps.{StateValue}
 use Rattle.regalloc2_fastalloc_proofs.proofs.Slots.ApartSlotsAreOwned.{OwnsSlots}
 use Rattle.regalloc2_fastalloc_proofs.proofs.Walk.DefsBeforeUses.{used_made}

@@ -10,7 +10,7 @@ use Rattle.regalloc2_function.specs.Machine.{allocatable_count, count_below, Mac
 use Rattle.regalloc2_function.specs.FunctionValue.{FunctionValue, InstValue, no_inst, op_at}
 use Rattle.regalloc2_fastalloc_state.proofs.CountingLaws.{count_le}
 use Rattle.regalloc2_fastalloc_proofs.specs.Unspilled.SpillFree.{FitInRegs, HasRegOperandsOnly}
-use Rattle.regalloc2_fastalloc.specs.Promise.{HasRegistersForAll}
+use Rattle.regalloc2_fastalloc.specs.Guarantee.{HasRegistersForAll}
 
 -- the vregs that some instructions name
 unfoldable pub names_in : List InstValue → List VirtualRegister

@@ -5,7 +5,7 @@ ghost use Rattle.regalloc2_function.specs.Stored.{location_of};
 ghost use Rattle.regalloc2_function.specs.Views.{edit_of, machine_of, output_of};
 ghost use Rattle.regalloc2_function.specs.WellFormed.{IsWellFormed};
 ghost use Rattle.regalloc2_function.specs.Fitting.{MachineFits};
-ghost use Rattle.regalloc2_fastalloc.specs.Promise.{IsAllocation};
+ghost use Rattle.regalloc2_fastalloc.specs.Guarantee.{IsAllocation};
 ghost use Rattle.regalloc2_fastalloc.specs.Survey.{LacksIfPassed, IsSurvey};
 ghost use Rattle.regalloc2_fastalloc.specs.BeforeSteps.{IsBeforeFilling};
 ghost use Rattle.regalloc2_fastalloc_walk.specs.Findings.{AllPassTests};

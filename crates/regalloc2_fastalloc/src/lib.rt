@@ -12,7 +12,7 @@ ghost use Rattle.regalloc2_function.specs.FunctionValue.{operand_count};
 ghost use Rattle.regalloc2_function.specs.Views.{machine_of, output_of};
 ghost use Rattle.regalloc2_function.specs.WellFormed.{IsWellFormed};
 ghost use Rattle.regalloc2_function.specs.Fitting.{MachineFits};
-ghost use Rattle.regalloc2_fastalloc.specs.Promise.{IsAllocation};
+ghost use Rattle.regalloc2_fastalloc.specs.Guarantee.{IsAllocation};
 ghost use Rattle.regalloc2_fastalloc.specs.ErrorReason.{IsReason, PassesAllChecks};
 ghost use Rattle.regalloc2_fastalloc.specs.Lending.{LendsOutput};
 
@@ -107,7 +107,7 @@ impl<A: Allocator + Copy> Ctx<A> {
 /// locations are one for each kept label, by rising label. Each is from the first point
 /// of its vreg to the last one, in a valid place: that of an operand of the vreg, or the slot that
 /// it owns. One record contains all that is guaranteed of an output: `IsAllocation`, in
-/// `specs/Promise.antt`.
+/// `specs/Guarantee.antt`.
 ///
 /// If no path from the entry reads or passes a vreg before writing it, the output runs as the
 /// function does: along every path, and whatever the instructions compute, each use reads the

@@ -2,7 +2,7 @@
 
 ghost use Rattle.std.specs.Prelude.{◌≡◌, [], IfSome, OnErr, OnOk};
 ghost use Rattle.regalloc2_function.specs.Views.{machine_of, output_of};
-ghost use Rattle.regalloc2.specs.Promise.{IsAllocation};
+ghost use Rattle.regalloc2.specs.Guarantee.{IsAllocation};
 
 use regalloc2::postorder::calculate;
 use regalloc2::{

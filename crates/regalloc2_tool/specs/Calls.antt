@@ -14,7 +14,7 @@ use Rattle.regalloc2_function.specs.Stored.{NamesValues, output_of_stored}
 use Rattle.regalloc2_function.specs.WellFormed.{IsFramed, IsWellFormed}
 use Rattle.regalloc2_function.specs.declared.serialize.StoredOutput.{StoredOutput}
 use Rattle.regalloc2_fastalloc.specs.ErrorReason.{PassesAllChecks}
-use Rattle.regalloc2_fastalloc.specs.Promise.{IsAllocation}
+use Rattle.regalloc2_fastalloc.specs.Guarantee.{IsAllocation}
 use Rattle.regalloc2_checker.specs.Cells.{AreCells}
 use Rattle.regalloc2_serialize.specs.Decoded.{NamesFunction, NamesMachine}
 use Rattle.regalloc2_serialize.specs.Validity.{IsSoundStored}

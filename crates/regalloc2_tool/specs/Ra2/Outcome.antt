@@ -6,7 +6,7 @@ use Rattle.regalloc2_function.specs.Machine.{MachineValue}
 use Rattle.regalloc2_function.specs.OutputValue.{OutputValue}
 use Rattle.regalloc2_semantics.specs.Faithful.{IsFaithful}
 use Rattle.regalloc2_function.specs.WellFormed.{IsWellFormed}
-use Rattle.regalloc2_fastalloc.specs.Promise.{IsAllocation}
+use Rattle.regalloc2_fastalloc.specs.Guarantee.{IsAllocation}
 use Rattle.regalloc2_fastalloc.specs.ErrorReason.{IsReason}
 use Rattle.regalloc2_tool.specs.Listing.{listing_text}
 use Rattle.regalloc2_tool.specs.Ra2.Findings.{IsOutputJudged, IsUnaccepted}

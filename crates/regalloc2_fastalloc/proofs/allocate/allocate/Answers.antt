@@ -9,7 +9,7 @@ use Rattle.regalloc2_function.specs.OutputValue.{DebugLocation, MoveValue, Outpu
 use Rattle.regalloc2_function.specs.Stored.{location_of}
 use Rattle.regalloc2_function.specs.Views.{edit_of, machine_of}
 use Rattle.regalloc2_analysis.specs.LiveRanges.LiveRanges.{AreLabelsMarked}
-use Rattle.regalloc2_fastalloc.specs.Promise.{IsAllocation}
+use Rattle.regalloc2_fastalloc.specs.Guarantee.{IsAllocation}
 use Rattle.regalloc2_carry.proofs.Plain.{always}
 use Rattle.regalloc2_fastalloc.proofs.allocate.allocate.Goals as goal
 

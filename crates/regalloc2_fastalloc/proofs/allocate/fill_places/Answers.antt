@@ -18,7 +18,7 @@ use Rattle.regalloc2_carry.proofs.SingleDef.{Made}
 use Rattle.regalloc2_semantics.proofs.Faithful.{faithful}
 use Rattle.regalloc2_analysis.proofs.LiveRangesLemmas.UsesInSSA.{well_formed_ssa}
 use Rattle.regalloc2_fastalloc_state.specs.OutOfResources.{Lacks, SlotsExhaustedWith}
-use Rattle.regalloc2_fastalloc.specs.Promise.{LiveInSlots, HasRegistersForAll}
+use Rattle.regalloc2_fastalloc.specs.Guarantee.{LiveInSlots, HasRegistersForAll}
 use Rattle.regalloc2_fastalloc.specs.Survey.{SomeDoesNotFit}
 use Rattle.regalloc2_semantics.specs.Places.{units_at_most}
 use Rattle.regalloc2_fastalloc_proofs.specs.InstSteps.{StateValue}

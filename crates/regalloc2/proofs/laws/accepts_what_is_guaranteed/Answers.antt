@@ -1,4 +1,4 @@
-use Rattle.regalloc2.proofs.laws.accepts_what_is_promised.Goals as goal
+use Rattle.regalloc2.proofs.laws.accepts_what_is_guaranteed.Goals as goal
 
 pub returns : goal.returns
 returns g c = λ f env out ok written p. record {
