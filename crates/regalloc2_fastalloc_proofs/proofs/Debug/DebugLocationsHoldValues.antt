@@ -60,7 +60,7 @@ module _ (walk : WholeWalk) (m : IsOutputOfWalk walk.f walk.env (Made walk.f) (M
       IsValidPlace env out v.class (place_at (allocs_of out o.inst) o.index)
   operand_proper v o lt less named is =
       subst (λ (w : VirtualRegister). IsValidPlace env out w.class (place_at (allocs_of out o.inst) o.index)) is
-      ((made_proper f env (Made f) (MayInBlocks f) last out m).operands o.inst lt o.index no_operand less named)
+      ((made_proper f env (Made f) (MayInBlocks f) last out m).operands o.inst lt o.index less named)
 
   -- if there is no slot
   by_proper : IsDefinitelyAssigned f → (v : VirtualRegister) {by : Option InstOperand} → IsShownBy f v by → slot_name last.slots v.number ≡ NoPlace →

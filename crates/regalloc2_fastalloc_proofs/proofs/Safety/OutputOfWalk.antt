@@ -196,12 +196,8 @@ slots_below f env Known May t o m = subst (AreBelow t.slots) (sym m.count) m.kep
 pub made_proper : (f : FunctionValue) (env : MachineValue) (Known : VirtualRegister → Type 0) (May : ℕ → Type 0) (t : StateValue) (o : OutputValue) →
     IsOutputOfWalk f env Known May t o → PlacesAreValid f env o
 made_proper f env Known May t o m = record {
-  operands = λ i lt k d less named.
-      let ops : List OperandValue = (inst_at f i).operands in
-      let same : slice_index_or ops k d ≡ op_at ops k = get_or_default ops k d _ less in
-      subst (λ (x : OperandValue). IsValidPlace env o x.vreg.class (place_at (allocs_of o i) k)) (sym same)
-      (proper_place env o t.slots (op_at ops k).vreg (place_at (allocs_of o i) k) (slots_below f env Known May t o m)
-      ((operand_good f env Known May t o m i lt k less).place (ap is_fixed_nonallocatable (sym same) ∙ named)));
+  operands = λ i lt k less named. proper_place env o t.slots (op_at (inst_at f i).operands k).vreg (place_at (allocs_of o i) k) (slots_below f env Known May t o m)
+      ((operand_good f env Known May t o m i lt k less).place named);
   moves = each_edit f env Known May t o (λ e. IsMoveEnd env o e.1.from × IsMoveEnd env o e.1.to) m (λ e s. elim s.moves [
     | inl v ↦ (
       move_end env o t.slots v.vreg e.1.from (slots_below f env Known May t o m) v.from,

@@ -124,7 +124,7 @@ joins_at f follow b lt some = sym ((follow b lt).2 some)
 
 -- every defined vreg has a number below that bound
 pub made_below : (f : FunctionValue) (n : ℕ) → DefinesBelow f n → (v : VirtualRegister) → Made f v → v.number < n
-made_below f n below v (by_operand i k x e) = below v (after i) (inr (i, k, no_operand, omega arith, x.operand, x.definition, e))
+made_below f n below v (by_operand i k x e) = below v (after i) (inr (i, k, omega arith, x.operand, x.definition, e))
 made_below f n below v (Made.by_param b k x e) = below v (before (block_at f b).range.first)
     (inl (b, x.block, omega arith, (k, x.param, get_or_default (block_at f b).params k v no_vreg x.param ∙ e)))
 

@@ -195,8 +195,8 @@ module _ (Known : VirtualRegister → Type 0) (f : FunctionValue) (s : SpillSlot
         branches = λ n i class index a e.
             let x = owner_is n (named n a) in
             (met x.0 x.1 i class index (sym x.3 ∙ e)).0;
-        operands = λ i lt k d less n at.
-            let o = operands i lt k d less n at in
+        operands = λ i lt k less n at.
+            let o = operands i lt k less n at in
             owner_found _ (h.known _ o.0 n o.1);
         named = λ n a last.
             let x = owner_is n (named n a) in
