@@ -321,7 +321,9 @@ module _ (p : Procedure) (env : MachineValue) (out : OutputValue) (t : IsTarget 
   placed i less =
       let os : List OperandValue = (inst_at f i).operands in
       let all : AreFor env out t os (allocs_of out i) = record {
-        proper = a.proper.operands i less;
+        proper = λ k d within.
+            subst (λ (o : OperandValue). is_fixed_nonallocatable o ≡ false → IsValidPlace env out o.vreg.class (place_at (allocs_of out i) k))
+            (get_or_default os k no_operand d within) (a.proper.operands i less k within);
         meets = λ k d within. subst (λ (o : OperandValue). Meets env (length os) (allocs_of out i) o.constraint (place_at (allocs_of out i) k))
             (get_or_default os k no_operand d within) (a.constraints i less k within);
       } in
