@@ -128,7 +128,7 @@ first_here P xs i x less is before fails = (
   (
     less,
     λ p. fails (subst P (sym is) p),
-    λ j low. subst P (get_or-take i xs j x low) (before j x (omega (arith, low, less, length-take-le i xs (omega (arith, less)))))
+    λ j low. subst P (get_or-take i xs j x low) (before j x (omega (arith, low, less, length-take-le i xs (omega (arith, less))))),
   ),
   sym is,
 )

@@ -84,8 +84,12 @@ module _ (f : FunctionValue) (follow : BlocksFollow f) (some : 0 < length f.bloc
         h.0.point,
         (
           h.2.0,
-          (h.2.1.0, λ defined. h.2.1.1 (defined_usable k (get_or (uses_in f) h.2.0 h.0) defined), λ j low. usable_defined k (get_or (uses_in f) j h.0)
-              (h.2.1.2 j low)),
+          (
+            h.2.1.0,
+            λ defined. h.2.1.1 (defined_usable k (get_or (uses_in f) h.2.0 h.0) defined),
+            λ j low. usable_defined k (get_or (uses_in f) j h.0)
+                (h.2.1.2 j low),
+          ),
           h.2.2,
         ),
       ) in

@@ -1,6 +1,6 @@
 -- The registers of a machine, as contracts see them.
 -- Its parts are the fields of upstream's `MachineEnv`.
-use Rattle.std.specs.Prelude.{Bool, ◌||◌, List, [], ◌∷◌, Contains, Option, None, slice_index_or, ℕ, zero, suc, ◌+◌, if◌then◌else◌}
+use Rattle.std.specs.Prelude.{Bool, ◌||◌, List, Contains, Option, None, slice_index_or, ℕ, zero, suc, ◌+◌, if◌then◌else◌}
 use Rattle.regalloc2_names.specs.declared.RegClass.{RegClass}
 use Rattle.regalloc2_names.specs.declared.sets.PRegSet.{PRegSet}
 use Rattle.regalloc2_names.specs.Register.{Register, class_code, empty_set, has_register}

@@ -1,20 +1,17 @@
 -- In a well-formed function a use finds writes of earlier steps alone.
-use Rattle.std.proofs.Common.{ℕ, zero, suc, ◌≡◌, ◌<◌, ◌≤◌, true, List, [], ◌∷◌, length, refl, arith, sym, ap, ◌∙◌, subst, inl, inr}
-use Rattle.std.specs.Prelude.{Option, None, Some, IsSome, slice_index_or}
-use Rattle.std.proofs.lemmas.List.{get_or_past}
-use Rattle.std.proofs.lemmas.Bool.{cases_lt, or_left, or_right}
+use Rattle.std.proofs.Common.{ℕ, ◌≡◌, ◌<◌, ◌≤◌, List, [], ◌∷◌, length, refl, arith, sym, ◌∙◌, inl, inr}
+use Rattle.std.specs.Prelude.{Option, None, Some, IsSome}
 use Rattle.regalloc2_names.specs.declared.OperandPos.{OperandPos}
 use Rattle.regalloc2_names.specs.declared.OperandPos.TheVariants.{Early, Late}
 use Rattle.regalloc2_names.specs.Operand.{OperandValue}
 use Rattle.regalloc2_names.specs.Place.{before}
-use Rattle.regalloc2_names.specs.Register.{VirtualRegister, is_vreg}
-use Rattle.regalloc2_function.specs.FunctionValue.{FunctionValue, InstValue, block_at, inst_at, no_inst, no_operand, op_at}
+use Rattle.regalloc2_names.specs.Register.{VirtualRegister}
+use Rattle.regalloc2_function.specs.FunctionValue.{FunctionValue, block_at, inst_at, no_operand, op_at}
 use Rattle.regalloc2_semantics.specs.Runs.{Way, Onward, ToSuccessor, Location, end_of, last_inst, IsPath, Stamp, read_of, source_before, source_after}
 use Rattle.regalloc2_semantics.specs.Runs.{source_read}
 use Rattle.regalloc2_function.specs.WellFormed.{DefinedOnce, IsDefinedUpTo}
 use Rattle.regalloc2_semantics.specs.Laws.{SourceIsEarlier, NumbersGiveReads, AgreeingReadsFindEarlier, ReadsAgreeWhereNumbersDo, WellFormedReadEarlier}
-use Rattle.regalloc2_semantics.specs.Sound.{Undefined, names, HasSoundBlocks}
-use Rattle.regalloc2_semantics.proofs.Cells.{is_vreg-same}
+use Rattle.regalloc2_semantics.specs.Sound.{Undefined, HasSoundBlocks}
 use Rattle.regalloc2_semantics.proofs.AfterWrites.{after_defs-other}
 use Rattle.regalloc2_semantics.proofs.Given.{names_element, has_operands}
 use Rattle.regalloc2_semantics.proofs.Soundness.{no_definition, no_second, well_formed_are_sound}

@@ -1,7 +1,7 @@
 -- Held values, and faithful outputs: on every path each use reads what the function's own run reads.
 -- Constraints are as in upstream's `OperandConstraint`. Its checker tests that reads agree, and keeps a set of vregs for each place; here
 -- both are defined along paths.
-use Rattle.std.specs.Prelude.{◌≡◌, List, length, Option, IsSome, ℕ, ◌<◌, ◌≤◌, true, All}
+use Rattle.std.specs.Prelude.{◌≡◌, List, length, Option, IsSome, ℕ, ◌<◌, true, All}
 use Rattle.regalloc2_names.specs.declared.OperandPos.{OperandPos}
 use Rattle.regalloc2_names.specs.declared.OperandConstraint.{OperandConstraint}
 use Rattle.regalloc2_names.specs.declared.OperandConstraint.TheVariants.{Any, Reg, Stack, FixedReg, Reuse, Limit}

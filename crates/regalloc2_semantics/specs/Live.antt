@@ -1,6 +1,6 @@
 -- The instructions that define, read or pass a vreg, and the vregs that are live where a path comes to an
 -- instruction.
-use Rattle.std.specs.Prelude.{ℕ, ◌<◌, ◌⊎◌, List, length, slice_index, ◌≡◌, true, Contains}
+use Rattle.std.specs.Prelude.{ℕ, ◌<◌, ◌⊎◌, length, slice_index, ◌≡◌, true, Contains}
 use Rattle.regalloc2_names.specs.declared.OperandPos.{OperandPos}
 use Rattle.regalloc2_names.specs.Register.{VirtualRegister}
 use Rattle.regalloc2_names.specs.Operand.{is_def, is_reading}

@@ -4,7 +4,7 @@ use Rattle.std.proofs.lemmas.List.{get_or_default}
 use Rattle.regalloc2_names.specs.Operand.{OperandValue}
 use Rattle.regalloc2_names.specs.Place.{before, after}
 use Rattle.regalloc2_names.specs.Register.{VirtualRegister, no_vreg}
-use Rattle.regalloc2_function.specs.FunctionValue.{FunctionValue, block_at, inst_at, no_operand, op_at}
+use Rattle.regalloc2_function.specs.FunctionValue.{FunctionValue, block_at, inst_at, op_at}
 use Rattle.regalloc2_function.specs.WellFormed.{DefinedOnce}
 use Rattle.regalloc2_function.specs.Inside.TableLength.{CoversDefinitions}
 use Rattle.regalloc2_carry.proofs.SingleDef.{IsDefOperand, Made, made_small}

@@ -1,16 +1,15 @@
 -- Each vreg's location at a block's start, as a function of block and vreg: what the branch into the block defines, and
 -- the parameters it is passed to, in the operand's place; a vreg that only its own branch passes nowhere; every other
 -- vreg in its slot.
-use Rattle.std.proofs.Common.{ℕ, ◌≡◌, ◌<◌, ◌⊎◌, inl, inr, true, List, [], length, refl, sym, ap, ◌∙◌, subst, arith}
+use Rattle.std.proofs.Common.{ℕ, ◌≡◌, ◌<◌, ◌⊎◌, inl, inr, true, List, length, refl, ap, ◌∙◌, subst}
 use Rattle.std.specs.Prelude.{Option, None, Some, slice_index_or}
-use Rattle.std.proofs.lemmas.Bool.{cases_eq, cases_lt}
-use Rattle.std.proofs.lemmas.List.{get_or_past}
+use Rattle.std.proofs.lemmas.Bool.{cases_eq}
 use Rattle.std.proofs.lemmas.List.Elements.{All-get_or}
 use Rattle.regalloc2_names.specs.declared.OperandPos.TheVariants.{Early, Late}
 use Rattle.regalloc2_names.specs.Register.{VirtualRegister, no_vreg}
 use Rattle.regalloc2_names.specs.Operand.{is_def}
 use Rattle.regalloc2_names.specs.Place.{Place}
-use Rattle.regalloc2_function.specs.FunctionValue.{FunctionValue, BlockValue, InstValue, block_at, inst_at, no_block, no_inst, op_at, last_of}
+use Rattle.regalloc2_function.specs.FunctionValue.{FunctionValue, block_at, inst_at, op_at, last_of}
 use Rattle.regalloc2_function.specs.Machine.{MachineValue}
 use Rattle.regalloc2_semantics.specs.Runs.{Location, next_of, arguments_at}
 use Rattle.regalloc2_function.specs.WellFormed.{IsWellFormed}
@@ -19,7 +18,7 @@ use Rattle.regalloc2_semantics.specs.Live.{IsLive, read_there, passed_there, lat
 use Rattle.regalloc2_semantics.specs.Sound.{target_at}
 use Rattle.regalloc2_analysis.specs.BranchDefs.BranchDefs.{DefinesNumber, EndsInDefinitions, IsEdgeInto, IsUsedElsewhere}
 use Rattle.regalloc2_carry.proofs.SingleDef.{IsDefOperand, not_both, one_operand, one_param}
-use Rattle.regalloc2_analysis.proofs.BranchDefsLemmas.UsedOrNot.{Decided, below, both, is_so, same_vreg, by_pass, by_read, used_or_not}
+use Rattle.regalloc2_analysis.proofs.BranchDefsLemmas.UsedOrNot.{Decided, below, both, is_so, same_vreg, used_or_not}
 use Rattle.regalloc2_fastalloc_proofs.specs.BranchSteps.{IsOwnDef}
 use Rattle.regalloc2_fastalloc_proofs.specs.StoreSteps.{branch_operands}
 use Rattle.regalloc2_fastalloc_proofs.proofs.Operands.DefinedNumbers.{defined_by, defined_by-number, number_defined}

@@ -3,7 +3,7 @@ use Rattle.std.proofs.Common.{ℕ, ◌≡◌, ◌<◌, inl, inr, false, length, 
 use Rattle.std.specs.Prelude.{Option}
 use Rattle.regalloc2_names.specs.Register.{VirtualRegister}
 use Rattle.regalloc2_names.specs.Place.{Place, NoPlace, InRegister, InSlot}
-use Rattle.regalloc2_function.specs.FunctionValue.{FunctionValue, IsLimited, Label, inst_at, no_operand, op_at}
+use Rattle.regalloc2_function.specs.FunctionValue.{FunctionValue, IsLimited, Label, inst_at, op_at}
 use Rattle.regalloc2_semantics.specs.Places.{IsValidPlace}
 use Rattle.regalloc2_function.specs.Fitting.{MachineFits}
 use Rattle.regalloc2_function.specs.Machine.{MachineValue}

@@ -1,10 +1,8 @@
 -- Well-formed functions meet the requirements of `StepsArePlain`, and their paths are in their blocks.
-use Rattle.std.proofs.Common.{ℕ, suc, ◌≡◌, ◌≢◌, ◌+◌, ◌<◌, ◌≤◌, Bool, true, false, List, [], ◌∷◌, length, refl, ap, ◌∙◌, inl, inr, subst, arith}
-use Rattle.std.specs.Prelude.{slice_index_or, Contains}
+use Rattle.std.proofs.Common.{ℕ, ◌≡◌, ◌≢◌, ◌+◌, ◌<◌, ◌≤◌, false, List, [], ◌∷◌, length, ap, inl, inr, subst, arith}
 use Rattle.regalloc2_names.specs.declared.OperandPos.{OperandPos}
 use Rattle.regalloc2_names.specs.declared.OperandPos.TheVariants.{Early, Late}
-use Rattle.regalloc2_names.specs.Register.{VirtualRegister, is_vreg}
-use Rattle.regalloc2_names.specs.Operand.{OperandValue}
+use Rattle.regalloc2_names.specs.Register.{VirtualRegister}
 use Rattle.regalloc2_function.specs.FunctionValue.{FunctionValue, block_at, inst_at}
 use Rattle.regalloc2_function.specs.Machine.{MachineValue}
 use Rattle.regalloc2_semantics.specs.Runs.{Way, Onward, ToSuccessor, end_of, IsPath, IsDefinitelyAssigned}

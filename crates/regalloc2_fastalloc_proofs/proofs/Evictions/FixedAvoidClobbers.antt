@@ -5,7 +5,7 @@ use Rattle.regalloc2_names.specs.declared.OperandKind.{OperandKind}
 use Rattle.regalloc2_names.specs.declared.OperandKind.TheVariants.{Def, Use}
 use Rattle.regalloc2_names.specs.declared.OperandPos.{OperandPos}
 use Rattle.regalloc2_names.specs.declared.OperandPos.TheVariants.{Early, Late}
-use Rattle.regalloc2_function.specs.FunctionValue.{InstValue, no_operand, op_at}
+use Rattle.regalloc2_function.specs.FunctionValue.{InstValue, op_at}
 use Rattle.regalloc2_names.specs.Operand.{is_def, is_late}
 use Rattle.regalloc2_function.specs.WellFormed.{FixedAvoidClobbers}
 use Rattle.regalloc2_fastalloc_state.specs.declared.positions.Positions.{Positions}

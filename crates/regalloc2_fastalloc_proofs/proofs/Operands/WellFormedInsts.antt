@@ -3,7 +3,7 @@ use Rattle.std.proofs.Common.{ℕ, ◌≡◌, ◌<◌, false, length, refl, arit
 use Rattle.std.proofs.lemmas.Bool.{ne_eqb, and_right}
 use Rattle.std.proofs.lemmas.List.Elements.{All-get_or}
 use Rattle.regalloc2_names.specs.Operand.{OperandValue, is_def, is_late, is_fixed}
-use Rattle.regalloc2_function.specs.FunctionValue.{FunctionValue, IsLimited, inst_at, no_inst, no_operand, op_at}
+use Rattle.regalloc2_function.specs.FunctionValue.{FunctionValue, IsLimited, inst_at, no_inst, op_at}
 use Rattle.regalloc2_function.specs.Machine.{MachineValue}
 use Rattle.regalloc2_function.specs.WellFormed.{IsWellFormed, ReusesAreSound}
 use Rattle.regalloc2_carry.specs.Instruction.{Knows}

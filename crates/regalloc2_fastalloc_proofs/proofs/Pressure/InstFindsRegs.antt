@@ -9,7 +9,7 @@ use Rattle.regalloc2_names.specs.declared.sets.PRegSet.{PRegSet}
 use Rattle.regalloc2_names.specs.Register.{Register, VirtualRegister, has_register, registers_of}
 use Rattle.regalloc2_names.specs.Operand.{OperandValue, is_fixed_nonallocatable}
 use Rattle.regalloc2_names.specs.Place.{Place, NoPlace, before, after}
-use Rattle.regalloc2_function.specs.FunctionValue.{FunctionValue, InstValue, no_operand, op_at}
+use Rattle.regalloc2_function.specs.FunctionValue.{FunctionValue, InstValue, op_at}
 use Rattle.regalloc2_function.specs.Machine.{MachineValue}
 use Rattle.regalloc2_semantics.specs.Fits.{Fits}
 use Rattle.regalloc2_function.specs.Fitting.{NamesClass}

@@ -7,7 +7,7 @@ use Rattle.regalloc2_names.specs.declared.RegClass.{RegClass}
 use Rattle.regalloc2_names.specs.Register.{Register, VirtualRegister}
 use Rattle.regalloc2_names.specs.Operand.{OperandValue, is_def, is_late, is_reading, is_fixed_nonallocatable}
 use Rattle.regalloc2_names.specs.Packing.{IsConstraintOf}
-use Rattle.regalloc2_function.specs.FunctionValue.{InstValue, no_operand, op_at}
+use Rattle.regalloc2_function.specs.FunctionValue.{InstValue, op_at}
 use Rattle.regalloc2_function.specs.Machine.{MachineValue}
 use Rattle.regalloc2_function.specs.WellFormed.{MayBeReused, ReusesAreSound}
 use Rattle.regalloc2_carry.specs.Instruction.{Knows}

@@ -11,7 +11,7 @@ use Rattle.regalloc2_names.specs.declared.sets.PRegSet.{PRegSet}
 use Rattle.regalloc2_names.specs.Register.{Register, VirtualRegister, class_code, no_vreg, has_register}
 use Rattle.regalloc2_names.specs.Place.{Place, before, after}
 use Rattle.regalloc2_names.specs.Operand.{OperandValue}
-use Rattle.regalloc2_function.specs.FunctionValue.{FunctionValue, InstValue, block_at, inst_at, no_operand, EachBlock}
+use Rattle.regalloc2_function.specs.FunctionValue.{FunctionValue, InstValue, block_at, inst_at, EachBlock}
 use Rattle.regalloc2_function.specs.WellFormed.{BlocksFollow, EndsAt}
 use Rattle.regalloc2_carry.proofs.SingleDef.{Made}
 use Rattle.regalloc2_carry.proofs.SingleDef.Made.{by_operand}

@@ -22,7 +22,6 @@ use Rattle.regalloc2_analysis.specs.BranchDefs.BranchDefs.{IsEdgeInto, fixed_def
 use Rattle.regalloc2_carry.proofs.SingleDef.{IsDefOperand, MadeBefore, by_earlier, by_param, made_before, one_operand, reads_defined}
 use Rattle.regalloc2_semantics.proofs.Soundness.{well_formed_are_sound}
 use Rattle.regalloc2_analysis.proofs.BranchDefsLemmas.BlockEnds.{last_within}
-use Rattle.regalloc2_function.specs.OutputValue.{place_at}
 use Rattle.regalloc2_fastalloc_state.specs.declared.inst_regs.InstRegs.{InstRegs}
 use Rattle.regalloc2_fastalloc_state.specs.ScratchPool.{Moves}
 use Rattle.regalloc2_fastalloc_state.specs.StateParts.{IsLruOf, SpillSlotsValue, slot_name, alloc_of}

@@ -6,8 +6,7 @@ use Rattle.std.proofs.lemmas.Bool.{cases_Bool, cases_lt}
 use Rattle.regalloc2_names.specs.Register.{VirtualRegister, no_vreg}
 use Rattle.regalloc2_names.specs.Place.{Place, NoPlace, before, after}
 use Rattle.std.proofs.lemmas.List.{get_or_default, get_or_past}
-use Rattle.regalloc2_function.specs.FunctionValue.{FunctionValue, BlockValue, InstValue, block_at, no_block, inst_at, no_inst, no_operand, op_at, last_of, EachBlock}
-use Rattle.regalloc2_names.specs.Operand.{OperandValue, is_def}
+use Rattle.regalloc2_function.specs.FunctionValue.{FunctionValue, BlockValue, InstValue, block_at, no_block, inst_at, no_inst, op_at, last_of, EachBlock}
 use Rattle.regalloc2_function.specs.WellFormed.{BlocksFollow, DefinedOnce, IsDefinedUpTo, UsesAreDefined, EndsAt}
 use Rattle.regalloc2_carry.specs.Blocks.{IsUsedIn, IsUnwritten, IsUsed}
 use Rattle.regalloc2_carry.proofs.SingleDef.{Made, IsDefOperand, TakesAt, one_made, one_operand, one_param, not_both, reads_defined, made_before, is_made}

@@ -1,6 +1,6 @@
 -- The free registers and the slots of a call's frame.
 use Rattle.std.specs.Prelude.{ℕ, ◌≡◌, ◌+◌, ◌<◌, ◌≤◌, length, slice_index_or, Option, None, Some}
-use Rattle.regalloc2_names.specs.Place.{Place, InRegister, InSlot, slot_limit}
+use Rattle.regalloc2_names.specs.Place.{Place, InRegister, InSlot}
 use Rattle.regalloc2_names.specs.Register.{Register, invalid_register}
 use Rattle.regalloc2_parts.specs.declared.callmoves.CallFrame.{CallFrame}
 

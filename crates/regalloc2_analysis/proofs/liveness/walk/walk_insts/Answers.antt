@@ -1,4 +1,4 @@
-use Rattle.std.proofs.Common.{ℕ, ◌≡◌, ◌+◌, ◌++◌, [], ◌∷◌, ◌<◌, ◌∙◌, length, ap, subst, arith}
+use Rattle.std.proofs.Common.{ℕ, ◌+◌, ◌<◌, ◌∙◌, length, ap, subst, arith}
 use Rattle.regalloc2_index.specs.Range.{Span, numbers_of}
 use Rattle.regalloc2_index.proofs.RangeWalks.{begins_at, ends_at, next_at, one_further, walked_more as range_more}
 use Rattle.regalloc2_function.specs.FunctionValue.{FunctionValue, block_at}
