@@ -7,7 +7,7 @@ use Rattle.regalloc2_fastalloc_walk.proofs.reserve_regs.sort.Goals as goal
 
 pub loop-k-init : goal.loop-k-init
 loop-k-init c = sorting_none c.args.operands.now c.args.inst_regs.now c.none-masks.result c.empty-union.result c.requires c.none-masks.ensures
-    c.empty-union.ensures.none
+    c.empty-union.ensures
 
 pub loop-k-preserved : goal.loop-k-preserved
 loop-k-preserved c =
