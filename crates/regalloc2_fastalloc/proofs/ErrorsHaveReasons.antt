@@ -62,12 +62,7 @@ soundness_reason f env asked p on shape h = soundness_cases h (λ w. no_soundnes
     soundness_cases (livein z ne) malformed = (p, on, malformed, unsound shape (livein z ne))
     soundness_cases (open_end b entry h) malformed = (p, on, malformed, unsound shape (open_end b entry h))
     soundness_cases (arguments b entry end h) malformed = (p, on, malformed, unsound shape (arguments b entry end h))
-    soundness_cases (repeated d earlier later entry end fit is single fails) malformed = (
-      p,
-      on,
-      malformed,
-      unsound shape (repeated d earlier later entry end fit is single fails),
-    )
+    soundness_cases (repeated v i entry end fit repeat) malformed = (p, on, malformed, unsound shape (repeated v i entry end fit repeat))
     soundness_cases (undefined u entry end fit once h) malformed = (p, on, malformed, unsound shape (undefined u entry end fit once h))
 
 -- an error is a reason, where its test is required
