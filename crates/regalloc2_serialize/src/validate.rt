@@ -166,9 +166,7 @@ fn are_ranges(ranges: &[(u32, u32)], count: usize) -> bool
 fn are_labels_below(labels: &[(u32, u32, u32, u32)], num_vregs: u64) -> bool
     ensures { IsTrue result ↔ All (λ l. l.0 / 4 < num_vregs) labels.now }
 {
-    labels
-        .iter()
-        .all(|label| u64::from(VReg::number_of_bits(label.0)) < num_vregs)
+    labels.iter().all(|label| u64::from(VReg::number_of_bits(label.0)) < num_vregs)
 }
 
 /// Returns whether `indexes` are indexes of registers.

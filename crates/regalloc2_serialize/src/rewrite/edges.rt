@@ -186,13 +186,7 @@ fn split_blocks<F: Function, A: Allocator + Copy>(
     let entries = entries_of(alloc, f)?;
     let (mut drafts, mut jumps) = (Vec::new(alloc), Vec::new(alloc));
     for block in 0..f.num_blocks() {
-        let draft = split_block(
-            alloc,
-            f,
-            Block::new(block),
-            entries.as_slice(),
-            &mut jumps,
-        )?;
+        let draft = split_block(alloc, f, Block::new(block), entries.as_slice(), &mut jumps)?;
         drafts.push(draft)?;
     }
     drafts.extend(jumps)?;
