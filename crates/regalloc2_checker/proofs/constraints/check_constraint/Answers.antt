@@ -9,6 +9,6 @@ returns-else-is_plain_reg g c = λ env h there. rw (← c.in-Reg.ensures.constra
 pub returns-else-is_stack : goal.returns-else-is_stack
 returns-else-is_stack g c = λ env h there. rw (← c.in-Stack.ensures.constraint) (no_stack (not_so _ _ (c.is_stack.ensures env h) c.if-is_stack.false))
 
-pub returns-else-is_same : goal.returns-else-is_same
-returns-else-is_same g c = λ env h there. rw (← c.in-FixedReg.ensures.constraint)
-    (not_fixed c.in-FixedReg.reg (λ e. not_so _ _ c.is_same.ensures.same c.if-is_same.false (rw c.reg.ensures e)))
+pub returns-else-eq : goal.returns-else-eq
+returns-else-eq g c = λ env h there. rw (← c.in-FixedReg.ensures.constraint)
+    (not_fixed c.in-FixedReg.reg (λ e. not_so _ _ c.eq.ensures.same c.if-eq.false (rw c.reg.ensures e)))

@@ -11,4 +11,4 @@ returns-then-index-count g c = λ env. reuses_no_operand c.args.index (search ru
 
 pub returns : goal.returns
 returns g c = λ env. rw c.place_at-expected_alloc.ensures (not_reused c.args.index (search rules) (omega (arith, c.if-index-count.false))
-    (λ e. not_so _ _ c.is_same.ensures.same c.if-is_same.false (e ∙ sym c.place_at-expected_alloc.ensures)))
+    (λ e. not_so _ _ c.eq.ensures.same c.if-eq.false (e ∙ sym c.place_at-expected_alloc.ensures)))
