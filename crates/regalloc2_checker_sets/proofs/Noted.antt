@@ -1,6 +1,6 @@
 -- What is noted of sets that were made of others.
 use Rattle.std.proofs.Common.{inl, inr, ℕ, ◌≡◌, ◌<◌, arith, Bool, true, false, nat_eq, List, [], refl, sym, ap, ◌∙◌, get_or, length, subst}
-use Rattle.std.specs.Prelude.{◌&&◌, ◌⊎◌, if◌then◌else◌, Option, None, Some}
+use Rattle.std.specs.Prelude.{◌&&◌, ◌⊎◌, if◌then◌else◌, Option, None, Some, IfSome}
 use Rattle.std.proofs.lemmas.Bool.{cases_lt}
 use Rattle.std.proofs.lemmas.List.{get_or_past}
 use Rattle.regalloc2_function.specs.Numbers.{NumberSet}
@@ -29,10 +29,10 @@ noted-none Is i e h = absurd cc
 
 -- one more is noted
 pub noted-one : (Is : ℕ → ℕ → ℕ → Type 0) (old new : List (Option Noted)) (set other number : ℕ) → Is set other number → AreNoted Is old →
-    ((i : ℕ) (e : Noted) → get_or new i None ≡ Some e → (get_or old i None ≡ Some e) ⊎ (e ≡ record { from = set; other = other; number = number })) →
-    AreNoted Is new
+    ((i : ℕ) (e : Noted) → get_or new i None ≡ Some e →
+    ((j : ℕ) × (get_or old j None ≡ Some e)) ⊎ (e ≡ record { from = set; other = other; number = number })) → AreNoted Is new
 noted-one Is old new set other number is h more i e at = elim (more i e at) [
-  | inl was ↦ h i e was
+  | inl was ↦ h was.0 e was.1
   | inr now ↦ subst (λ (x : Noted). Is x.from x.other x.number) (sym now) is
 ]
 
@@ -134,3 +134,13 @@ notes-more sets new grown shrunk met m n = record {
   takes = noted-more (IsChangeOf false sets) (IsChangeOf false new) shrunk (change-more false sets new m) n.takes;
   meets = noted-more (IsMeetOf sets) (IsMeetOf new) met (meet-more sets new m) n.meets;
 }
+
+-- where sets are added, what a memo notes stays so
+pub memo-more : {M : Type 0} (grown shrunk met : M → List (Option Noted)) (memo : Option M) (sets new : List NumberSet) → AreMore sets new →
+    IfSome memo (λ m. AreNotes sets (grown m) (shrunk m) (met m)) → IfSome memo (λ m. AreNotes new (grown m) (shrunk m) (met m))
+memo-more grown shrunk met None sets new m h = h
+memo-more grown shrunk met (Some x) sets new m h = notes-more sets new (grown x) (shrunk x) (met x) m h
+
+-- what a memo notes, where there is one
+pub memo-at : {M : Type 0} (P : M → Type 0) (memo : Option M) (x : M) → memo ≡ Some x → IfSome memo P → P x
+memo-at {M} P memo x e h = subst (λ (o : Option M). IfSome o P) e h

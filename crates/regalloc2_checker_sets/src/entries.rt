@@ -13,7 +13,9 @@ ghost use Rattle.regalloc2_checker_sets.specs.SavedNumbers.{copy_count, saved_nu
 ghost use Rattle.regalloc2_checker_sets.specs.SavedNumbers.{AreSaved, AreWrittenTo, AreNumbersSame, IsSomeArray, IsWithout};
 
 use crate::unused_sets::{note_all, rename_all};
-use crate::versions::{Versions, begins_with_zeros, copy_chunk, is_same_chunk, make_room};
+use crate::versions::{
+    Versions, begins_with_zeros, copy_chunk, is_same_chunk, make_room, zero_chunk,
+};
 use std::alloc::{AllocError, Allocator};
 use std::marker::Model;
 
@@ -135,7 +137,7 @@ impl<A: Allocator + Copy> Entries<A> {
         ensures saved { IfOk result (λ v. (k i : ℕ) → saved_number v k i ≡ 0) }
     {
         let bases = Versions::new(alloc, count, size / 64)?;
-        let words = Vec::from_elem(alloc, 0, 64)?;
+        let words = zero_chunk(alloc)?;
         let cells = Vec::from_elem(alloc, 0, 64 * (size / 64 + 1))?;
         Ok(Entries {
             words,

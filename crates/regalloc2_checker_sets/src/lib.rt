@@ -4,6 +4,7 @@
 pub mod entries;
 pub mod homes;
 mod kept_set;
+mod known;
 mod more_places;
 mod notes;
 pub mod passed_sets;

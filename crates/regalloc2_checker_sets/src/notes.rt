@@ -3,13 +3,14 @@
 ghost use Rattle.std.specs.Prelude.{◌≡◌, ◌⊎◌, ℕ, None, Some, [], get_or, IfOk};
 ghost use Rattle.regalloc2_checker_sets.specs.declared.notes.Noted.{Noted};
 
+use crate::known::Known;
 use std::alloc::{AllocError, Allocator};
 use std::marker::Model;
 
-/// The length of `entries` until `ROOM_AT_FIRST` sets were noted, so that a small function fills no large table.
+/// The length of `entries` once a set was noted. It grows up to `ROOM`, because a small function notes few sets.
 const ROOM_AT_FIRST: usize = 64;
 
-/// The length of `entries` later.
+/// The greatest length of `entries`.
 const ROOM: usize = 256;
 
 /// A set that was made of the set `from`, and of `other`: bits, or a third set.
@@ -91,19 +92,28 @@ impl<A: Allocator + Copy> Notes<A> {
         None
     }
 
+    /// Makes room for one more set. Once half as many sets were noted as there are entries, their number is doubled: each
+    /// entry is repeated at the other index that its hash may have in the longer list.
+    fn make_room(&mut self, alloc: A) -> Result<(), AllocError>
+        ensures { (i : ℕ) (e : Noted) → get_or self.new i None ≡ Some e → (j : ℕ) × (get_or self.old j None ≡ Some e) }
+    {
+        let len = self.entries.len();
+        if self.count < len / 2 || len >= ROOM {
+            return Ok(());
+        }
+        if len > 0 {
+            return self.entries.extend_from_within(..);
+        }
+        self.entries = empty_entries(alloc, ROOM_AT_FIRST)?;
+        Ok(())
+    }
+
     /// Notes that the set `number` was made of `from` and `other`.
     pub fn note(&mut self, alloc: A, from: u32, other: u32, number: u32) -> Result<(), AllocError>
         ensures { (i : ℕ) (e : Noted) → get_or self.new i None ≡ Some e
-            → (get_or self.old i None ≡ Some e) ⊎ (e ≡ record { from = from; other = other; number = number }) }
+            → ((j : ℕ) × (get_or self.old j None ≡ Some e)) ⊎ (e ≡ record { from = from; other = other; number = number }) }
     {
-        if self.count >= self.entries.len() && self.entries.len() < ROOM {
-            let room = if self.entries.is_empty() {
-                ROOM_AT_FIRST
-            } else {
-                ROOM
-            };
-            self.entries = empty_entries(alloc, room)?;
-        }
+        self.make_room(alloc)?;
         self.count = self.count.saturating_add(1);
         let index = self.index_of(hash_of(from, other));
         if index < self.entries.len() {
@@ -114,5 +124,31 @@ impl<A: Allocator + Copy> Notes<A> {
             });
         }
         Ok(())
+    }
+}
+
+/// The sets that are noted: a set with bits put in (`grown`) or taken out (`shrunk`), and the common members of two sets
+/// (`met`). The kept sets that are `known` by a hash of their members.
+#[derive(Drop)]
+pub struct Memo<A: Allocator> {
+    pub grown: Notes<A>,
+    pub shrunk: Notes<A>,
+    pub met: Notes<A>,
+    pub known: Known<A>,
+}
+
+impl<A: Allocator + Copy> Memo<A> {
+    /// Returns a memo of no sets. Allocates nothing.
+    pub fn new(alloc: A) -> Memo<A>
+        ensures grown { result.grown ≡ [] }
+        ensures shrunk { result.shrunk ≡ [] }
+        ensures met { result.met ≡ [] }
+    {
+        Memo {
+            grown: Notes::new(alloc),
+            shrunk: Notes::new(alloc),
+            met: Notes::new(alloc),
+            known: Known::new(alloc),
+        }
     }
 }

@@ -7,7 +7,7 @@ ghost use Rattle.regalloc2_checker_sets.specs.EntrySets.{has_bits, is_member, Ar
 ghost use Rattle.regalloc2_checker_sets.specs.Renumbering.{AreMovedDown, AreMarkedKept};
 
 use crate::kept_set::Kept;
-use crate::notes::Notes;
+use crate::notes::Memo;
 use regalloc2_function::indexset::IndexSet;
 use std::alloc::{AllocError, Allocator};
 use std::marker::Model;
@@ -24,22 +24,14 @@ pub const FIRST: u32 = 1 << 31;
 #[derive(Drop)]
 pub struct Sets<A: Allocator> {
     kept: Vec<Kept<A>, A>,
-    grown: Notes<A>,
-    shrunk: Notes<A>,
-    met: Notes<A>,
-    known: Vec<u32, A>,
+    /// Allocated when the first set is noted. Most small functions note none.
+    memo: Option<Box<Memo<A>, A>>,
     words: usize,
     alloc: A,
 }
 
-/// The length of `known` while at most `KNOWN_AT_FIRST` sets are kept, so that a small function fills no large table.
-const KNOWN_AT_FIRST: usize = 256;
-
-/// The length of `known` once more than `KNOWN_AT_FIRST` sets are kept.
-const KNOWN: usize = 1024;
-
 impl<A: Allocator> Model for Sets<A> {
-    ghost use Rattle.std.specs.Prelude.{List};
+    ghost use Rattle.std.specs.Prelude.{List, IfSome};
     ghost use Rattle.regalloc2_function.specs.Numbers.{NumberSet};
     ghost use Rattle.regalloc2_checker_sets.specs.EntrySets.{all_sets, AreNotes};
 
@@ -47,7 +39,7 @@ impl<A: Allocator> Model for Sets<A> {
 
     ghost view = { λ s. all_sets s.kept.items };
 
-    ghost invariant = { λ s. AreNotes (all_sets s.kept.items) s.grown s.shrunk s.met };
+    ghost invariant = { λ s. IfSome s.memo (λ m. AreNotes (all_sets s.kept.items) m.value.grown m.value.shrunk m.value.met) };
 }
 
 /// Returns a member of `set`, if it has one.
@@ -139,10 +131,7 @@ impl<A: Allocator + Copy> Sets<A> {
     {
         Sets {
             kept: Vec::new(alloc),
-            grown: Notes::new(alloc),
-            shrunk: Notes::new(alloc),
-            met: Notes::new(alloc),
-            known: Vec::new(alloc),
+            memo: None,
             words: 0,
             alloc,
         }
@@ -219,16 +208,25 @@ impl<A: Allocator + Copy> Sets<A> {
         Ok(FIRST + index)
     }
 
-    /// Returns the index in `known` of a set with the hash `hash`.
-    fn index_of(&self, hash: usize) -> usize {
-        hash & self.known.len().wrapping_sub(1)
+    /// Makes the memo, if there is none yet.
+    #[inline(always)]
+    fn make_memo(&mut self) -> Result<(), AllocError>
+        ensures { self.new ≡ self.old }
+    {
+        if self.memo.is_none() {
+            self.memo = Some(Box::new(self.alloc, Memo::new(self.alloc))?);
+        }
+        Ok(())
     }
 
-    /// Returns the number of the kept set that was last put at the index of `hash` in `known`.
+    /// Returns the number of the kept set that was last known by `hash`.
     fn known_at(&self, hash: usize) -> Option<u32>
         ensures { (n : ℕ) → result ≡ Some n → (2147483648 ≤ n) × (n < length self.now) }
     {
-        let number = *self.known.get(self.index_of(hash))?;
+        let Some(memo) = &self.memo else {
+            return None;
+        };
+        let number = memo.known.get(hash)?;
         if number < FIRST {
             return None;
         }
@@ -238,26 +236,18 @@ impl<A: Allocator + Copy> Sets<A> {
         Some(number)
     }
 
-    /// Puts `number` at the index of `hash` in `known`.
+    /// Makes `number` known by `hash`.
     fn know(&mut self, hash: usize, number: u32) -> Result<(), AllocError>
         ensures { self.new ≡ self.old }
     {
-        let room = if self.kept.len() <= KNOWN_AT_FIRST {
-            KNOWN_AT_FIRST
-        } else {
-            KNOWN
+        self.make_memo()?;
+        let Some(memo) = &mut self.memo else {
+            return Ok(());
         };
-        if self.known.len() < room {
-            self.known = Vec::from_elem(self.alloc, 0, room)?;
-        }
-        let index = self.index_of(hash);
-        if index < self.known.len() {
-            self.known[index] = number;
-        }
-        Ok(())
+        memo.known.put(self.alloc, hash, number, self.kept.len())
     }
 
-    /// Keeps `set`, puts it at the index of `hash` in `known`, and returns its number.
+    /// Keeps `set`, makes it known by `hash`, and returns its number.
     fn keep_known(&mut self, set: Kept<A>, hash: usize) -> Result<u32, AllocError>
         ensures more { AreMore self.old self.new }
         ensures found { IfOk result (λ n. IsSetOf self.new n (has_bits set)) }
@@ -267,7 +257,7 @@ impl<A: Allocator + Copy> Sets<A> {
         Ok(number)
     }
 
-    /// Returns the number of a kept set with the members of `set`, if it is at the index of `hash` in `known`.
+    /// Returns the number of a kept set with the members of `set`, if it is known by `hash`.
     fn find_set(&self, set: &IndexSet<A>, hash: usize) -> Option<u32>
         ensures { (n : ℕ) → result ≡ Some n → IsSetOf self.now n (has_bits set.now) }
     {
@@ -386,7 +376,10 @@ impl<A: Allocator + Copy> Sets<A> {
     fn find_grown(&self, set: u32, bits: u32) -> Option<u32>
         ensures { (n : ℕ) → result ≡ Some n → IsChangeOf true self.now set bits n }
     {
-        self.grown.find(set, bits)
+        let Some(memo) = &self.memo else {
+            return None;
+        };
+        memo.grown.find(set, bits)
     }
 
     /// Notes that `number` is `set` with `bits` put in.
@@ -394,7 +387,11 @@ impl<A: Allocator + Copy> Sets<A> {
         requires { IsChangeOf true self.old set bits number }
         ensures { self.new ≡ self.old }
     {
-        self.grown.note(self.alloc, set, bits, number)
+        self.make_memo()?;
+        let Some(memo) = &mut self.memo else {
+            return Ok(());
+        };
+        memo.grown.note(self.alloc, set, bits, number)
     }
 
     /// Adds the set of the members of `set`, and of `bits`, and notes it.
@@ -475,7 +472,10 @@ impl<A: Allocator + Copy> Sets<A> {
     fn find_shrunk(&self, set: u32, bits: u32) -> Option<u32>
         ensures { (n : ℕ) → result ≡ Some n → IsChangeOf false self.now set bits n }
     {
-        self.shrunk.find(set, bits)
+        let Some(memo) = &self.memo else {
+            return None;
+        };
+        memo.shrunk.find(set, bits)
     }
 
     /// Notes that `number` is `set` with `bits` taken out.
@@ -483,7 +483,11 @@ impl<A: Allocator + Copy> Sets<A> {
         requires { IsChangeOf false self.old set bits number }
         ensures { self.new ≡ self.old }
     {
-        self.shrunk.note(self.alloc, set, bits, number)
+        self.make_memo()?;
+        let Some(memo) = &mut self.memo else {
+            return Ok(());
+        };
+        memo.shrunk.note(self.alloc, set, bits, number)
     }
 
     /// Returns the number of `set` without its member `bits`, and notes it.
@@ -620,6 +624,7 @@ impl<A: Allocator + Copy> Sets<A> {
     }
 
     /// Returns the number of the common members of `set` and `other`, found by a walk over the members of `set`.
+    #[inline(always)]
     fn walked_common(&mut self, set: u32, other: u32) -> Result<u32, AllocError>
         requires set { set < length self.old }
         requires other { other < length self.old }
@@ -641,7 +646,10 @@ impl<A: Allocator + Copy> Sets<A> {
     fn find_met(&self, set: u32, other: u32) -> Option<u32>
         ensures { (n : ℕ) → result ≡ Some n → IsMeetOf self.now set other n }
     {
-        self.met.find(set, other)
+        let Some(memo) = &self.memo else {
+            return None;
+        };
+        memo.met.find(set, other)
     }
 
     /// Notes that `number` is the set of the common members of `set` and `other`.
@@ -649,10 +657,15 @@ impl<A: Allocator + Copy> Sets<A> {
         requires { IsMeetOf self.old set other number }
         ensures { self.new ≡ self.old }
     {
-        self.met.note(self.alloc, set, other, number)
+        self.make_memo()?;
+        let Some(memo) = &mut self.memo else {
+            return Ok(());
+        };
+        memo.met.note(self.alloc, set, other, number)
     }
 
     /// Returns the number of the common members of `set` and `other`, and notes it.
+    #[inline(never)]
     fn new_common(&mut self, set: u32, other: u32) -> Result<u32, AllocError>
         requires set { set < length self.old }
         requires other { other < length self.old }
@@ -737,10 +750,7 @@ impl<A: Allocator + Copy> Sets<A> {
             return Err(AllocError);
         }
         let mut numbers = Vec::from_elem(self.alloc, 0, count)?;
-        self.grown = Notes::new(self.alloc);
-        self.shrunk = Notes::new(self.alloc);
-        self.met = Notes::new(self.alloc);
-        self.known = Vec::new(self.alloc);
+        self.memo = None;
         move_down(&mut self.kept, marks, &mut numbers);
         self.words = words_of(&self.kept);
         Ok(numbers)

@@ -13,6 +13,9 @@ ghost use Rattle.regalloc2_checker_sets.specs.SavedCopies.{AreBases, AreSame, Is
 use std::alloc::{AllocError, Allocator};
 use std::marker::Model;
 
+/// How many chunks of words have room at first.
+const CHUNKS_AT_FIRST: usize = 4;
+
 /// An array of numbers, and saved copies of it, by number.
 #[derive(Drop)]
 pub struct Versions<A: Allocator> {
@@ -63,6 +66,16 @@ pub fn is_same_chunk(words: &[u32], base: usize, cells: &[u32], first: usize) ->
     ensures { (result ≡ true) ↔ ((t : ℕ) → t < 64 → get_or cells.now (first + t) 0 ≡ get_or words.now (base + t) 0) }
 {
     &cells[first..first + 64] == &words[base..base + 64]
+}
+
+/// Returns a chunk of zeros, with room for `CHUNKS_AT_FIRST` chunks.
+pub fn zero_chunk<A: Allocator>(alloc: A) -> Result<Vec<u32, A>, AllocError>
+    ensures long { IfOk result (λ words. length words.items ≡ 64) }
+    ensures zeros { IfOk result (λ words. (i : ℕ) → get_or words.items i 0 ≡ 0) }
+{
+    let mut words = Vec::with_capacity(alloc, 64 * CHUNKS_AT_FIRST)?;
+    words.extend_from_slice(&[0; 64])?;
+    Ok(words)
 }
 
 /// Returns whether `words` begin with a chunk of zeros.
@@ -275,7 +288,7 @@ impl<A: Allocator + Copy> Versions<A> {
         ensures saved { IfOk result (λ v. (k i : ℕ) → saved_at v k i ≡ 0) }
     {
         let chunks = size / 64 + 1;
-        let words = Vec::from_elem(alloc, 0, 64)?;
+        let words = zero_chunk(alloc)?;
         let cells = Vec::from_elem(alloc, 0, 64 * chunks)?;
         let clean = Vec::from_elem(alloc, Some(0), chunks)?;
         let saved = empty_rows(alloc, count)?;

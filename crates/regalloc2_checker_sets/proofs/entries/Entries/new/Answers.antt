@@ -7,9 +7,8 @@ use Rattle.regalloc2_checker_sets.proofs.entries.Entries.new.Goals as goal
 pub invariant_of-result : goal.invariant_of-result
 invariant_of-result g c =
     chunks-new c.in_ok-words.words.items c.in_ok-cells.cells.items c.in_ok-bases.bases
-    (omega (arith, c.in_ok-words.ensures.len, c.in_ok-words.words.ok.0))
-    (λ i. zeros c.in_ok-words.words.items 64 i (omega (arith, c.in_ok-words.ensures.len, c.in_ok-words.words.ok.0))
-    (λ k l. ap (λ (xs : List ℕ). get_or xs k 0) (c.in_ok-words.ensures.items_if_clones_equal (λ y h. h)) ∙ get_or-replicate 64 k 0 0 l))
+    (omega (arith, c.in_ok-words.ensures.long))
+    c.in_ok-words.ensures.zeros
     (λ i. zeros c.in_ok-cells.cells.items (64 * (c.args.size / 64 + 1)) i (omega (arith, c.in_ok-cells.ensures.len, c.in_ok-cells.cells.ok.0))
     (λ k l. ap (λ (xs : List ℕ). get_or xs k 0) (c.in_ok-cells.ensures.items_if_clones_equal (λ y h. h)) ∙ get_or-replicate (64 * (c.args.size / 64 + 1)) k 0 0 l))
     (omega (arith, c.in_ok-cells.ensures.len, c.in_ok-cells.cells.ok.0))
@@ -23,5 +22,4 @@ returns-clause-cells g c i =
 
 pub returns-clause-saved : goal.returns-clause-saved
 returns-clause-saved g c k i =
-    zeros c.in_ok-words.words.items 64 _ (omega (arith, c.in_ok-words.ensures.len, c.in_ok-words.words.ok.0))
-    (λ k l. ap (λ (xs : List ℕ). get_or xs k 0) (c.in_ok-words.ensures.items_if_clones_equal (λ y h. h)) ∙ get_or-replicate 64 k 0 0 l)
+    c.in_ok-words.ensures.zeros _

@@ -1,11 +1,13 @@
 use Rattle.std.proofs.Common.{List, subst}
 use Rattle.std.specs.Prelude.{false}
 use Rattle.regalloc2_function.specs.Numbers.{NumberSet}
-use Rattle.regalloc2_checker_sets.specs.EntrySets.{all_sets, IsChangeOf}
-use Rattle.regalloc2_checker_sets.proofs.Noted.{noted-at}
+use Rattle.regalloc2_checker_sets.specs.EntrySets.{all_sets, IsChangeOf, AreNotes}
+use Rattle.regalloc2_checker_sets.proofs.Noted.{noted-at, memo-at}
 use Rattle.regalloc2_checker_sets.proofs.sets.Sets.find_shrunk.Goals as goal
 
 pub returns : goal.returns
 returns g c n e =
     subst (λ (l : List NumberSet). IsChangeOf false l c.args.set c.args.bits n) c.self.view_is
-    (noted-at (IsChangeOf false (all_sets c.self.inside.kept.items)) c.self.inside.shrunk c.args.set c.args.bits n c.self.invariant.takes (c.find.ensures n e))
+    (noted-at (IsChangeOf false (all_sets c.self.inside.kept.items)) c.deref.result.now.shrunk c.args.set c.args.bits n
+    (rw c.deref.ensures (memo-at (λ m. AreNotes (all_sets c.self.inside.kept.items) m.value.grown m.value.shrunk m.value.met)
+    c.self.inside.memo _ c.in-Some.is c.self.invariant).takes) (c.find.ensures n e))

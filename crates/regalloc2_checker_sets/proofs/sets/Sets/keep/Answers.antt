@@ -3,7 +3,8 @@ use Rattle.regalloc2_function.specs.Numbers.{NumberSet}
 use Rattle.regalloc2_checker_sets.specs.EntrySets.{has_bits, all_sets, AreNotes}
 use Rattle.regalloc2_checker_sets.proofs.AllSets.{push-at, push-more}
 use Rattle.regalloc2_checker_sets.proofs.Bits.{same-sets}
-use Rattle.regalloc2_checker_sets.proofs.Noted.{notes-more}
+use Rattle.regalloc2_checker_sets.proofs.Noted.{memo-more}
+use Rattle.std.specs.Prelude.{IfSome}
 use Rattle.regalloc2_checker_sets.proofs.sets.Sets.keep.Goals as goal
 
 pub returns-in_err-push-clause-more : goal.returns-in_err-push-clause-more
@@ -12,12 +13,12 @@ returns-in_err-push-clause-more g c =
 
 pub invariant_of-self : goal.invariant_of-self
 invariant_of-self g c =
-    subst (λ (l : List NumberSet). AreNotes (all_sets l) c.self.inside.grown c.self.inside.shrunk c.self.inside.met) (sym c.in_err-push.ensures.items)
+    subst (λ (l : List NumberSet). IfSome c.self.inside.memo (λ m. AreNotes (all_sets l) m.value.grown m.value.shrunk m.value.met)) (sym c.in_err-push.ensures.items)
     c.self.invariant
 
 pub invariant_of-self-2 : goal.invariant_of-self-2
 invariant_of-self-2 g c =
-    notes-more (all_sets c.self.inside.kept.items) (all_sets c.push.new.self.items) c.self.inside.grown c.self.inside.shrunk c.self.inside.met
+    memo-more (λ m. m.value.grown) (λ m. m.value.shrunk) (λ m. m.value.met) c.self.inside.memo (all_sets c.self.inside.kept.items) (all_sets c.push.new.self.items)
     (push-more (all_sets c.self.inside.kept.items) c.self.inside.kept.items c.push.new.self.items c.args.set refl c.in_ok-push.ensures.items)
     c.self.invariant
 

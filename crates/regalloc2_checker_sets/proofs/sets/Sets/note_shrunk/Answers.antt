@@ -1,17 +1,23 @@
-use Rattle.std.proofs.Common.{List, sym, subst}
+use Rattle.std.proofs.Common.{List, sym, subst, ◌∙◌}
 use Rattle.std.specs.Prelude.{false}
 use Rattle.regalloc2_function.specs.Numbers.{NumberSet}
-use Rattle.regalloc2_checker_sets.specs.EntrySets.{all_sets, IsChangeOf}
-use Rattle.regalloc2_checker_sets.proofs.Noted.{noted-one}
+use Rattle.regalloc2_checker_sets.specs.EntrySets.{all_sets, IsChangeOf, AreNotes}
+use Rattle.regalloc2_checker_sets.proofs.Noted.{noted-one, memo-at}
 use Rattle.regalloc2_checker_sets.proofs.sets.Sets.note_shrunk.Goals as goal
 
 pub invariant_of-self : goal.invariant_of-self
-invariant_of-self g c = record {
-  puts = c.self.invariant.puts;
-  takes = noted-one (IsChangeOf false (all_sets c.self.inside.kept.items)) c.self.inside.shrunk c.note.new.self c.args.set c.args.bits c.args.number
-      (subst (λ (l : List NumberSet). IsChangeOf false l c.args.set c.args.bits c.args.number) (sym c.self.view_is) c.requires) c.self.invariant.takes c.note.ensures;
-  meets = c.self.invariant.meets;
-}
+invariant_of-self g c = c.self.invariant
+
+pub invariant_of-self-2 : goal.invariant_of-self-2
+invariant_of-self-2 g c =
+    let was = memo-at (λ m. AreNotes (all_sets c.self.inside.kept.items) m.value.grown m.value.shrunk m.value.met) c.self.inside.memo _ c.in-Some.is c.self.invariant in
+    record {
+      puts = rw c.deref_mut.ensures.value was.puts;
+      takes = noted-one (IsChangeOf false (all_sets c.self.inside.kept.items)) c.deref_mut.result.now.shrunk c.note.new.self c.args.set c.args.bits
+          c.args.number (subst (λ (l : List NumberSet). IsChangeOf false l c.args.set c.args.bits c.args.number) (sym (c.self.view_is ∙ c.make_memo.ensures))
+          c.requires) (rw c.deref_mut.ensures.value was.takes) c.note.ensures;
+      meets = rw c.deref_mut.ensures.value was.meets;
+    }
 
 pub returns : goal.returns
-returns g c = c.self.view_is
+returns g c = c.self.view_is ∙ c.make_memo.ensures

@@ -12,11 +12,10 @@ only_some H x none same (Some y) h = ap Some (same y h)
 
 pub invariant_of-result : goal.invariant_of-result
 invariant_of-result g c =
-    let words : (k : ℕ) → k < 64 → get_or c.in_ok-words.words.items k 0 ≡ 0 = λ k l. ap (λ (xs : List ℕ). get_or xs k 0) (c.in_ok-words.ensures.items_if_clones_equal (λ y h. h)) ∙ get_or-replicate 64 k 0 0 l in
     let cells : (i : ℕ) → get_or c.in_ok-cells.cells.items i 0 ≡ 0 =
     λ i. zeros c.in_ok-cells.cells.items (64 * (c.args.size / 64 + 1)) i (omega (arith, c.in_ok-cells.ensures.len, c.in_ok-cells.cells.ok.0))
     (λ k l. ap (λ (xs : List ℕ). get_or xs k 0) (c.in_ok-cells.ensures.items_if_clones_equal (λ y h. h)) ∙ get_or-replicate (64 * (c.args.size / 64 + 1)) k 0 0 l) in
-    let some : 64 ≤ length c.in_ok-words.words.items = omega (arith, c.in_ok-words.ensures.len, c.in_ok-words.words.ok.0) in
+    let some : 64 ≤ length c.in_ok-words.words.items = omega (arith, c.in_ok-words.ensures.long) in
     record {
       long = omega (arith, c.in_ok-cells.ensures.len, c.in_ok-cells.cells.ok.0, c.in_ok-clean.ensures.len, c.in_ok-clean.clean.ok.0);
       some = some;
@@ -27,8 +26,7 @@ invariant_of-result g c =
           subst (λ (x : ℕ). IsChunkAt c.in_ok-words.words.items c.in_ok-cells.cells.items j x) (some-same 0 b (sym first ∙ e))
           (record {
             within = some;
-            same = λ t lt. cells (64 * j + t) ∙ sym (zeros c.in_ok-words.words.items 64 (0 + t)
-                (omega (arith, c.in_ok-words.ensures.len, c.in_ok-words.words.ok.0)) words);
+            same = λ t lt. cells (64 * j + t) ∙ sym (c.in_ok-words.ensures.zeros (0 + t));
           }));
     }
 
@@ -45,5 +43,4 @@ returns-clause-count g c = length-map c.in_ok-saved.saved.items _ ∙ c.in_ok-sa
 
 pub returns-clause-saved : goal.returns-clause-saved
 returns-clause-saved g c k i =
-    zeros c.in_ok-words.words.items 64 _ (omega (arith, c.in_ok-words.ensures.len, c.in_ok-words.words.ok.0))
-    (λ k l. ap (λ (xs : List ℕ). get_or xs k 0) (c.in_ok-words.ensures.items_if_clones_equal (λ y h. h)) ∙ get_or-replicate 64 k 0 0 l)
+    c.in_ok-words.ensures.zeros _
