@@ -33,8 +33,8 @@ impl<A: Allocator + Copy> Known<A> {
         Some(*number)
     }
 
-    /// Makes room for the numbers of `count` sets. If they are half as many as there are indexes, the indexes are doubled: each
-    /// number is repeated at the other index that its hash may have in the longer list.
+    /// Makes room for the numbers of `count` sets. A list of less than twice their number is doubled: each number is
+    /// repeated at the other index that its hash may have in the longer list.
     fn make_room(&mut self, alloc: A, count: usize) -> Result<(), AllocError> {
         let len = self.numbers.len();
         if count < len / 2 || len >= ROOM {

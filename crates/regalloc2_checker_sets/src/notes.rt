@@ -92,8 +92,8 @@ impl<A: Allocator + Copy> Notes<A> {
         None
     }
 
-    /// Makes room for one more set. Once half as many sets were noted as there are entries, their number is doubled: each
-    /// entry is repeated at the other index that its hash may have in the longer list.
+    /// Makes room for one more set. The entries are doubled once half as many sets were noted: each entry is repeated at
+    /// the other index that its hash may have in the longer list.
     fn make_room(&mut self, alloc: A) -> Result<(), AllocError>
         ensures { (i : ℕ) (e : Noted) → get_or self.new i None ≡ Some e → (j : ℕ) × (get_or self.old j None ≡ Some e) }
     {
@@ -127,8 +127,8 @@ impl<A: Allocator + Copy> Notes<A> {
     }
 }
 
-/// The sets that are noted: a set with bits put in (`grown`) or taken out (`shrunk`), and the common members of two sets
-/// (`met`). The kept sets that are `known` by a hash of their members.
+/// The sets that are noted: a set with bits put in (`grown`) or taken out (`shrunk`), and the common members of two
+/// sets (`met`). The kept sets that are `known` by a hash of their members.
 #[derive(Drop)]
 pub struct Memo<A: Allocator> {
     pub grown: Notes<A>,

@@ -271,8 +271,7 @@ fn empty_rows<A: Allocator + Copy>(
     ensures empty { IfOk result (λ rows. (k : ℕ) → get_or (map (λ b. b.items) rows.items) k [] ≡ []) }
 {
     let mut rows = Vec::with_capacity(alloc, count)?;
-    for k in 0..count {
-        let _number = k;
+    while rows.len() < count {
         rows.push(Vec::new(alloc))?;
     }
     Ok(rows)

@@ -13,12 +13,13 @@ returns-in_err-push-clause-more g c =
 
 pub invariant_of-self : goal.invariant_of-self
 invariant_of-self g c =
-    subst (λ (l : List NumberSet). IfSome c.self.inside.memo (λ m. AreNotes (all_sets l) m.value.grown m.value.shrunk m.value.met)) (sym c.in_err-push.ensures.items)
-    c.self.invariant
+    subst (λ (l : List NumberSet). IfSome c.self.inside.memo (λ m. AreNotes (all_sets l) m.value.grown m.value.shrunk m.value.met))
+    (sym c.in_err-push.ensures.items) c.self.invariant
 
 pub invariant_of-self-2 : goal.invariant_of-self-2
 invariant_of-self-2 g c =
-    memo-more (λ m. m.value.grown) (λ m. m.value.shrunk) (λ m. m.value.met) c.self.inside.memo (all_sets c.self.inside.kept.items) (all_sets c.push.new.self.items)
+    memo-more (λ m. m.value.grown) (λ m. m.value.shrunk) (λ m. m.value.met) c.self.inside.memo (all_sets c.self.inside.kept.items)
+    (all_sets c.push.new.self.items)
     (push-more (all_sets c.self.inside.kept.items) c.self.inside.kept.items c.push.new.self.items c.args.set refl c.in_ok-push.ensures.items)
     c.self.invariant
 

@@ -9,7 +9,8 @@ invariant_of-self g c = c.self.invariant
 
 pub invariant_of-self-2 : goal.invariant_of-self-2
 invariant_of-self-2 g c =
-    let was = memo-at (λ m. AreNotes (all_sets c.self.inside.kept.items) m.value.grown m.value.shrunk m.value.met) c.self.inside.memo _ c.in-Some.is c.self.invariant in
+    let was = memo-at (λ m. AreNotes (all_sets c.self.inside.kept.items) m.value.grown m.value.shrunk m.value.met)
+    c.self.inside.memo _ c.in-Some.is c.self.invariant in
     record {
       puts = rw c.deref_mut.ensures.value was.puts;
       takes = rw c.deref_mut.ensures.value was.takes;
