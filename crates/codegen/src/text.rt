@@ -104,4 +104,4 @@ pub use assembly::{AssemblyText, InstructionText};
 pub use frame::FrameWords;
 pub use header::HeaderText;
 pub use reading::read_module;
-pub use regalloc2_text::cursor::{Expected, Fault, Found, TextError};
+pub use regalloc2_text::cursor::{Expected, Found, TextError, TextFault};

@@ -60,7 +60,8 @@ fn moves_of(
     Ok(moves)
 }
 
-/// Whether `moves` were scheduled `times` times, without a free register, so through a borrowed one and two slots.
+/// Returns whether `moves` were scheduled `times` times, without a free register, so through a borrowed one and two
+/// slots.
 fn is_repeated(alloc: Global, moves: &[(Allocation, Allocation)], many: usize, times: usize) -> bool
     requires { many ≤ MOST }
 {
@@ -78,7 +79,7 @@ fn is_repeated(alloc: Global, moves: &[(Allocation, Allocation)], many: usize, t
     true
 }
 
-/// Whether `many` moves of a `shape` were scheduled `times` times.
+/// Returns whether `many` moves of a `shape` were scheduled `times` times.
 pub fn is_scheduled(alloc: Global, shape: Shape, many: usize, times: usize) -> bool {
     if many > MOST {
         return false;

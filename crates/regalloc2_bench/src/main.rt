@@ -45,7 +45,7 @@ fn measure_of(words: &[String]) -> Option<Measure> {
     Some(Measure::Function(Task::of(word)?, times))
 }
 
-/// Whether a function was read from `input`, and `task` done with it `times` times.
+/// Returns whether a function was read from `input`, and `task` done with it `times` times.
 fn is_measured<R: Read + Drop>(alloc: Global, input: R, task: Task, times: usize) -> bool {
     match read_function(alloc, input) {
         Some(f) => is_performed(alloc, task, times, &f, f.machine_env()),

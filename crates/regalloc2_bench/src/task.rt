@@ -92,7 +92,7 @@ fn is_done<F: Function>(alloc: Global, task: Task, f: &F, env: &MachineEnv, outp
     }
 }
 
-/// Whether `task` was done `times` times with `f`, of which `output` is an allocation.
+/// Returns whether `task` was done `times` times with `f`, of which `output` is an allocation.
 fn is_repeated<F: Function>(
     alloc: Global,
     task: Task,
@@ -112,7 +112,7 @@ fn is_repeated<F: Function>(
     true
 }
 
-/// Whether `f` was allocated, and then `task` done with it `times` times.
+/// Returns whether `f` was allocated, and then `task` done with it `times` times.
 pub fn is_performed<F: Function>(
     alloc: Global,
     task: Task,

@@ -12,7 +12,7 @@ use regalloc2::{Function, MachineEnv, allocate_without_checker, run_tested};
 use regalloc2_serialize::flat::words_of;
 use std::alloc::Global;
 
-/// The words of the output that is allocated to a function.
+/// Returns the words of the output that is allocated to `f`.
 fn allocated<F: Function>(alloc: Global, f: &F, env: &MachineEnv) -> Result<Vec<u32>, Failure>
     ensures ok { IfOk result (λ v. IsAllocatedOutput (F.function f.now) (machine_of env.now) v.items) }
     ensures err { IfErr result (IsAllocateFailure (F.function f.now) (machine_of env.now)) }
@@ -34,7 +34,7 @@ fn allocated<F: Function>(alloc: Global, f: &F, env: &MachineEnv) -> Result<Vec<
     }
 }
 
-/// The words of the output that a tested run gives for a function.
+/// Returns the words of the output that a tested run gives for `f`.
 fn tested<F: Function>(alloc: Global, f: &F, env: &MachineEnv) -> Result<Vec<u32>, Failure>
     ensures ok { IfOk result (λ v. IsTestedOutput (F.function f.now) (machine_of env.now) v.items) }
     ensures err { IfErr result (IsRunFailure (F.function f.now) (machine_of env.now)) }
@@ -52,7 +52,7 @@ fn tested<F: Function>(alloc: Global, f: &F, env: &MachineEnv) -> Result<Vec<u32
     }
 }
 
-/// The words of the output that is allocated to the function that `words` lay out.
+/// Returns the words of the output that is allocated to the function that `words` lay out.
 pub fn allocated_of_words(alloc: Global, words: &[u32]) -> Result<Vec<u32>, Failure>
     ensures { IsAllocationFound (AreWordsOf words.now) (AreUnreadWords words.now) result }
 {
@@ -62,7 +62,7 @@ pub fn allocated_of_words(alloc: Global, words: &[u32]) -> Result<Vec<u32>, Fail
     }
 }
 
-/// The words of the output that is allocated to the function with the JSON text `bytes`.
+/// Returns the words of the output that is allocated to the function with the JSON text `bytes`.
 pub fn allocated_of_json(alloc: Global, bytes: &[u8]) -> Result<Vec<u32>, Failure>
     ensures { IsAllocationFound (NumbersName (IsJsonOf bytes.now)) (NumbersNameNone (IsJsonOf bytes.now) 0) result }
 {
@@ -72,7 +72,7 @@ pub fn allocated_of_json(alloc: Global, bytes: &[u8]) -> Result<Vec<u32>, Failur
     }
 }
 
-/// The words of the output that is allocated to the function in the text `bytes`.
+/// Returns the words of the output that is allocated to the function in the text `bytes`.
 pub fn allocated_of_text(alloc: Global, bytes: &[u8]) -> Result<Vec<u32>, Failure>
     ensures { IsAllocationFound (NumbersName (IsTextInput bytes.now)) (NumbersNameNone (IsTextInput bytes.now) (1 + length bytes.now)) result }
 {
@@ -82,7 +82,7 @@ pub fn allocated_of_text(alloc: Global, bytes: &[u8]) -> Result<Vec<u32>, Failur
     }
 }
 
-/// The words of the output that a tested run gives for the function that `words` lay out.
+/// Returns the words of the output that a tested run gives for the function that `words` lay out.
 pub fn tested_of_words(alloc: Global, words: &[u32]) -> Result<Vec<u32>, Failure>
     ensures { IsRunFound words.now result }
 {

@@ -65,7 +65,7 @@ pub fn failure_of(error: &AllocateError) -> Failure
     }
 }
 
-/// The failure that a tested run's error is.
+/// Returns the failure for `error`, of a tested run.
 pub fn failure_of_run(error: &TestedRunError) -> Failure
     ensures { result ≡ run_failure error.now }
 {
@@ -76,7 +76,7 @@ pub fn failure_of_run(error: &TestedRunError) -> Failure
     }
 }
 
-/// The failure where words are read in columns.
+/// Returns the failure for `fault`, found when words are read in columns.
 pub fn failure_of_columns(fault: StoredFault) -> Failure
     ensures { result ≡ columns_failure fault }
 {
@@ -87,7 +87,7 @@ pub fn failure_of_columns(fault: StoredFault) -> Failure
     }
 }
 
-/// The failure where an input is read.
+/// Returns the failure for `fault`, found when an input is read.
 pub fn failure_to_read(fault: StoredFault) -> Failure
     ensures { result ≡ read_failure fault }
 {
@@ -97,7 +97,7 @@ pub fn failure_to_read(fault: StoredFault) -> Failure
     }
 }
 
-/// The failure where an output's words are listed.
+/// Returns the failure for `fault`, found when an output's words are listed.
 pub fn failure_to_write(fault: StoredFault) -> Failure
     ensures { result ≡ write_failure fault }
 {

@@ -25,7 +25,7 @@ pub struct Judged<'a, F: Function> {
     pub output: &'a Output,
 }
 
-/// Whether operand `k` has the encoding of `op` and is in `place`.
+/// Returns whether operand `k` has the encoding of `op` and is in `place`.
 fn is_placed(
     operands: &[Operand],
     places: &[Allocation],
@@ -39,7 +39,7 @@ fn is_placed(
     operands[k].bits() == op.bits() && place_at(places, k).bits() == place.bits()
 }
 
-/// The index of the first operand with the encoding of `op` that is in `place`, as a word.
+/// Returns the index of the first operand with the encoding of `op` that is in `place`, as a word.
 fn index_of(operands: &[Operand], places: &[Allocation], op: Operand, place: Allocation) -> u32
     ensures { result ≡ first_index (is_placed operands.now places.now op place) 0 (length operands.now) }
 {
@@ -51,7 +51,7 @@ fn index_of(operands: &[Operand], places: &[Allocation], op: Operand, place: All
     NONE
 }
 
-/// The index of the first operand of `inst` with the encoding of `op` that is in `place`, as a word.
+/// Returns the index of the first operand of `inst` with the encoding of `op` that is in `place`, as a word.
 fn index_in<F: Function>(f: &F, output: &Output, inst: Inst, op: Operand, place: Allocation) -> u32
     requires { IsInOrder (F.function f.now) (output_of output.now) }
     ensures { result ≡ operand_index (F.function f.now) (output_of output.now) inst op place }
@@ -63,7 +63,8 @@ fn index_in<F: Function>(f: &F, output: &Output, inst: Inst, op: Operand, place:
     }
 }
 
-/// The words of a fault of an operand: `number`, `inst`, the index of `op`, its encoding, `place`, `other` and `bound`.
+/// Returns the words of a fault of an operand: `number`, `inst`, the index of `op`, its encoding, `place`, `other` and
+/// `bound`.
 fn operand_head<F: Function>(
     judged: &Judged<'_, F>,
     number: u32,
@@ -175,7 +176,7 @@ fn push_length(to: &mut Vec<u32>, length: usize) -> Result<(), AllocError>
     Ok(())
 }
 
-/// The vregs that a fault names.
+/// Returns the vregs that the fault `error` names.
 fn vregs_of(error: &CheckerError) -> &[VReg]
     ensures { result.now ≡ fault_vregs error.now }
 {
@@ -217,7 +218,7 @@ fn push_faults<F: Function>(
     Ok(())
 }
 
-/// The failure with the words of the faults `errors`.
+/// Returns the failure with the words of the faults `errors`.
 fn faults_failure<F: Function>(
     alloc: Global,
     judged: &Judged<'_, F>,
@@ -233,7 +234,7 @@ fn faults_failure<F: Function>(
     }
 }
 
-/// The failure that the checker's errors come to: they are `Memory` alone where memory was refused.
+/// Returns the failure for the checker's `errors`: out of memory if they are `Memory` alone, else the list of them.
 pub fn failure_of_errors<F: Function>(
     alloc: Global,
     judged: &Judged<'_, F>,
@@ -248,7 +249,8 @@ pub fn failure_of_errors<F: Function>(
     }
 }
 
-/// The failure where the checker didn't take an output: memory was refused, or it isn't in order.
+/// Returns the failure for `error`, with which the checker rejected an output: out of memory, or the output isn't in
+/// order.
 pub fn failure_to_prepare(alloc: Global, error: &CheckerError) -> Failure
     ensures { IsPrepareFailure error.now result }
 {
@@ -262,7 +264,7 @@ pub fn failure_to_prepare(alloc: Global, error: &CheckerError) -> Failure
     }
 }
 
-/// The list of one fault of places.
+/// Returns the list of the one fault `fault` of places.
 fn words_of_cells(fault: CellFault) -> [u32; 10]
     ensures { result ≡ cell_fault_words fault }
 {
@@ -277,7 +279,7 @@ fn words_of_cells(fault: CellFault) -> [u32; 10]
     }
 }
 
-/// The failure that a fault of places is.
+/// Returns the failure for `fault`, a fault of places.
 pub fn failure_of_cells(alloc: Global, fault: CellFault) -> Failure
     ensures { IsCellsTold fault result }
 {

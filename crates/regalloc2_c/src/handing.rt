@@ -6,8 +6,8 @@ ghost use Rattle.regalloc2_c.specs.Handing.{IsHandedOut, IsWrittenOut};
 use super::failure::{Failure, number_of};
 use super::payload::{words_of_misfit, words_of_refusal};
 
-/// Writes `words` to the beginning of `out` and returns `status`; if there is no room for them, writes nothing and returns the number of
-/// `NoRoom`. Sets `needed` to the length of `words`.
+/// Writes `words` to the beginning of `out` and returns `status`; if there is no room for them, writes nothing and
+/// returns the number of `NoRoom`. Sets `needed` to the length of `words`.
 fn give(status: u32, words: &[u32], out: &mut [u32], needed: &mut usize) -> u32
     ensures needed { needed.new ≡ length words.now }
     ensures given { IsWrittenOut status words.now out.old out.new result }
@@ -36,7 +36,7 @@ fn hand_out_failure(failure: Failure, out: &mut [u32], needed: &mut usize) -> u3
     }
 }
 
-/// Hands out what was found: the words of an output, or of what a failure is about.
+/// Hands out `found`: the words of an output, or the words that say what a failure is about.
 pub fn hand_out(found: Result<Vec<u32>, Failure>, out: &mut [u32], needed: &mut usize) -> u32
     ensures status { result ≤ 31 }
     ensures handed { IsHandedOut found out.old out.new needed.new result }

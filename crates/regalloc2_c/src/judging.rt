@@ -34,7 +34,7 @@ pub struct Parts<'a> {
     pub offsets: &'a [u32],
 }
 
-/// Has the checker judge an output.
+/// Runs the checker on `output`.
 pub fn checked<F: Function>(
     alloc: Global,
     f: &F,
@@ -57,7 +57,7 @@ pub fn checked<F: Function>(
     }
 }
 
-/// Runs the checker on an output, and tests that its places are cells of their own.
+/// Runs the checker on `output`, and tests that its places are cells of their own.
 fn judge<F: Function>(
     alloc: Global,
     f: &F,
@@ -80,7 +80,7 @@ fn judge<F: Function>(
     }
 }
 
-/// The numbers of the output that words lay out.
+/// Returns the numbers of the output that `words` lay out.
 fn stored_output(alloc: Global, words: &[u32]) -> Result<StoredOutput, Failure>
     ensures ok { IfOk result (AreOutputWords words.now) }
     ensures err { IfErr result (IsNoStoredOutput (AreOutputWords words.now)) }
@@ -91,14 +91,14 @@ fn stored_output(alloc: Global, words: &[u32]) -> Result<StoredOutput, Failure>
     }
 }
 
-/// Whether `point` encodes a point, and `from` and `to` encode places.
+/// Returns whether `point` encodes a point, and `from` and `to` encode places.
 fn is_move(point: u32, from: u32, to: u32) -> bool
     ensures { IsTrue result ↔ NamesMove (point, from, to) }
 {
     ProgPoint::is_index(point) && Allocation::is_bits(from) && Allocation::is_bits(to)
 }
 
-/// The moves that `words` encode, three words each.
+/// Returns the moves that `words` encode, three words each.
 fn moves_from(alloc: Global, words: &[u32]) -> Result<Vec<(ProgPoint, Edit)>, Failure>
     ensures ok { IfOk result (λ v. AreMovesOf words.now (map edit_of v.items)) }
     ensures err { IfErr result (NamesNoMoves words.now) }
@@ -122,7 +122,7 @@ fn moves_from(alloc: Global, words: &[u32]) -> Result<Vec<(ProgPoint, Edit)>, Fa
     Ok(moves)
 }
 
-/// The places that `words` encode.
+/// Returns the places that `words` encode.
 fn places_from(alloc: Global, words: &[u32]) -> Result<Vec<Allocation>, Failure>
     ensures places { IfOk result (λ v. v.items ≡ map place_of_bits words.now) }
     ensures names { IfOk result (λ v. All IsPlaceBits words.now) }
@@ -142,7 +142,7 @@ fn places_from(alloc: Global, words: &[u32]) -> Result<Vec<Allocation>, Failure>
     Ok(places)
 }
 
-/// A copy of `words`.
+/// Returns a copy of `words`.
 fn copy_of(alloc: Global, words: &[u32]) -> Result<Vec<u32>, Failure>
     ensures ok { IfOk result (λ v. v.items ≡ words.now) }
     ensures err { IfErr result (λ e. e ≡ Failure.NoMemory) }
@@ -156,7 +156,7 @@ fn copy_of(alloc: Global, words: &[u32]) -> Result<Vec<u32>, Failure>
     }
 }
 
-/// The output with the parts `parts`, and without debug locations.
+/// Returns the output with the parts `parts`, and without debug locations.
 fn output_from_parts(alloc: Global, parts: Parts<'_>) -> Result<Output, Failure>
     ensures ok { IfOk result (λ o. IsOutput (ArePartsOf parts.entry.num_spillslots parts.entry.moves.now parts.entry.places.now
         parts.entry.offsets.now) (output_of o)) }
@@ -183,7 +183,7 @@ fn output_from_parts(alloc: Global, parts: Parts<'_>) -> Result<Output, Failure>
     }
 }
 
-/// The output that numbers name.
+/// Returns the output that `numbers` name.
 fn output_from(alloc: Global, numbers: &StoredOutput) -> Result<Output, Failure>
     ensures ok { IfOk result (λ o. NumbersNameOutput numbers.now (output_of o)) }
     ensures err { IfErr result (λ e. (e ≡ Failure.NoMemory) ⊎ ((e ≡ Failure.BadOutput) × (NamesValues numbers.now → ⊥))) }
@@ -213,7 +213,7 @@ fn judge_numbers<F: Function>(
     judge(alloc, f, env, &output)
 }
 
-/// Checks an output that words lay out.
+/// Checks the output of `f` that `words` lay out.
 pub fn judged<F: Function>(
     alloc: Global,
     f: &F,
@@ -233,7 +233,7 @@ pub fn judged<F: Function>(
     judge_numbers(alloc, f, env, &numbers)
 }
 
-/// Checks an output that is given in parts.
+/// Checks the output of `f` in `parts`.
 fn judged_parts<F: Function>(
     alloc: Global,
     f: &F,
@@ -255,7 +255,7 @@ fn judged_parts<F: Function>(
     judge(alloc, f, env, &output)
 }
 
-/// Checks an output, given in parts, of the function that words lay out. No words say that it is accepted.
+/// Checks the output in `parts`, of the function that `words` lay out. If it is accepted, returns no words.
 pub fn judged_of_words(alloc: Global, words: &[u32], parts: Parts<'_>) -> Result<Vec<u32>, Failure>
     ensures { IsJudgeFound words.now (ArePartsOf parts.entry.num_spillslots parts.entry.moves.now parts.entry.places.now
         parts.entry.offsets.now) result }

@@ -1,7 +1,7 @@
 //! The allocator and the checker for C, C++ and Rust, over arrays of words, over JSON and over texts.
 //!
-//! `c/regalloc2_c.h` declares the calls. Nothing checks a caller against it: each pointer names memory of its length, which
-//! nothing else writes during the call.
+//! `c/regalloc2_c.h` declares the calls. Nothing checks a caller against it: each pointer names memory of its length,
+//! which nothing else writes during the call.
 #![tactic(auto)]
 
 ghost use Rattle.std.specs.Prelude.{◌≡◌, ◌≤◌, ◌+◌, length};
@@ -34,7 +34,7 @@ const LAYOUTS: u32 = 2;
 /// How many calls there are.
 const CALLS: u32 = 9;
 
-/// The version of the layouts, times 65536, and how many calls there are.
+/// Returns the version of the layouts in the upper 16 bits, and how many calls there are in the lower 16.
 #[unsafe(no_mangle)]
 pub extern "C" fn regalloc2_c_version() -> u32
     ensures { result ≡ version }
@@ -50,7 +50,8 @@ pub extern "C" fn regalloc2_c_status_text(status: u32, text: &mut [u8]) -> usize
     tell(status_words(status), text)
 }
 
-/// Writes what the fault `number` says to `text`, in English, as far as there is room. Returns how many bytes the whole takes.
+/// Writes what the fault `number` says to `text`, in English, as far as there is room. Returns how many bytes the
+/// whole takes.
 #[unsafe(no_mangle)]
 pub extern "C" fn regalloc2_c_fault_text(number: u32, text: &mut [u8]) -> usize
     ensures { IsTold (text_of_fault number) text.old text.new result }
@@ -58,10 +59,12 @@ pub extern "C" fn regalloc2_c_fault_text(number: u32, text: &mut [u8]) -> usize
     tell(fault_words(number), text)
 }
 
-/// Allocates registers to the function that `words` lay out, runs the checker on the output, and writes the output's words to `out`.
+/// Allocates registers to the function that `words` lay out, runs the checker on the output, and writes the output's
+/// words to `out`.
 ///
-/// Returns 0, or a status that says why there is no output; then the words say what the error is about. `needed` is set to how many words there
-/// are: if there is no room for them, nothing is written, and the status is the number of `NoRoom`.
+/// Returns 0, or a status that says why there is no output; then the words say what the error is about. `needed` is
+/// set to how many words there are: if there is no room for them, nothing is written, and the status is the number of
+/// `NoRoom`.
 #[unsafe(no_mangle)]
 pub extern "C" fn regalloc2_c_allocate(
     alloc: Global,
@@ -103,7 +106,10 @@ pub extern "C" fn regalloc2_c_allocate_text(
     hand_out(allocated_of_text(alloc, text), out, needed)
 }
 
-/// Allocates registers with all tests, definite assignment among them, and without the checker.
+/// Allocates registers to the function that `words` lay out with all tests, definite assignment among them, and
+/// without the checker. Writes the output's words to `out`.
+///
+/// Returns what `regalloc2_c_allocate` returns, and sets `needed` as it does.
 #[unsafe(no_mangle)]
 pub extern "C" fn regalloc2_c_run(
     alloc: Global,
@@ -117,9 +123,11 @@ pub extern "C" fn regalloc2_c_run(
     hand_out(tested_of_words(alloc, words), out, needed)
 }
 
-/// Runs the checker on an output of the function that `words` lay out, given in parts, and tests that its places are cells of their own.
+/// Runs the checker on an output of the function that `words` lay out, given in parts, and tests that its places are
+/// cells of their own.
 ///
-/// Returns 0 if both hold, or a status that says why the output isn't accepted, and writes the words of a list of faults to `out`.
+/// Returns 0 if both hold, or a status that says why the output isn't accepted, and writes the words of a list of
+/// faults to `out`.
 #[unsafe(no_mangle)]
 pub extern "C" fn regalloc2_c_judge(
     alloc: Global,
@@ -143,8 +151,8 @@ pub extern "C" fn regalloc2_c_judge(
     hand_out(judged_of_words(alloc, words, parts), out, needed)
 }
 
-/// Runs the checker on the output that `output` lays out, of the function that `words` lay out, and tests that its places are cells of
-/// their own. Returns 0 if both hold, or a status that says why the output isn't accepted.
+/// Runs the checker on the output that `output` lays out, of the function that `words` lay out, and tests that its
+/// places are cells of their own. Returns 0 if both hold, or a status that says why the output isn't accepted.
 #[unsafe(no_mangle)]
 pub extern "C" fn regalloc2_c_check(alloc: Global, words: &[u32], output: &[u32]) -> u32
     ensures status { result ≤ 31 }

@@ -9,21 +9,21 @@ use super::words::NONE;
 use regalloc2::{PReg, RegAllocError, RegClass};
 use regalloc2_function::MachineMisfit;
 
-/// The words of the condition `number` for the register `reg` of `class`.
+/// Returns the words of the condition `number` for the register `reg` of `class`.
 fn words_with_register(number: u32, class: RegClass, reg: PReg) -> [u32; 3]
     ensures { result ≡ number ∷ class_code class ∷ bits_of_register reg ∷ [] }
 {
     [number, class.code() as u32, reg.index() as u32]
 }
 
-/// The words of the condition `number` for `class`.
+/// Returns the words of the condition `number` for `class`.
 fn words_with_class(number: u32, class: RegClass) -> [u32; 3]
     ensures { result ≡ number ∷ class_code class ∷ none ∷ [] }
 {
     [number, class.code() as u32, NONE]
 }
 
-/// The words of the condition of a machine that fails: its number, its class and its register.
+/// Returns the words of the condition `misfit` of a machine: its number, its class and its register.
 pub fn words_of_misfit(misfit: MachineMisfit) -> [u32; 3]
     ensures { result ≡ misfit_words misfit }
 {
@@ -41,7 +41,7 @@ pub fn words_of_misfit(misfit: MachineMisfit) -> [u32; 3]
     }
 }
 
-/// The two blocks, the instruction and the vreg that an allocation's error names.
+/// Returns the two blocks, the instruction and the vreg that `error` names.
 pub fn words_of_refusal(error: RegAllocError) -> [u32; 4]
     ensures { result ≡ refusal_payload error }
 {

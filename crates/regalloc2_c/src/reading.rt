@@ -26,7 +26,7 @@ pub fn function_from_words(alloc: Global, words: &[u32]) -> Result<FlatFunction,
     }
 }
 
-/// The function and the machine that numbers name.
+/// Returns the function and the machine that the numbers of `stored` name.
 fn function_from(alloc: Global, stored: &StoredFunction) -> Result<SerializableFunction, Failure>
     ensures ok { IfOk result (λ f. NumbersNameFunction stored.now (function_of_serializable f) (machine_of f.machine)) }
     ensures err { IfErr result (IsBadFunction stored.now) }
@@ -71,7 +71,7 @@ pub fn function_from_json(alloc: Global, bytes: &[u8]) -> Result<SerializableFun
     }
 }
 
-/// The failure where a text is read.
+/// Returns the failure for `error`, of a text that is read.
 fn failure_of_text(error: TextError<'_>) -> Failure
     ensures { IsTextFailure error.entry result }
 {

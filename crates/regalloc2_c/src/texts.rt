@@ -5,7 +5,7 @@ ghost use Rattle.regalloc2_c.specs.Texts.{text_of_status, failure_texts, text_of
 
 use regalloc2_names::RegAllocErrorKind;
 
-/// What `status` says.
+/// Returns what `status` says.
 pub fn status_words(status: u32) -> &'static str
     ensures { result.now ≡ text_of_status status }
 {
@@ -43,7 +43,7 @@ fn failure_words(status: u32) -> &'static str
     }
 }
 
-/// The cause of the allocator's errors with the number `number`.
+/// Returns the cause of the allocator's errors with the number `number`.
 fn refusal_words(number: u32) -> &'static str
     ensures { result.now ≡ text_of_refusal number }
 {
@@ -56,7 +56,7 @@ fn refusal_words(number: u32) -> &'static str
     }
 }
 
-/// What the fault `number` says.
+/// Returns what the fault `number` says.
 pub fn fault_words(number: u32) -> &'static str
     ensures { result.now ≡ text_of_fault number }
 {

@@ -6,7 +6,7 @@ ghost use Rattle.regalloc2_c.specs.Payload.{as_word};
 /// The word of what isn't named.
 pub const NONE: u32 = 0xffff_ffff;
 
-/// A number as a word; the greatest word if the number is greater.
+/// Returns `number` as a word; [`NONE`] if it is no smaller than that.
 pub fn word_of(number: usize) -> u32
     ensures { result ≡ as_word number }
 {

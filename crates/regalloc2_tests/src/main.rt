@@ -3,10 +3,10 @@
 //! An argument is a folder, whose files `*.case` are run, by name. The program prints each call whose result isn't the
 //! expected one, and then how many files there are and how many calls passed and failed.
 //!
-//! Without an argument, the cases of the current folder are followed by calls of the library's parts, the allocator, the
-//! checker, `ra2` and the code generator that no case file can make, with their results. The file `stdout` has the
-//! expected output. The current folder also has the files that [`TestFiles`] lists. Randomly generated functions, from fixed
-//! seeds, have up to twelve blocks, operands of every kind but `Limit`, and registers enough for each of their
+//! Without an argument, the cases of the current folder are followed by calls of the library's parts, the allocator,
+//! the checker, `ra2` and the code generator that no case file can make, with their results. The file `stdout` has the
+//! expected output. The current folder also has the files that [`TestFiles`] lists. Randomly generated functions, from
+//! fixed seeds, have up to twelve blocks, operands of every kind but `Limit`, and registers enough for each of their
 //! instructions, most of which require all registers; on no path is a value read before it is written.
 //!
 //! The status is 0, or 1 where a call of a case failed, or 2 where a file can't be read, the output can't be written or

@@ -131,7 +131,7 @@ fn is_refused(alloc: Global, line: &str, input: Failing<'_>, err_line: &str) -> 
     Ok(status == 2 && out.text.is_empty() && is_told)
 }
 
-/// Whether a call without arguments is rejected.
+/// Returns whether a call without arguments is rejected.
 pub fn no_words(alloc: Global) -> io::Result<bool> {
     let input = Failing::sound(TEXT.as_bytes());
     is_refused(alloc, "", input, "ra2: bad words\n")

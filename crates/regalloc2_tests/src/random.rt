@@ -22,7 +22,7 @@ pub fn any_class(random: &mut Random) -> RegClass {
     }
 }
 
-/// Returns the register of `class` with the number `number`, which is taken below 64.
+/// Returns the register of `class` with the number `number`; past the last register the first ones follow again.
 pub fn preg(number: usize, class: RegClass) -> PReg
     ensures { result.class ≡ class }
 {

@@ -28,7 +28,7 @@ impl<B: Allocator> Refusing<B> {
         Refusing::new(inner, u64::MAX)
     }
 
-    /// Whether the request that was to fail was made.
+    /// Returns whether the request that was to fail was made.
     pub fn has_refused(&self) -> bool {
         self.left.get() == 0
     }
@@ -72,7 +72,7 @@ unsafe impl<B: Allocator> Allocator for Refusing<B> {
 
 /// A call that takes memory from an allocator.
 pub trait Call {
-    /// Whether the call is done, and returns and leaves what it should. An error says that the call
+    /// Returns whether the call is done, and returns and leaves what it should. An error says that the call
     /// reported that memory ran out.
     fn make(&self, alloc: &Refusing<Global>) -> Result<bool, AllocError>;
 }

@@ -3,7 +3,7 @@ use Rattle.std.specs.Prelude.{ℕ, codes, List, ◌++◌}
 use Rattle.std.specs.Fmt.{decimal}
 use Rattle.regalloc2_function.specs.declared.serialize.StoredFault.{StoredFault}
 use Rattle.regalloc2_function.specs.declared.serialize.StoredFault.TheVariants.{Lengths, Index, Bits, Limit, Memory, Shape}
-use Rattle.regalloc2_text.specs.declared.explain.faults.StoredCause.{StoredCause}
+use Rattle.regalloc2_text.specs.declared.explain.stored_cause.StoredCause.{StoredCause}
 use Rattle.regalloc2_text.specs.Explain.FaultText.{stored_cause_text}
 
 abbrev pub fault_number : StoredFault → ℕ

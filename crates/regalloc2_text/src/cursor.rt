@@ -8,7 +8,7 @@ mod token;
 
 pub use cursor::Cursor;
 pub(crate) use cursor::is_numeral;
-pub use error::{Expected, Fault, Flaw, Found, Misfit, TextError};
+pub use error::{Expected, Found, LineError, LineFault, TextError, TextFault};
 pub use items::{Named, class_named};
 pub(crate) use token::{is_numbered, without_comment};
 pub use token::{Token, TokenKind, split_line, tokenize, tokenize_from};

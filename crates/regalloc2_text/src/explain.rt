@@ -17,13 +17,20 @@ mod pressure;
 pub mod report;
 mod source;
 pub(crate) mod stored;
+mod stored_cause;
 mod write_search;
 mod writes;
 
-pub use cause::{Cause, Site};
+pub use cause::{
+    ArgumentCause, Cause, ConstraintCause, CountCause, EdgeCause, EndCause, OrderCause, ReuseCause,
+    Site, VRegCause,
+};
 pub use explanation::{Explanation, explain, misfit_at};
-pub use faults::{StoredCause, explain_function, explain_output};
+pub use faults::{explain_function, explain_output};
 pub use paths::{UnwrittenRead, find_unwritten_read};
 pub use source::{Source, SourceLine};
+pub use stored_cause::{
+    EncodingCause, IndexCause, LengthCause, LimitCause, OutputCause, StoredCause,
+};
 pub use write_search::{LastWrites, WriteOnPath, last_writes};
 pub use writes::LastWrite;

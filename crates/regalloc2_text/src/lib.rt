@@ -13,7 +13,7 @@ pub mod stored_fault;
 pub mod writer;
 mod writing;
 
-pub use crate::cursor::{Expected, Fault, Found, TextError};
+pub use crate::cursor::{Expected, Found, TextError, TextFault};
 pub use crate::spell::PointText;
 pub use crate::writer::write_json;
 pub use reading::{Text, is_logged, read};

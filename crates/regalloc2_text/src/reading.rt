@@ -14,7 +14,7 @@ mod settings;
 mod stored;
 
 use crate::cursor::{
-    Expected, Flaw, Found, TextError, Token, is_numbered, split_line, tokenize_from,
+    Expected, Found, LineError, TextError, Token, is_numbered, split_line, tokenize_from,
 };
 use draft::{Draft, LineEffect};
 pub use dump::is_logged;
@@ -54,14 +54,14 @@ fn last_move(effect: LineEffect, line: usize, before: usize) -> usize
     }
 }
 
-/// The error of the move on line `line`, which no instruction of its block follows.
+/// Returns the error for the move on line `line`: no instruction of its block follows it.
 fn no_inst_after<'t>(line: usize) -> TextError<'t>
     ensures { (first : ℕ) → (last : ℕ) → first ≤ line → line ≤ last → IsOnLineBetween first last result }
 {
     let expected = Expected::Words(
         "an instruction of the block after this move (or `at` and a point)",
     );
-    Flaw::new(1, expected, Found::Nothing).on_line(line)
+    LineError::new(1, expected, Found::Nothing).on_line(line)
 }
 
 /// Reads the lines of a text, whose first line has the number `first_line`, into a draft (what the
@@ -82,18 +82,18 @@ fn read_lines<'t, A: Allocator + Copy>(
     // Whether an instruction is to follow the move on the line `move_line`.
     let mut waits = false;
     let mut move_line = first_line;
-    'lines: loop {
+    loop {
         let (content, after) = split_line(rest);
         let (part, column) = shown_part(content);
-        if let Err(flaw) = tokenize_from(part, column, tokens) {
-            return Err(flaw.on_line(line));
+        if let Err(error) = tokenize_from(part, column, tokens) {
+            return Err(error.on_line(line));
         }
         if waits && begins_block(tokens.as_slice()) {
             return Err(no_inst_after(move_line));
         }
         let effect = match draft.read_line(alloc, tokens.as_slice()) {
             Ok(effect) => effect,
-            Err(flaw) => return Err(flaw.on_line(line)),
+            Err(error) => return Err(error.on_line(line)),
         };
         move_line = last_move(effect, line, move_line);
         waits = effect == LineEffect::Waits || (waits && effect == LineEffect::Nothing);
@@ -107,7 +107,7 @@ fn read_lines<'t, A: Allocator + Copy>(
     Ok(line)
 }
 
-/// What a text says, whose first line has the number `first_line`.
+/// Reads `text`, whose first line has the number `first_line`.
 ///
 /// A line may also be one in which upstream prints a block, an instruction or a move of its
 /// results, behind what a logger wrote in brackets. If instructions are written so, the count of
@@ -129,6 +129,6 @@ pub fn read<'t, A: Allocator + Copy>(
     let line = read_lines(&mut draft, alloc, &mut tokens, text, first_line)?;
     match draft.finish(alloc) {
         Ok(text) => Ok(text),
-        Err(flaw) => Err(flaw.on_line(line)),
+        Err(error) => Err(error.on_line(line)),
     }
 }

@@ -1,4 +1,6 @@
 //! Whether two stored functions, or two stored outputs, hold the same.
+//!
+//! Equality isn't derived: a derived `==` would require the allocator to have one.
 
 use regalloc2_function::StoredOutput;
 use regalloc2_serialize::{StoredFunction, StoredInst, StoredMachine};
@@ -19,15 +21,11 @@ fn same_inst<A: Allocator>(one: &StoredInst<A>, other: &StoredInst<A>) -> bool {
 
 /// Returns whether the instructions `one` and `other` hold the same, one by one.
 fn same_insts<A: Allocator>(one: &[StoredInst<A>], other: &[StoredInst<A>]) -> bool {
-    if one.len() != other.len() {
-        return false;
-    }
-    for k in 0..one.len() {
-        if !same_inst(&one[k], &other[k]) {
-            return false;
-        }
-    }
-    true
+    one.len() == other.len()
+        && one
+            .iter()
+            .zip(other)
+            .all(|(one, other)| same_inst(one, other))
 }
 
 /// Returns whether the functions `one` and `other` have the same blocks.

@@ -6,7 +6,7 @@ use codegen_machine::{Malformed, NamedProcedure, Part, Procedure};
 use codegen_operation::{Line, Operation};
 use regalloc2_index::{Block, Inst, InstRange};
 use regalloc2_names::VReg;
-use regalloc2_text::cursor::{Cursor, Expected, Flaw, Found, Token};
+use regalloc2_text::cursor::{Cursor, Expected, Found, LineError, Token};
 use std::alloc::Global;
 
 /// The lines of a block read so far.
@@ -167,7 +167,7 @@ impl Draft {
         alloc: Global,
         tokens: &[Token<'t>],
         functions: &Functions<'t>,
-    ) -> Result<(), Flaw<'t>> {
+    ) -> Result<(), LineError<'t>> {
         let mut cursor = Cursor::new(tokens, self.num_vregs);
         if cursor.begins("block") {
             self.read_block(alloc, &mut cursor);
@@ -219,7 +219,11 @@ impl Draft {
     }
 
     /// Returns the function of all lines, with a memory of `memory_size` bytes.
-    pub fn finish<'t>(self, alloc: Global, memory_size: usize) -> Result<NamedProcedure, Flaw<'t>> {
+    pub fn finish<'t>(
+        self,
+        alloc: Global,
+        memory_size: usize,
+    ) -> Result<NamedProcedure, LineError<'t>> {
         let Draft {
             lines,
             blocks,
@@ -247,7 +251,7 @@ impl Draft {
                 arity,
                 procedure,
             }),
-            Err(malformed) => Err(flaw_of(malformed)),
+            Err(malformed) => Err(line_error_of(malformed)),
         }
     }
 }
@@ -286,7 +290,7 @@ fn parts(
 }
 
 /// The message for lines that make no valid function.
-fn flaw_of<'t>(malformed: Malformed) -> Flaw<'t> {
+fn line_error_of<'t>(malformed: Malformed) -> LineError<'t> {
     let expected = match malformed {
         Malformed::TooLarge => "at most a million blocks, instructions and virtual registers",
         Malformed::MissingSuccessor => "two successors of a `branch_if`, and one of a `jump`",
@@ -294,5 +298,5 @@ fn flaw_of<'t>(malformed: Malformed) -> Flaw<'t> {
         Malformed::LargeNumber => "second numbers up to 2147483647",
         Malformed::LargeMemory => "a memory of at most 2147483647 bytes",
     };
-    Flaw::new(1, Expected::Words(expected), Found::TextEnd)
+    LineError::new(1, Expected::Words(expected), Found::TextEnd)
 }

@@ -3,7 +3,7 @@
 ghost use Rattle.std.specs.Prelude.{◌+◌, length, IfErr};
 ghost use Rattle.regalloc2_text.specs.Cursor.Lines.{IsOnLineBetween};
 
-use regalloc2_text::cursor::{Cursor, Flaw, TextError, Token, split_line, tokenize};
+use regalloc2_text::cursor::{Cursor, LineError, TextError, Token, split_line, tokenize};
 use std::alloc::Global;
 use std::collections::HashMap;
 use std::hash::{BuildHasherDefault, FoldHasher};
@@ -82,8 +82,8 @@ impl<'t> Functions<'t> {
         let mut line = first_line;
         'lines: loop {
             let (content, after) = split_line(rest);
-            if let Err(flaw) = functions.read_line(content, &mut tokens) {
-                return Err(flaw.on_line(line));
+            if let Err(error) = functions.read_line(content, &mut tokens) {
+                return Err(error.on_line(line));
             }
             let Some(after) = after else { break };
             rest = after;
@@ -93,7 +93,11 @@ impl<'t> Functions<'t> {
     }
 
     /// Reads a line if it is one of a function.
-    fn read_line(&mut self, content: &'t str, tokens: &mut Vec<Token<'t>>) -> Result<(), Flaw<'t>> {
+    fn read_line(
+        &mut self,
+        content: &'t str,
+        tokens: &mut Vec<Token<'t>>,
+    ) -> Result<(), LineError<'t>> {
         if !content.trim_start().starts_with("function") {
             return Ok(());
         }
@@ -107,7 +111,7 @@ impl<'t> Functions<'t> {
     }
 
     /// Reads a function's name and the number of its arguments, from the name on.
-    fn read_function(&mut self, mut cursor: Cursor<'_, 't>) -> Result<(), Flaw<'t>> {
+    fn read_function(&mut self, mut cursor: Cursor<'_, 't>) -> Result<(), LineError<'t>> {
         let name = read_name(&mut cursor);
         if self.named(name).is_some() {
             cursor.misfit_before("a name that no function before it has");
@@ -123,7 +127,7 @@ impl<'t> Functions<'t> {
     }
 
     /// Adds a function `name` with `arity` arguments.
-    fn add(&mut self, name: &'t str, arity: usize) -> Result<(), Flaw<'t>> {
+    fn add(&mut self, name: &'t str, arity: usize) -> Result<(), LineError<'t>> {
         let function = self.by_name.len();
         self.by_name.insert(name, Callee { function, arity })?;
         Ok(())

@@ -3,7 +3,7 @@
 use super::draft::Draft;
 use super::functions::{Callee, FIRST_ARGUMENTS, Functions};
 use codegen_machine::{Module, NamedProcedure, Refusal};
-use regalloc2_text::cursor::{Cursor, Expected, Flaw, Found, Token};
+use regalloc2_text::cursor::{Cursor, Expected, Found, LineError, Token};
 use std::alloc::Global;
 
 /// The greatest size of a memory: an instruction of x86-64 compares an address with it.
@@ -40,7 +40,7 @@ impl<'t> ModuleDraft<'t> {
     }
 
     /// Reads a line from its tokens.
-    pub fn read_line(&mut self, alloc: Global, tokens: &[Token<'t>]) -> Result<(), Flaw<'t>> {
+    pub fn read_line(&mut self, alloc: Global, tokens: &[Token<'t>]) -> Result<(), LineError<'t>> {
         if tokens.is_empty() {
             return Ok(());
         }
@@ -56,7 +56,11 @@ impl<'t> ModuleDraft<'t> {
     }
 
     /// Reads a line of the function that is read.
-    fn read_inner_line(&mut self, alloc: Global, tokens: &[Token<'t>]) -> Result<(), Flaw<'t>> {
+    fn read_inner_line(
+        &mut self,
+        alloc: Global,
+        tokens: &[Token<'t>],
+    ) -> Result<(), LineError<'t>> {
         if self.drafts.is_empty() && self.functions.is_empty() {
             self.drafts.push(unnamed(alloc))?;
         }
@@ -67,7 +71,7 @@ impl<'t> ModuleDraft<'t> {
     }
 
     /// Begins the function with that name, whose line the text's functions have been read from.
-    fn begin(&mut self, alloc: Global, name: &'t str) -> Result<(), Flaw<'t>> {
+    fn begin(&mut self, alloc: Global, name: &'t str) -> Result<(), LineError<'t>> {
         if let Some(Callee { arity, .. }) = self.functions.named(name) {
             let name = String::from_str(alloc, name)?;
             self.drafts.push(Draft::new(alloc, name, arity))?;
@@ -76,7 +80,7 @@ impl<'t> ModuleDraft<'t> {
     }
 
     /// The module of all functions.
-    pub fn finish(self, alloc: Global) -> Result<Module, Flaw<'t>> {
+    pub fn finish(self, alloc: Global) -> Result<Module, LineError<'t>> {
         let ModuleDraft {
             functions: _,
             mut drafts,
@@ -89,13 +93,13 @@ impl<'t> ModuleDraft<'t> {
         let procedures = finished(alloc, drafts, memory_size)?;
         match Module::new(procedures, memory_size) {
             Ok(module) => Ok(module),
-            Err(refusal) => Err(flaw_of(refusal)),
+            Err(refusal) => Err(line_error_of(refusal)),
         }
     }
 }
 
-/// The flaw of a line before the text's first function.
-fn refuse_line<'t>(tokens: &[Token<'t>]) -> Result<(), Flaw<'t>> {
+/// The error of a line before the text's first function.
+fn refuse_line<'t>(tokens: &[Token<'t>]) -> Result<(), LineError<'t>> {
     let mut cursor = Cursor::new(tokens, 0);
     cursor.misfit("a line `function`, as the text has one");
     cursor.finish()
@@ -106,7 +110,7 @@ fn finished<'t>(
     alloc: Global,
     drafts: Vec<Draft>,
     memory_size: usize,
-) -> Result<Vec<NamedProcedure>, Flaw<'t>> {
+) -> Result<Vec<NamedProcedure>, LineError<'t>> {
     let mut procedures = Vec::new(alloc);
     for draft in drafts {
         procedures.push(draft.finish(alloc, memory_size)?)?;
@@ -115,7 +119,7 @@ fn finished<'t>(
 }
 
 /// The message for functions that make no module.
-fn flaw_of<'t>(refusal: Refusal) -> Flaw<'t> {
+fn line_error_of<'t>(refusal: Refusal) -> LineError<'t> {
     let expected = match refusal {
         Refusal::NoFunction => "a function",
         Refusal::MemorySize => "one size of memory",
@@ -123,5 +127,5 @@ fn flaw_of<'t>(refusal: Refusal) -> Flaw<'t> {
         Refusal::UnknownArgument => "arguments of the function",
         Refusal::WrongCall => "calls with as many arguments as their functions have",
     };
-    Flaw::new(1, Expected::Words(expected), Found::TextEnd)
+    LineError::new(1, Expected::Words(expected), Found::TextEnd)
 }

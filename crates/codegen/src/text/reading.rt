@@ -26,11 +26,11 @@ fn read_lines<'t>(
     let mut line = first_line;
     'lines: loop {
         let (content, after) = split_line(rest);
-        if let Err(flaw) = tokenize(content, &mut tokens) {
-            return Err(flaw.on_line(line));
+        if let Err(error) = tokenize(content, &mut tokens) {
+            return Err(error.on_line(line));
         }
-        if let Err(flaw) = draft.read_line(alloc, tokens.as_slice()) {
-            return Err(flaw.on_line(line));
+        if let Err(error) = draft.read_line(alloc, tokens.as_slice()) {
+            return Err(error.on_line(line));
         }
         let Some(after) = after else { break };
         rest = after;
@@ -65,6 +65,6 @@ pub fn read_module<'t>(
     };
     match draft.finish(alloc) {
         Ok(module) => Ok(module),
-        Err(flaw) => Err(flaw.on_line(line)),
+        Err(error) => Err(error.on_line(line)),
     }
 }

@@ -19,7 +19,7 @@ pub struct Tally {
 }
 
 impl Tally {
-    /// Whether no call failed.
+    /// Returns whether no call failed.
     pub fn has_passed(&self) -> bool {
         self.failed == 0
     }

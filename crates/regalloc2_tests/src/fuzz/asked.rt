@@ -61,7 +61,7 @@ impl fmt::Display for Answer {
 }
 
 impl Answer {
-    /// Whether what was written is what the status says: for 0 a listing or a verdict; for 1 one
+    /// Returns whether what was written is what the status says: for 0 a listing or a verdict; for 1 one
     /// line with a rejection, or errors; for 2 one line, on the standard error. Nothing may say
     /// that memory ran out.
     pub fn keeps_rules(&self) -> bool {

@@ -3,14 +3,14 @@
 ghost use Rattle.std.specs.Prelude.{◌<◌, ◌≤◌, length, IsTrue, IfSome};
 ghost use Rattle.regalloc2_text.specs.Cursor.Cursor.{tokens_left};
 
-use super::error::{Expected, Flaw, Found};
+use super::error::{Expected, Found, LineError};
 use super::token::{Token, TokenKind, are_digits};
 use std::alloc::Allocator;
 
 /// A place among the tokens of a line. Reading consumes tokens, and no method goes back.
 ///
-/// The cursor keeps the first flaw that is found, and no token is left after it: what is read from
-/// then on is zeros and empty lists, and `finish` returns the flaw.
+/// The cursor keeps the first error that is found, and no token is left after it: what is read from
+/// then on is zeros and empty lists, and `finish` returns the error.
 #[derive(Drop)]
 pub struct Cursor<'a, 't> {
     /// The tokens of the line.
@@ -19,41 +19,41 @@ pub struct Cursor<'a, 't> {
     at: usize,
     /// One more than the greatest number of a vreg that was read.
     num_vregs: u64,
-    /// Why the line can't be read, where a flaw was found.
-    flaw: Option<Flaw<'t>>,
+    /// Why the line can't be read, where an error was found.
+    error: Option<LineError<'t>>,
 }
 
 impl<'a, 't> Cursor<'a, 't> {
-    /// The place before a line's tokens, where the vregs so far are below `num_vregs`.
+    /// Returns the place before `tokens`, the tokens of a line; vregs read so far have numbers below `num_vregs`.
     pub fn new(tokens: &'a [Token<'t>], num_vregs: u64) -> Self {
         Cursor {
             tokens,
             at: 0,
             num_vregs,
-            flaw: None,
+            error: None,
         }
     }
 
-    /// One more than the greatest number of a vreg that was read.
+    /// Returns one more than the greatest number of a vreg that was read.
     pub fn num_vregs(&self) -> u64 {
         self.num_vregs
     }
 
-    /// Notes that a vreg with the number `number` was read.
+    /// Records that a vreg with the number `number` was read.
     pub fn show_vreg(&mut self, number: u64)
         ensures { tokens_left self.new ≤ tokens_left self.old }
     {
         self.num_vregs = self.num_vregs.max(number.saturating_add(1));
     }
 
-    /// The next token, where there is one.
+    /// Returns the next token, if there is one.
     fn next(&self) -> Option<Token<'t>>
         ensures { IfSome result (λ _. self.now.at < length self.now.tokens.now) }
     {
         self.tokens.get(self.at).copied()
     }
 
-    /// The text of the next token, where there is one.
+    /// Returns the text of the next token, if there is one.
     pub fn peek(&self) -> Option<&'t str> {
         match self.next() {
             Some(token) => Some(token.text),
@@ -69,16 +69,16 @@ impl<'a, 't> Cursor<'a, 't> {
         }
     }
 
-    /// The token before the next one, where there is one.
+    /// Returns the token before the next one, if there is one.
     fn previous(&self) -> Option<Token<'t>> {
         self.tokens.get(self.at.wrapping_sub(1)).copied()
     }
 
-    /// Notes `flaw`, unless there is a flaw already.
-    pub fn fail(&mut self, flaw: Flaw<'t>)
+    /// Notes `error`, unless there is an error already.
+    pub fn fail(&mut self, error: LineError<'t>)
         ensures { tokens_left self.new ≤ tokens_left self.old }
     {
-        self.flaw = self.flaw.or(Some(flaw));
+        self.error = self.error.or(Some(error));
         self.at = self.tokens.len();
     }
 
@@ -91,7 +91,7 @@ impl<'a, 't> Cursor<'a, 't> {
             (None, Some(last)) => (last.column.saturating_add(last.text.len()), Found::LineEnd),
             (None, None) => (1, Found::LineEnd),
         };
-        self.fail(Flaw::new(column, expected, found));
+        self.fail(LineError::new(column, expected, found));
     }
 
     /// Notes that the next token doesn't fit, and that the words `expected` say what is needed in its place.
@@ -107,7 +107,7 @@ impl<'a, 't> Cursor<'a, 't> {
     {
         match self.previous() {
             Some(token) => {
-                self.fail(Flaw::new(token.column, expected, Found::Token(token.text)));
+                self.fail(LineError::new(token.column, expected, Found::Token(token.text)));
             }
             None => self.fault(expected),
         }
@@ -184,24 +184,24 @@ impl<'a, 't> Cursor<'a, 't> {
         }
     }
 
-    /// Requires the line to end here. Returns its first flaw, if there is one.
-    pub fn finish(mut self) -> Result<(), Flaw<'t>> {
+    /// Requires the line to end here. Returns its first error, if there is one.
+    pub fn finish(mut self) -> Result<(), LineError<'t>> {
         if self.next().is_some() {
             self.misfit("the end of the line");
         }
-        match self.flaw {
-            Some(flaw) => Err(flaw),
+        match self.error {
+            Some(error) => Err(error),
             None => Ok(()),
         }
     }
 
-    /// Returns `value` if the line ends here and has no flaw; else its first flaw.
-    pub(crate) fn finish_with<T: Drop>(self, value: T) -> Result<T, Flaw<'t>> {
+    /// Returns `value` if the line ends here and has no error; else its first error.
+    pub(crate) fn finish_with<T: Drop>(self, value: T) -> Result<T, LineError<'t>> {
         self.finish()?;
         Ok(value)
     }
 
-    /// A number up to `max`, as a token of its own.
+    /// Consumes a number up to `max`, a token of its own, and returns it; 0, with an error, if no such number is next.
     pub fn number(&mut self, max: u64) -> u64
         ensures left { tokens_left self.new ≤ tokens_left self.old }
         ensures up_to { result ≤ max }
@@ -225,15 +225,15 @@ impl<'a, 't> Cursor<'a, 't> {
         }
     }
 
-    /// A number of 32 bits, as a token of its own.
+    /// Consumes a number of 32 bits, a token of its own, and returns it; 0, with an error, if no such number is next.
     pub fn word(&mut self) -> u32
         ensures { tokens_left self.new ≤ tokens_left self.old }
     {
         self.number(u64::from(u32::MAX)) as u32
     }
 
-    /// The number of 32 bits in a word that is made of `name` and a number, as `inst3`; `expected` says what the word
-    /// names.
+    /// Consumes a word of `name` and a number of 32 bits, as `inst3`, and returns the number; 0, with an error, if no
+    /// such word is next. `expected` says what the word names.
     pub fn named(&mut self, name: &str, expected: &'static str) -> u32
         ensures { tokens_left self.new ≤ tokens_left self.old }
     {

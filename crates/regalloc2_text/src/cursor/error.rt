@@ -91,7 +91,7 @@ impl fmt::Display for Found<'_> {
 
 /// The first place at which a text can't be read.
 #[derive(Clone, Copy, Debug)]
-pub struct Fault<'t> {
+pub struct TextFault<'t> {
     /// The line, counted from the number that the caller gives the first one.
     pub line: usize,
     /// The column in bytes, counted from 1.
@@ -103,9 +103,9 @@ pub struct Fault<'t> {
     pub ghost from_one: { 1 ≤ column },
 }
 
-impl fmt::Display for Fault<'_> {
+impl fmt::Display for TextFault<'_> {
     fn fmt<W: fmt::Write>(&self, f: &mut fmt::Formatter<W>) -> fmt::Result {
-        let Fault {
+        let TextFault {
             line,
             column,
             expected,
@@ -115,13 +115,13 @@ impl fmt::Display for Fault<'_> {
     }
 }
 
-impl Error for Fault<'_> {}
+impl Error for TextFault<'_> {}
 
 /// Why a text is not read.
 #[derive(Clone, Copy, Debug)]
 pub enum TextError<'t> {
     /// A line can't be read.
-    Fault(Fault<'t>),
+    Fault(TextFault<'t>),
     /// Out of memory.
     Memory,
 }
@@ -151,16 +151,16 @@ impl<T: Drop> From<AllocFailed<T>> for TextError<'_> {
 
 /// Why a line can't be read.
 #[derive(Clone, Copy)]
-pub enum Flaw<'t> {
+pub enum LineError<'t> {
     /// A token doesn't fit.
-    Misfit(Misfit<'t>),
+    Fault(LineFault<'t>),
     /// Out of memory.
     Memory,
 }
 
 /// The first token of a line that doesn't fit.
 #[derive(Clone, Copy)]
-pub struct Misfit<'t> {
+pub struct LineFault<'t> {
     /// The column in bytes, counted from 1.
     pub column: usize,
     /// What the line needs there.
@@ -170,50 +170,50 @@ pub struct Misfit<'t> {
     pub ghost from_one: { 1 ≤ column },
 }
 
-impl<'t> Flaw<'t> {
+impl<'t> LineError<'t> {
     ghost use Rattle.regalloc2_text.specs.Cursor.Lines.{IsOnLineBetween};
 
     /// A token that doesn't fit, at `column`, which is at least 1.
     pub fn new(column: usize, expected: Expected, found: Found<'t>) -> Self
         requires { 1 ≤ column }
     {
-        Flaw::Misfit(Misfit {
+        LineError::Fault(LineFault {
             column,
             expected,
             found,
         })
     }
 
-    /// The error of a text that has this flaw in line `line`.
+    /// Returns the error of a text whose line `line` has this error.
     pub fn on_line(self, line: usize) -> TextError<'t>
         ensures { (first : ℕ) → (last : ℕ) → first ≤ line → line ≤ last → IsOnLineBetween first last result }
     {
         match self {
-            Flaw::Misfit(
-                Misfit {
+            LineError::Fault(
+                LineFault {
                     column,
                     expected,
                     found,
                 },
-            ) => TextError::Fault(Fault {
+            ) => TextError::Fault(TextFault {
                 line,
                 column,
                 expected,
                 found,
             }),
-            Flaw::Memory => TextError::Memory,
+            LineError::Memory => TextError::Memory,
         }
     }
 }
 
-impl From<AllocError> for Flaw<'_> {
+impl From<AllocError> for LineError<'_> {
     fn from(_refused: AllocError) -> Self {
-        Flaw::Memory
+        LineError::Memory
     }
 }
 
-impl<T: Drop> From<AllocFailed<T>> for Flaw<'_> {
+impl<T: Drop> From<AllocFailed<T>> for LineError<'_> {
     fn from(_refused: AllocFailed<T>) -> Self {
-        Flaw::Memory
+        LineError::Memory
     }
 }

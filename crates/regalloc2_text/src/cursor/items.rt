@@ -64,7 +64,7 @@ pub fn class_named(name: &str) -> Option<RegClass> {
     }
 }
 
-/// The class that `name` names in upstream's `Debug`, if any.
+/// Returns the class that `name` names in upstream's `Debug`, if any.
 fn class_in_debug(name: &str) -> Option<RegClass> {
     match name {
         "Int" => Some(RegClass::Int),
@@ -74,7 +74,7 @@ fn class_in_debug(name: &str) -> Option<RegClass> {
     }
 }
 
-/// The kind and the position that `name` names, if any.
+/// Returns the kind and the position that `name` names, if any.
 fn kind_named(name: &str) -> Option<(OperandKind, OperandPos)> {
     match name {
         "Def" => Some((OperandKind::Def, OperandPos::Late)),
@@ -107,7 +107,7 @@ fn is_fixed_alone(operand: Operand) -> bool {
     }
 }
 
-/// The name in `word`, of `letter` and a number up to `max`; or what the text needs in its place.
+/// Returns the number and the class in `word`, a name of `letter` and a number up to `max`; or what is needed there.
 fn name_in(word: &str, letter: char, max: usize, misnamed: &Misnamed) -> Result<Named, &'static str>
     ensures { IfOk result (λ named. named.number ≤ max) }
 {
@@ -147,7 +147,7 @@ impl Cursor<'_, '_> {
         self.want(")");
     }
 
-    /// A name of `letter` and a number up to `max`.
+    /// Consumes a name of `letter` and a number up to `max`, and returns what it names.
     fn letter_named(&mut self, letter: char, max: usize, misnamed: &Misnamed) -> Named
         ensures left { tokens_left self.new ≤ tokens_left self.old }
         ensures up_to { result.number ≤ max }
@@ -167,7 +167,7 @@ impl Cursor<'_, '_> {
         }
     }
 
-    /// A number up to `max` behind a name and `=`, as `hw = 3`.
+    /// Consumes a name, `=` and a number up to `max`, as `hw = 3`, and returns the number.
     fn number_part(&mut self, name: &'static str, max: u64) -> u64
         ensures left { tokens_left self.new ≤ tokens_left self.old }
         ensures up_to { result ≤ max }
@@ -177,7 +177,7 @@ impl Cursor<'_, '_> {
         self.number(max)
     }
 
-    /// A class behind its name and `=`, as `class = Int`.
+    /// Consumes `class = Int` or another class, and returns the class.
     fn class_part(&mut self) -> RegClass
         ensures { tokens_left self.new ≤ tokens_left self.old }
     {
@@ -195,7 +195,7 @@ impl Cursor<'_, '_> {
         }
     }
 
-    /// What follows `PReg` in upstream's `Debug`: `(hw = 3, class = Int, index = 3)`.
+    /// Consumes what follows `PReg` in upstream's `Debug`, as `(hw = 3, class = Int, index = 3)`; returns the register.
     fn register_parts(&mut self) -> Named
         ensures left { tokens_left self.new ≤ tokens_left self.old }
         ensures up_to { result.number ≤ PReg.MAX }
@@ -213,7 +213,7 @@ impl Cursor<'_, '_> {
         Named { number, class }
     }
 
-    /// What follows `VReg` in upstream's `Debug`: `(vreg = 3, class = Int)`.
+    /// Consumes what follows `VReg` in upstream's `Debug`, as `(vreg = 3, class = Int)`, and returns the vreg.
     fn vreg_parts(&mut self) -> Named
         ensures left { tokens_left self.new ≤ tokens_left self.old }
         ensures up_to { result.number ≤ VReg.MAX }
@@ -226,7 +226,7 @@ impl Cursor<'_, '_> {
         Named { number, class }
     }
 
-    /// A register.
+    /// Consumes a register, and returns it.
     pub fn register(&mut self) -> Named
         ensures left { tokens_left self.new ≤ tokens_left self.old }
         ensures up_to { result.number ≤ PReg.MAX }
@@ -237,7 +237,7 @@ impl Cursor<'_, '_> {
         self.letter_named('p', PReg::MAX, &NO_REGISTER)
     }
 
-    /// The index of a register, or one that is of none.
+    /// Consumes the index of a register, or one that is of none, and returns the index.
     pub fn register_bits(&mut self) -> u8
         ensures { tokens_left self.new ≤ tokens_left self.old }
     {
@@ -253,7 +253,7 @@ impl Cursor<'_, '_> {
         }
     }
 
-    /// A vreg.
+    /// Consumes a vreg, and returns it.
     fn vreg(&mut self) -> Named
         ensures left { tokens_left self.new ≤ tokens_left self.old }
         ensures up_to { result.number ≤ VReg.MAX }
@@ -264,7 +264,7 @@ impl Cursor<'_, '_> {
         self.letter_named('v', VReg::MAX, &NO_VREG)
     }
 
-    /// The encoding of a vreg, or one that is of none.
+    /// Consumes a vreg, or an encoding that is of none, and returns its encoding.
     pub fn vreg_bits(&mut self) -> u32
         ensures { tokens_left self.new ≤ tokens_left self.old }
     {
@@ -282,7 +282,7 @@ impl Cursor<'_, '_> {
         }
     }
 
-    /// The encoding of an operand, or one that is of none.
+    /// Consumes an operand, or an encoding that is of none, and returns its encoding.
     pub fn operand_bits(&mut self) -> u64
         ensures { tokens_left self.new ≤ tokens_left self.old }
     {
@@ -305,7 +305,7 @@ impl Cursor<'_, '_> {
         self.operand(kind, pos)
     }
 
-    /// The encoding of an operand of `kind` and `pos`, from what follows the operand's colon.
+    /// Consumes what follows the colon of an operand of `kind` and `pos`, and returns the operand's encoding.
     fn operand(&mut self, kind: OperandKind, pos: OperandPos) -> u64
         ensures { tokens_left self.new ≤ tokens_left self.old }
     {
@@ -319,7 +319,7 @@ impl Cursor<'_, '_> {
         operand.bits()
     }
 
-    /// The constraint of an operand whose vreg is of `class`.
+    /// Consumes the constraint of an operand whose vreg is of `class`, and returns it.
     fn constraint(&mut self, class: RegClass) -> OperandConstraint
         ensures left { tokens_left self.new ≤ tokens_left self.old }
         ensures of_class { IsConstraintOf class result }
@@ -344,7 +344,7 @@ impl Cursor<'_, '_> {
         }
     }
 
-    /// What follows `fixed`: a register of `class`.
+    /// Consumes what follows `fixed`, a register of `class`, and returns the constraint.
     fn fixed(&mut self, class: RegClass) -> OperandConstraint
         ensures left { tokens_left self.new ≤ tokens_left self.old }
         ensures of_class { IsConstraintOf class result }
@@ -358,7 +358,7 @@ impl Cursor<'_, '_> {
         OperandConstraint::FixedReg(PReg::new(named.number, class))
     }
 
-    /// What follows `reuse`: the index of an operand.
+    /// Consumes what follows `reuse`, the index of an operand, and returns the constraint.
     fn reuse(&mut self) -> OperandConstraint
         ensures left { tokens_left self.new ≤ tokens_left self.old }
         ensures of_class { (class : RegClass) → IsConstraintOf class result }
@@ -369,7 +369,7 @@ impl Cursor<'_, '_> {
         OperandConstraint::Reuse(index as usize)
     }
 
-    /// What follows `limit`: the range of the hardware numbers.
+    /// Consumes what follows `limit`, the range of hardware numbers, and returns the constraint.
     fn limit(&mut self) -> OperandConstraint
         ensures left { tokens_left self.new ≤ tokens_left self.old }
         ensures of_class { (class : RegClass) → IsConstraintOf class result }
@@ -394,7 +394,7 @@ impl Cursor<'_, '_> {
         OperandConstraint::Limit(bound)
     }
 
-    /// The encoding of a place, or one that is of none.
+    /// Consumes a place, or an encoding that is of none, and returns its encoding.
     pub fn place_bits(&mut self) -> u32
         ensures { tokens_left self.new ≤ tokens_left self.old }
     {
@@ -415,7 +415,7 @@ impl Cursor<'_, '_> {
         }
     }
 
-    /// The number of a spill slot.
+    /// Consumes the number of a spill slot, and returns it.
     fn slot(&mut self) -> usize
         ensures left { tokens_left self.new ≤ tokens_left self.old }
         ensures valid { result ≤ SpillSlot.MAX }
@@ -428,7 +428,7 @@ impl Cursor<'_, '_> {
         number
     }
 
-    /// The number of a point, or one that is of none.
+    /// Consumes a point, or a number that is of none, and returns its number.
     pub fn point_bits(&mut self) -> u32
         ensures { tokens_left self.new ≤ tokens_left self.old }
     {
@@ -453,7 +453,7 @@ impl Cursor<'_, '_> {
         ProgPoint::new(inst, pos).to_index()
     }
 
-    /// Whether a point is before or after its instruction.
+    /// Returns whether a point is before or after its instruction.
     fn position(&mut self) -> InstPosition
         ensures { tokens_left self.new ≤ tokens_left self.old }
     {
@@ -467,7 +467,7 @@ impl Cursor<'_, '_> {
         }
     }
 
-    /// The numbers of the first instruction of a range and of the one past its last.
+    /// Consumes a range of instructions; returns the numbers of its first instruction and of the one past its last.
     pub fn range(&mut self) -> (u32, u32)
         ensures { tokens_left self.new ≤ tokens_left self.old }
     {

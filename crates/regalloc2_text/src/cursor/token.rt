@@ -2,7 +2,7 @@
 
 ghost use Rattle.std.specs.Prelude.{◌<◌, ◌≤◌, length, IfSome};
 
-use super::error::{Expected, Flaw, Found};
+use super::error::{Expected, Found, LineError};
 use std::alloc::Allocator;
 
 /// What a token is.
@@ -140,7 +140,7 @@ pub fn split_line(text: &str) -> (&str, Option<&str>)
 pub fn tokenize<'t, A: Allocator>(
     line: &'t str,
     tokens: &mut Vec<Token<'t>, A>,
-) -> Result<(), Flaw<'t>> {
+) -> Result<(), LineError<'t>> {
     tokenize_from(line, 1, tokens)
 }
 
@@ -150,7 +150,7 @@ pub fn tokenize_from<'t, A: Allocator>(
     part: &'t str,
     first_column: usize,
     tokens: &mut Vec<Token<'t>, A>,
-) -> Result<(), Flaw<'t>>
+) -> Result<(), LineError<'t>>
     requires { 1 ≤ first_column }
 {
     tokens.clear();
@@ -158,14 +158,14 @@ pub fn tokenize_from<'t, A: Allocator>(
     let mut column = first_column;
     while !rest.is_empty() {
         let Some((kind, text, after)) = split_token(rest) else {
-            return Err(Flaw::new(
+            return Err(LineError::new(
                 column,
                 Expected::Words("a word, a number or a sign"),
                 unknown(rest),
             ));
         };
         if kind == TokenKind::Number && text.len() > 1 && text.starts_with('0') {
-            return Err(Flaw::new(
+            return Err(LineError::new(
                 column,
                 Expected::Words("a number without leading zeros"),
                 Found::Token(text),

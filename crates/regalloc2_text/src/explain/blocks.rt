@@ -1,6 +1,6 @@
 //! Invalid blocks and edges.
 
-use crate::explain::cause::{Cause, Site};
+use crate::explain::cause::{ArgumentCause, Cause, EdgeCause, EndCause, OrderCause, Site};
 use crate::explain::stored::{arguments_of, block_of, operands_at, range_of};
 use crate::named::{list_at, vreg_of};
 use regalloc2_serialize::{InstOpcode, StoredFunction};
@@ -25,27 +25,27 @@ pub(crate) fn end_of(function: &StoredFunction, block: usize) -> Site {
 
 /// Returns the cause of `CritEdge` for the edge from block `from` to block `to`.
 pub(crate) fn crit_edge_cause(function: &StoredFunction, from: usize, to: usize) -> (Cause, Site) {
-    let cause = Cause::CriticalEdge {
+    let cause = Cause::Edge(EdgeCause::CriticalEdge {
         from,
         to,
         succs: list_at(function.block_succs.as_slice(), from).len(),
         ways: ways_into(function, to),
-    };
+    });
     (cause, end_of(function, from))
 }
 
 /// Returns the cause if the instructions of `block` don't follow the last instruction of the block before.
-fn range_cause(function: &StoredFunction, block: usize) -> Option<Cause> {
+fn range_cause(function: &StoredFunction, block: usize) -> Option<OrderCause> {
     let (first, end) = range_of(function, block);
     if first >= end {
-        return Some(Cause::Empty { block });
+        return Some(OrderCause::Empty { block });
     }
     let wanted = match block.checked_sub(1) {
         Some(before) => range_of(function, before).1,
         None => 0,
     };
     if first != wanted {
-        return Some(Cause::Begins {
+        return Some(OrderCause::Begins {
             block,
             first,
             wanted,
@@ -54,7 +54,7 @@ fn range_cause(function: &StoredFunction, block: usize) -> Option<Cause> {
     let insts = function.insts.len();
     let is_last = block.saturating_add(1) == function.blocks.len();
     if is_last && end != insts {
-        return Some(Cause::Ends { block, end, insts });
+        return Some(OrderCause::Ends { block, end, insts });
     }
     None
 }
@@ -66,12 +66,12 @@ fn count_in(list: &[u32], block: usize) -> usize {
         .count()
 }
 
-/// How many edges lead from block `from` to block `to`.
+/// Returns how many edges lead from block `from` to block `to`.
 fn edges_between(function: &StoredFunction, from: usize, to: usize) -> usize {
     count_in(list_at(function.block_succs.as_slice(), from), to)
 }
 
-/// How many edges lead to `block`.
+/// Returns how many edges lead to `block`.
 fn edges_into(function: &StoredFunction, block: usize) -> usize {
     let mut leading = 0usize;
     for from in 0..function.blocks.len() {
@@ -92,14 +92,14 @@ fn each_has_edges(function: &StoredFunction, preds: &[u32], block: usize) -> boo
 }
 
 /// Returns the cause if the predecessors of `block` aren't the blocks with an edge to it.
-fn preds_cause(function: &StoredFunction, block: usize) -> Option<Cause> {
+fn preds_cause(function: &StoredFunction, block: usize) -> Option<EdgeCause> {
     let preds = list_at(function.block_preds.as_slice(), block);
     let listed = preds.len();
     let leading = edges_into(function, block);
     if listed == leading && each_has_edges(function, preds, block) {
         return None;
     }
-    Some(Cause::Predecessors {
+    Some(EdgeCause::Predecessors {
         block,
         listed,
         leading,
@@ -119,40 +119,46 @@ fn ends_within(function: &StoredFunction, first: usize, last: usize) -> Option<u
 }
 
 /// Returns the cause if `block` doesn't end with a valid last instruction, and the site.
-fn end_cause(function: &StoredFunction, block: usize) -> Option<(Cause, Site)> {
+fn end_cause(function: &StoredFunction, block: usize) -> Option<(EndCause, Site)> {
     let (first, end) = range_of(function, block);
     let last = end.checked_sub(1)?;
     let succs = list_at(function.block_succs.as_slice(), block).len();
     let op = function.insts.get(last)?.op;
     if op == InstOpcode::Op {
-        return Some((Cause::OpenEnd { block, inst: last }, Site::Inst(last)));
+        return Some((EndCause::OpenEnd { block, inst: last }, Site::Inst(last)));
     }
     if op == InstOpcode::Ret && succs > 0 {
-        return Some((Cause::ReturnLeads { block, succs }, Site::Inst(last)));
+        return Some((EndCause::ReturnLeads { block, succs }, Site::Inst(last)));
     }
     let inst = ends_within(function, first, last)?;
-    Some((Cause::EndsWithin { block, inst }, Site::Inst(inst)))
+    Some((EndCause::EndsWithin { block, inst }, Site::Inst(inst)))
 }
 
 /// Returns the cause of `BB` for `block`.
 pub(crate) fn block_cause(function: &StoredFunction, block: usize) -> (Cause, Site) {
     if let Some(cause) = range_cause(function, block) {
-        return (cause, Site::Block(block));
+        return (Cause::Order(cause), Site::Block(block));
     }
     if let Some(cause) = preds_cause(function, block) {
-        return (cause, Site::Block(block));
+        return (Cause::Edge(cause), Site::Block(block));
     }
     let entry = function.entry_block as usize;
     if block == entry && entry != 0 {
-        return (Cause::EntryIsLater { entry }, Site::Block(block));
+        return (
+            Cause::Order(OrderCause::EntryIsLater { entry }),
+            Site::Block(block),
+        );
     }
-    end_cause(function, block).unwrap_or((Cause::Other, Site::Block(block)))
+    match end_cause(function, block) {
+        Some((cause, site)) => (Cause::End(cause), site),
+        None => (Cause::Other, Site::Block(block)),
+    }
 }
 
 /// Returns the cause if `arguments` don't fit the parameters `params` of the successor `succ`.
-fn passed_cause(succ: usize, arguments: &[u32], params: &[u32]) -> Option<Cause> {
+fn passed_cause(succ: usize, arguments: &[u32], params: &[u32]) -> Option<ArgumentCause> {
     if arguments.len() != params.len() {
-        return Some(Cause::ArgumentCount {
+        return Some(ArgumentCause::ArgumentCount {
             succ,
             passed: arguments.len(),
             wanted: params.len(),
@@ -161,7 +167,7 @@ fn passed_cause(succ: usize, arguments: &[u32], params: &[u32]) -> Option<Cause>
     for k in 0..arguments.len() {
         if let (Some(passed), Some(wanted)) = (vreg_of(arguments[k]), vreg_of(params[k])) {
             if passed.class() != wanted.class() {
-                return Some(Cause::ArgumentClass {
+                return Some(ArgumentCause::ArgumentClass {
                     succ,
                     passed,
                     wanted,
@@ -183,7 +189,7 @@ pub(crate) fn branch_cause(function: &StoredFunction, inst: usize) -> (Cause, Si
         let succ = *succ as usize;
         let params = list_at(function.block_params_in.as_slice(), succ);
         if let Some(cause) = passed_cause(succ, arguments_of(function, block, position), params) {
-            return (cause, site);
+            return (Cause::Argument(cause), site);
         }
     }
     (Cause::Other, site)
@@ -199,12 +205,12 @@ pub(crate) fn disallowed_branch_arg_cause(function: &StoredFunction, inst: usize
         let succ = *succ as usize;
         let ways = ways_into(function, succ);
         if ways > 1 {
-            let cause = Cause::BranchOperands {
+            let cause = Cause::Edge(EdgeCause::BranchOperands {
                 inst,
                 operands: operands_at(function, inst).len(),
                 succ,
                 ways,
-            };
+            });
             return (cause, site);
         }
     }
@@ -215,5 +221,8 @@ pub(crate) fn disallowed_branch_arg_cause(function: &StoredFunction, inst: usize
 pub(crate) fn entry_livein_cause(function: &StoredFunction) -> (Cause, Site) {
     let entry = function.entry_block as usize;
     let count = list_at(function.block_params_in.as_slice(), entry).len();
-    (Cause::EntryParams { count }, Site::Block(entry))
+    (
+        Cause::Argument(ArgumentCause::EntryParams { count }),
+        Site::Block(entry),
+    )
 }

@@ -1,6 +1,6 @@
 //! Invalid definitions and uses.
 
-use crate::explain::cause::{Cause, Site};
+use crate::explain::cause::{Site, VRegCause};
 use crate::explain::stored::{operands_at, range_of};
 use crate::named::{list_at, operand_of, vreg_of};
 use regalloc2_index::Inst;
@@ -93,21 +93,21 @@ pub(crate) fn ssa_cause(
     function: &StoredFunction,
     vreg: VReg,
     inst: Inst,
-) -> (Cause, Site, Option<Site>) {
+) -> (VRegCause, Site, Option<Site>) {
     let Definitions { first, second } = definitions_of(function, vreg.vreg());
     if let (Some((before, _)), Some((again, vreg))) = (first, second) {
-        return (Cause::DefinedTwice { vreg }, again, Some(before));
+        return (VRegCause::DefinedTwice { vreg }, again, Some(before));
     }
     let read = read_site(function, vreg, inst);
     let Some((site, defined)) = first else {
-        return (Cause::Undefined { vreg }, read, None);
+        return (VRegCause::Undefined { vreg }, read, None);
     };
     let count = function.num_vregs;
     if vreg.vreg() as u64 >= count {
-        return (Cause::PastCount { vreg, count }, site, None);
+        return (VRegCause::PastCount { vreg, count }, site, None);
     }
     if defined != vreg {
-        return (Cause::OtherClass { vreg, defined }, read, Some(site));
+        return (VRegCause::OtherClass { vreg, defined }, read, Some(site));
     }
-    (Cause::UsedEarly { vreg }, read, Some(site))
+    (VRegCause::UsedEarly { vreg }, read, Some(site))
 }

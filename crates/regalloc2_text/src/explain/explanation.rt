@@ -1,6 +1,6 @@
 //! Why a function is rejected, with the lines of the text that show it.
 
-use crate::explain::cause::{Cause, Site};
+use crate::explain::cause::{Cause, CountCause, Site};
 use crate::explain::pressure::{
     count_in_any, count_named, first_allocated_in, is_in_any, live_regs_cause, names_allocated,
     spare,
@@ -27,7 +27,7 @@ pub struct Explanation {
 }
 
 impl Explanation {
-    /// An explanation of a cause at a site, which are `found`.
+    /// Returns an explanation of a cause at a site, which are `found`.
     fn of(found: (Cause, Site)) -> Explanation {
         let (cause, site) = found;
         Explanation {
@@ -47,7 +47,7 @@ pub fn explain(function: &StoredFunction, error: &RegAllocError) -> Explanation 
         RegAllocError::SSA(vreg, inst) => {
             let (cause, site, against) = definitions::ssa_cause(function, *vreg, *inst);
             return Explanation {
-                cause,
+                cause: Cause::VReg(cause),
                 site,
                 against,
             };
@@ -65,11 +65,14 @@ pub fn explain(function: &StoredFunction, error: &RegAllocError) -> Explanation 
             inst.index(),
         ),
         RegAllocError::TooManyLiveRegs => live_regs_cause(function),
-        RegAllocError::TooManyOperands => (Cause::ManyOperands, Site::Function),
+        RegAllocError::TooManyOperands => (Cause::Count(CountCause::ManyOperands), Site::Function),
         RegAllocError::Unsupported(inst) => operands::unsupported_cause(function, inst.index()),
         RegAllocError::TooManySpillSlots => {
             let vregs = function.num_vregs;
-            (Cause::ManySlots { vregs }, Site::Function)
+            (
+                Cause::Count(CountCause::ManySlots { vregs }),
+                Site::Function,
+            )
         }
         RegAllocError::Memory => (Cause::Other, Site::Function),
     };
@@ -179,7 +182,7 @@ impl Explanation {
         if let Some(line) = source.find(self.site) {
             writeln!(to, "  {line}")?;
         }
-        if let Cause::Registers { inst, class, .. } = cause {
+        if let Cause::Count(CountCause::Registers { inst, class, .. }) = cause {
             write_needs(function, inst, class, to)?;
         }
         if let Some(line) = self.against.and_then(|site| source.find(site)) {

@@ -2,7 +2,9 @@
 
 use crate::explain::blocks::end_of;
 use crate::explain::cause::Site;
-use crate::explain::faults::StoredCause;
+use crate::explain::stored_cause::{
+    EncodingCause, IndexCause, LengthCause, OutputCause, StoredCause,
+};
 use crate::named::list_at;
 use regalloc2_function::StoredOutput;
 use regalloc2_serialize::StoredFunction;
@@ -28,20 +30,31 @@ fn place_site(output: &StoredOutput, index: usize) -> Site {
     site
 }
 
+impl EncodingCause {
+    /// Returns the block, instruction or operand of `function` that has the encoding or index, or the function.
+    fn site(self, function: &StoredFunction) -> Site {
+        match self {
+            Self::VRegWord { block, word, .. } => {
+                number_site(function, function.block_params_in.as_slice(), block, word)
+            }
+            Self::OperandWord { inst, operand, .. } => Site::Operand(inst, operand),
+            Self::Clobber { inst, .. } => Site::Inst(inst),
+            Self::Register { .. } | Self::LabelWord { .. } => Site::Function,
+        }
+    }
+}
+
 impl StoredCause {
     /// Returns the block, instruction or operand of `function` that the cause is about, or the function. Linear in
     /// the numbers of a block.
     pub fn site(&self, function: &StoredFunction) -> Site {
         match *self {
-            Self::Neighbour { block, named, .. } => {
+            Self::Length(LengthCause::ArgumentLists { block, .. })
+            | Self::Index(IndexCause::Range { block, .. }) => Site::Block(block),
+            Self::Index(IndexCause::Neighbour { block, named, .. }) => {
                 number_site(function, function.block_preds.as_slice(), block, named)
             }
-            Self::VRegWord { block, word, .. } => {
-                number_site(function, function.block_params_in.as_slice(), block, word)
-            }
-            Self::ArgumentLists { block, .. } | Self::Range { block, .. } => Site::Block(block),
-            Self::OperandWord { inst, operand, .. } => Site::Operand(inst, operand),
-            Self::Clobber { inst, .. } => Site::Inst(inst),
+            Self::Encoding(cause) => cause.site(function),
             _ => Site::Function,
         }
     }
@@ -49,8 +62,8 @@ impl StoredCause {
     /// Returns the operand or move of `output` that the cause is about, or the function. Linear in the instructions.
     pub fn output_site(&self, output: &StoredOutput) -> Site {
         match *self {
-            Self::Place { index, .. } => place_site(output, index),
-            Self::Move { index } => Site::Move(index),
+            Self::Output(OutputCause::Place { index, .. }) => place_site(output, index),
+            Self::Output(OutputCause::Move { index }) => Site::Move(index),
             _ => Site::Function,
         }
     }

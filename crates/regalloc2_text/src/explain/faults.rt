@@ -1,308 +1,21 @@
-//! Why stored numbers name no function or output.
+//! Why stored numbers name no function or output: the search for the cause of an error.
 
-ghost use Rattle.std.specs.Prelude.{Some};
-ghost use Rattle.std.specs.Fmt.{WritesOnOk};
-ghost use Rattle.regalloc2_text.specs.Explain.FaultGroup.{IsIndexCause, IsLengthCause, IsLimitCause, IsOutputCause, IsWordCause};
-ghost use Rattle.regalloc2_text.specs.Explain.FaultText.{stored_cause_text};
-
-use crate::explain::stored::{ClassName, Counted};
+use crate::explain::stored_cause::{
+    EncodingCause, IndexCause, LengthCause, LimitCause, OutputCause, StoredCause,
+};
 use crate::named::register_of;
 use regalloc2_function::{StoredFault, StoredOutput};
-use regalloc2_names::{Allocation, CLASSES, Operand, PReg, ProgPoint, RegClass, VReg};
+use regalloc2_names::{Allocation, CLASSES, Operand, ProgPoint, VReg};
 use regalloc2_serialize::limits::{BLOCK_LIMIT, INST_LIMIT, LARGEST_SLOT, VREG_LIMIT};
 use regalloc2_serialize::{StoredFunction, StoredInst, StoredMachine};
-use std::fmt;
-
-/// What is wrong with stored numbers: each variant is one of the several causes of an error.
-#[derive(Clone, Copy)]
-pub enum StoredCause {
-    /// A list by block has another length than there are blocks.
-    BlockList {
-        list: &'static str,
-        count: usize,
-        blocks: usize,
-    },
-    /// A block has another number of lists of arguments than successors.
-    ArgumentLists {
-        block: usize,
-        lists: usize,
-        succs: usize,
-    },
-    /// A list by class has another length than there are classes.
-    ClassList {
-        list: &'static str,
-        count: usize,
-    },
-    /// The entry isn't a block.
-    Entry {
-        entry: u32,
-        blocks: usize,
-    },
-    /// A block lists a predecessor or a successor that isn't a block.
-    Neighbour {
-        block: usize,
-        role: &'static str,
-        named: u32,
-        blocks: usize,
-    },
-    /// A block's range is descending, or ends past the instructions.
-    Range {
-        block: usize,
-        first: u32,
-        end: u32,
-        insts: usize,
-    },
-    /// A label is of a vreg that is not below the function's count.
-    LabelPastCount {
-        label: usize,
-        number: u32,
-        count: u64,
-    },
-    /// A list of registers has an invalid index.
-    Register {
-        list: &'static str,
-        index: u8,
-    },
-    /// An operand's encoding is invalid.
-    OperandWord {
-        inst: usize,
-        operand: usize,
-        word: u64,
-    },
-    /// An instruction clobbers an invalid register index.
-    Clobber {
-        inst: usize,
-        index: u8,
-    },
-    /// A parameter's or argument's encoding isn't that of a vreg.
-    VRegWord {
-        block: usize,
-        role: &'static str,
-        word: u32,
-    },
-    /// A label's encoding isn't that of a vreg.
-    LabelWord {
-        label: usize,
-        word: u32,
-    },
-    /// There are 2^30 instructions or vregs, or 2^32 - 1 blocks, or more.
-    TooMany {
-        count: u64,
-        what: &'static str,
-        limit: &'static str,
-    },
-    /// The size of a class's slots isn't a power of two up to 2^24.
-    SlotSize {
-        class: RegClass,
-        size: u64,
-    },
-    /// The encoding of a move's point or place is invalid.
-    Move {
-        index: usize,
-    },
-    /// The encoding of an operand's place is invalid.
-    Place {
-        index: usize,
-        word: u32,
-    },
-    /// The encoding of a debug location's point or place is invalid.
-    Location {
-        index: usize,
-    },
-    /// The error has only one cause.
-    Known(StoredFault),
-}
-
-impl StoredCause {
-    /// Writes what is wrong with the length of a list.
-    fn write_length<W: fmt::Write>(&self, f: &mut fmt::Formatter<W>) -> fmt::Result
-        requires { IsLengthCause self.now }
-        ensures { WritesOnOk W.write_str_gives f.old result (stored_cause_text self.now) f.new }
-    {
-        match *self {
-            Self::BlockList {
-                list,
-                count,
-                blocks,
-            } => {
-                let (count, blocks) = (Counted(count, "member"), Counted(blocks, "block"));
-                write!(f, "{list} has {count} for {blocks}")
-            }
-            Self::ArgumentLists {
-                block,
-                lists,
-                succs,
-            } => {
-                let (lists, succs) = (Counted(lists, "list"), Counted(succs, "successor"));
-                write!(f, "block{block} has {lists} of arguments for {succs}")
-            }
-            Self::ClassList { list, count } => {
-                let count = Counted(count, "member");
-                write!(f, "{list} has {count} for 3 classes")
-            }
-            _ => unreachable!(),
-        }
-    }
-
-    /// Writes what is wrong with a number that is out of range.
-    fn write_index<W: fmt::Write>(&self, f: &mut fmt::Formatter<W>) -> fmt::Result
-        requires { IsIndexCause self.now }
-        ensures { WritesOnOk W.write_str_gives f.old result (stored_cause_text self.now) f.new }
-    {
-        match *self {
-            Self::Entry { entry, blocks } => write!(
-                f,
-                "the entry is block{entry}, and the function has {}",
-                Counted(blocks, "block")
-            ),
-            Self::Neighbour {
-                block,
-                role,
-                named,
-                blocks,
-            } => write!(
-                f,
-                "block{block} lists block{named} as a {role}, and the function has {}",
-                Counted(blocks, "block")
-            ),
-            Self::Range {
-                block,
-                first,
-                end,
-                insts,
-            } => write!(
-                f,
-                "block{block} goes from instruction {first} up to {end} of {insts}"
-            ),
-            Self::LabelPastCount {
-                label,
-                number,
-                count,
-            } => write!(
-                f,
-                "label {label}, counted from 0, is of v{number}, and only numbers below {count} are defined"
-            ),
-            _ => unreachable!(),
-        }
-    }
-
-    /// Writes which encoding or index names nothing.
-    fn write_word<W: fmt::Write>(&self, f: &mut fmt::Formatter<W>) -> fmt::Result
-        requires { IsWordCause self.now }
-        ensures { WritesOnOk W.write_str_gives f.old result (stored_cause_text self.now) f.new }
-    {
-        match *self {
-            Self::Register { list, index } => {
-                write!(f, "{list} has {index}, which is no register's index")
-            }
-            Self::OperandWord {
-                inst,
-                operand,
-                word,
-            } => write!(
-                f,
-                "operand {operand} of inst{inst}, counted from 0, is {word}, which is no operand's word"
-            ),
-            Self::Clobber { inst, index } => {
-                write!(
-                    f,
-                    "inst{inst} clobbers {index}, which is no register's index"
-                )
-            }
-            Self::VRegWord { block, role, word } => {
-                write!(
-                    f,
-                    "block{block} has {word} as {role}, which is no virtual register's word"
-                )
-            }
-            Self::LabelWord { label, word } => write!(
-                f,
-                "label {label}, counted from 0, is of {word}, which is no virtual register's word"
-            ),
-            _ => unreachable!(),
-        }
-    }
-
-    /// Writes which limit is exceeded.
-    fn write_limit<W: fmt::Write>(&self, f: &mut fmt::Formatter<W>) -> fmt::Result
-        requires { IsLimitCause self.now }
-        ensures { WritesOnOk W.write_str_gives f.old result (stored_cause_text self.now) f.new }
-    {
-        match *self {
-            Self::TooMany { count, what, limit } => {
-                write!(f, "there are {count} {what}, and the limit is {limit}")
-            }
-            Self::SlotSize { class, size } => {
-                let class = ClassName(class);
-                write!(
-                    f,
-                    "a slot of the class {class} takes {size} units, which is no power of two from 1 to 2^24"
-                )
-            }
-            _ => unreachable!(),
-        }
-    }
-
-    /// Writes what is wrong with an output.
-    fn write_output<W: fmt::Write>(&self, f: &mut fmt::Formatter<W>) -> fmt::Result
-        requires { IsOutputCause self.now }
-        ensures { WritesOnOk W.write_str_gives f.old result (stored_cause_text self.now) f.new }
-    {
-        match *self {
-            Self::Move { index } => {
-                write!(
-                    f,
-                    "move {index}, counted from 0, has a word of no point or place"
-                )
-            }
-            Self::Place { index, word } => {
-                write!(
-                    f,
-                    "place {index}, counted from 0, is {word}, which is no place's word"
-                )
-            }
-            Self::Location { index } => {
-                write!(
-                    f,
-                    "debug location {index}, counted from 0, has a word of no point or place"
-                )
-            }
-            _ => unreachable!(),
-        }
-    }
-}
-
-/// As `block1 lists block7 as a successor, and the function has 3 blocks`.
-impl fmt::Display for StoredCause {
-    ghost output = { λ c. Some (stored_cause_text c) };
-
-    fn fmt<W: fmt::Write>(&self, f: &mut fmt::Formatter<W>) -> fmt::Result {
-        match *self {
-            Self::BlockList { .. } | Self::ArgumentLists { .. } | Self::ClassList { .. } =>
-                self.write_length(f),
-            Self::Entry { .. }
-            | Self::Neighbour { .. }
-            | Self::Range { .. }
-            | Self::LabelPastCount { .. } => self.write_index(f),
-            Self::Register { .. }
-            | Self::OperandWord { .. }
-            | Self::Clobber { .. }
-            | Self::VRegWord { .. }
-            | Self::LabelWord { .. } => self.write_word(f),
-            Self::TooMany { .. } | Self::SlotSize { .. } => self.write_limit(f),
-            Self::Move { .. } | Self::Place { .. } | Self::Location { .. } => self.write_output(f),
-            Self::Known(fault) => write!(f, "{fault}"),
-        }
-    }
-}
 
 /// Returns the cause if a block of `function` has another number of lists of arguments than successors.
-fn argument_lists_cause(function: &StoredFunction) -> Option<StoredCause> {
+fn argument_lists_cause(function: &StoredFunction) -> Option<LengthCause> {
     let (arguments, succs) = (&function.block_params_out, &function.block_succs);
     for block in 0..arguments.len().min(succs.len()) {
         let (lists, succs) = (arguments[block].len(), succs[block].len());
         if lists != succs {
-            return Some(StoredCause::ArgumentLists {
+            return Some(LengthCause::ArgumentLists {
                 block,
                 lists,
                 succs,
@@ -313,7 +26,7 @@ fn argument_lists_cause(function: &StoredFunction) -> Option<StoredCause> {
 }
 
 /// Returns the cause if a list of `function` has a wrong length.
-fn lengths_cause(function: &StoredFunction) -> Option<StoredCause> {
+fn lengths_cause(function: &StoredFunction) -> Option<LengthCause> {
     let blocks = function.blocks.len();
     let lists = [
         ("block_preds", function.block_preds.len()),
@@ -323,7 +36,7 @@ fn lengths_cause(function: &StoredFunction) -> Option<StoredCause> {
     ];
     for (list, count) in lists {
         if count != blocks {
-            return Some(StoredCause::BlockList {
+            return Some(LengthCause::BlockList {
                 list,
                 count,
                 blocks,
@@ -334,7 +47,7 @@ fn lengths_cause(function: &StoredFunction) -> Option<StoredCause> {
 }
 
 /// Returns the cause if a list by class of `function` doesn't have an item for each class.
-fn class_lists_cause(function: &StoredFunction) -> Option<StoredCause> {
+fn class_lists_cause(function: &StoredFunction) -> Option<LengthCause> {
     let machine = &function.machine_env;
     let lists = [
         (
@@ -350,7 +63,7 @@ fn class_lists_cause(function: &StoredFunction) -> Option<StoredCause> {
     ];
     for (list, count) in lists {
         if count != 3 {
-            return Some(StoredCause::ClassList { list, count });
+            return Some(LengthCause::ClassList { list, count });
         }
     }
     None
@@ -363,10 +76,10 @@ fn first_past(list: &[u32], blocks: usize) -> Option<u32> {
 
 /// Returns the cause if one of `lists`, the blocks' neighbours in the role `role`, has a number that is no number of
 /// one of `blocks` blocks.
-fn neighbours_cause(lists: &[Vec<u32>], role: &'static str, blocks: usize) -> Option<StoredCause> {
+fn neighbours_cause(lists: &[Vec<u32>], role: &'static str, blocks: usize) -> Option<IndexCause> {
     for (block, list) in lists.iter().enumerate() {
         if let Some(named) = first_past(list.as_slice(), blocks) {
-            return Some(StoredCause::Neighbour {
+            return Some(IndexCause::Neighbour {
                 block,
                 role,
                 named,
@@ -378,10 +91,10 @@ fn neighbours_cause(lists: &[Vec<u32>], role: &'static str, blocks: usize) -> Op
 }
 
 /// Returns the cause if one of `ranges` is descending, or ends past the first `insts` instructions.
-fn ranges_cause(ranges: &[(u32, u32)], insts: usize) -> Option<StoredCause> {
+fn ranges_cause(ranges: &[(u32, u32)], insts: usize) -> Option<IndexCause> {
     for (block, (first, end)) in ranges.iter().enumerate() {
         if first > end || *end as usize > insts {
-            return Some(StoredCause::Range {
+            return Some(IndexCause::Range {
                 block,
                 first: *first,
                 end: *end,
@@ -393,11 +106,11 @@ fn ranges_cause(ranges: &[(u32, u32)], insts: usize) -> Option<StoredCause> {
 }
 
 /// Returns the cause if one of `labels` is of a vreg whose number isn't below `count`.
-fn label_counts_cause(labels: &[(u32, u32, u32, u32)], count: u64) -> Option<StoredCause> {
+fn label_counts_cause(labels: &[(u32, u32, u32, u32)], count: u64) -> Option<IndexCause> {
     for (label, (word, _, _, _)) in labels.iter().enumerate() {
         let number = VReg::number_of_bits(*word);
         if u64::from(number) >= count {
-            return Some(StoredCause::LabelPastCount {
+            return Some(IndexCause::LabelPastCount {
                 label,
                 number,
                 count,
@@ -408,11 +121,11 @@ fn label_counts_cause(labels: &[(u32, u32, u32, u32)], count: u64) -> Option<Sto
 }
 
 /// Returns the cause if the number of a block, an instruction or a labelled vreg of `function` is out of range.
-fn index_cause(function: &StoredFunction) -> Option<StoredCause> {
+fn index_cause(function: &StoredFunction) -> Option<IndexCause> {
     let (blocks, insts) = (function.blocks.len(), function.insts.len());
     let entry = function.entry_block;
     if entry as usize >= blocks {
-        return Some(StoredCause::Entry { entry, blocks });
+        return Some(IndexCause::Entry { entry, blocks });
     }
     neighbours_cause(function.block_preds.as_slice(), "predecessor", blocks)
         .or_else(|| neighbours_cause(function.block_succs.as_slice(), "successor", blocks))
@@ -431,35 +144,35 @@ fn first_unnamed(indexes: &[u8]) -> Option<u8> {
 }
 
 /// Returns the cause if one of `indexes`, the list with the name `list`, is no index of a register.
-fn register_cause(list: &'static str, indexes: &[u8]) -> Option<StoredCause> {
+fn register_cause(list: &'static str, indexes: &[u8]) -> Option<EncodingCause> {
     let index = first_unnamed(indexes)?;
-    Some(StoredCause::Register { list, index })
+    Some(EncodingCause::Register { list, index })
 }
 
 /// Returns the cause if one of `lists`, which have the name `list`, has an item that is no index of a register.
-fn register_lists_cause(list: &'static str, lists: &[Vec<u8>]) -> Option<StoredCause> {
+fn register_lists_cause(list: &'static str, lists: &[Vec<u8>]) -> Option<EncodingCause> {
     for indexes in lists {
         if let Some(index) = first_unnamed(indexes.as_slice()) {
-            return Some(StoredCause::Register { list, index });
+            return Some(EncodingCause::Register { list, index });
         }
     }
     None
 }
 
 /// Returns the cause if one of `indexes`, the scratch registers by class, is no index of a register.
-fn scratch_cause(indexes: &[Option<u8>]) -> Option<StoredCause> {
+fn scratch_cause(indexes: &[Option<u8>]) -> Option<EncodingCause> {
     let list = "scratch_by_class";
     for index in indexes {
         let Some(index) = *index else { continue };
         if register_of(index).is_none() {
-            return Some(StoredCause::Register { list, index });
+            return Some(EncodingCause::Register { list, index });
         }
     }
     None
 }
 
 /// Returns the cause if a number of `machine` is no index of a register.
-fn machine_cause(machine: &StoredMachine) -> Option<StoredCause> {
+fn machine_cause(machine: &StoredMachine) -> Option<EncodingCause> {
     let preferred = machine.preferred_regs_by_class.as_slice();
     let others = machine.non_preferred_regs_by_class.as_slice();
     register_lists_cause("preferred_regs_by_class", preferred)
@@ -469,10 +182,10 @@ fn machine_cause(machine: &StoredMachine) -> Option<StoredCause> {
 }
 
 /// Returns the cause if an encoding or an index in `data`, instruction `inst`, names nothing.
-fn inst_cause(inst: usize, data: &StoredInst) -> Option<StoredCause> {
+fn inst_cause(inst: usize, data: &StoredInst) -> Option<EncodingCause> {
     for (operand, word) in data.operands.iter().enumerate() {
         if !Operand::is_bits(*word) {
-            return Some(StoredCause::OperandWord {
+            return Some(EncodingCause::OperandWord {
                 inst,
                 operand,
                 word: *word,
@@ -480,14 +193,14 @@ fn inst_cause(inst: usize, data: &StoredInst) -> Option<StoredCause> {
         }
     }
     let index = first_unnamed(data.clobbers.as_slice())?;
-    Some(StoredCause::Clobber { inst, index })
+    Some(EncodingCause::Clobber { inst, index })
 }
 
 /// Returns the cause if one of `words`, which `block` has as `role`, encodes no vreg.
-fn vregs_cause(block: usize, role: &'static str, words: &[u32]) -> Option<StoredCause> {
+fn vregs_cause(block: usize, role: &'static str, words: &[u32]) -> Option<EncodingCause> {
     for word in words {
         if !VReg::is_bits(*word) {
-            return Some(StoredCause::VRegWord {
+            return Some(EncodingCause::VRegWord {
                 block,
                 role,
                 word: *word,
@@ -498,7 +211,7 @@ fn vregs_cause(block: usize, role: &'static str, words: &[u32]) -> Option<Stored
 }
 
 /// Returns the cause if an encoding or an index of one of `insts` names nothing.
-fn insts_cause(insts: &[StoredInst]) -> Option<StoredCause> {
+fn insts_cause(insts: &[StoredInst]) -> Option<EncodingCause> {
     for (inst, data) in insts.iter().enumerate() {
         if let Some(cause) = inst_cause(inst, data) {
             return Some(cause);
@@ -508,7 +221,7 @@ fn insts_cause(insts: &[StoredInst]) -> Option<StoredCause> {
 }
 
 /// Returns the cause if a parameter among `lists`, a list for each block, encodes no vreg.
-fn params_cause(lists: &[Vec<u32>]) -> Option<StoredCause> {
+fn params_cause(lists: &[Vec<u32>]) -> Option<EncodingCause> {
     for (block, words) in lists.iter().enumerate() {
         if let Some(cause) = vregs_cause(block, "a parameter", words.as_slice()) {
             return Some(cause);
@@ -518,7 +231,7 @@ fn params_cause(lists: &[Vec<u32>]) -> Option<StoredCause> {
 }
 
 /// Returns the cause if an argument that `block` passes, among `passed`, encodes no vreg.
-fn block_arguments_cause(block: usize, passed: &[Vec<u32>]) -> Option<StoredCause> {
+fn block_arguments_cause(block: usize, passed: &[Vec<u32>]) -> Option<EncodingCause> {
     for words in passed {
         if let Some(cause) = vregs_cause(block, "an argument", words.as_slice()) {
             return Some(cause);
@@ -528,7 +241,7 @@ fn block_arguments_cause(block: usize, passed: &[Vec<u32>]) -> Option<StoredCaus
 }
 
 /// Returns the cause if an argument among `lists`, the lists of each block, encodes no vreg.
-fn arguments_cause(lists: &[Vec<Vec<u32>>]) -> Option<StoredCause> {
+fn arguments_cause(lists: &[Vec<Vec<u32>>]) -> Option<EncodingCause> {
     for (block, passed) in lists.iter().enumerate() {
         if let Some(cause) = block_arguments_cause(block, passed.as_slice()) {
             return Some(cause);
@@ -538,17 +251,17 @@ fn arguments_cause(lists: &[Vec<Vec<u32>>]) -> Option<StoredCause> {
 }
 
 /// Returns the cause if the word of one of `labels` encodes no vreg.
-fn label_words_cause(labels: &[(u32, u32, u32, u32)]) -> Option<StoredCause> {
+fn label_words_cause(labels: &[(u32, u32, u32, u32)]) -> Option<EncodingCause> {
     for (label, (word, _, _, _)) in labels.iter().enumerate() {
         if !VReg::is_bits(*word) {
-            return Some(StoredCause::LabelWord { label, word: *word });
+            return Some(EncodingCause::LabelWord { label, word: *word });
         }
     }
     None
 }
 
 /// Returns the cause if an encoding of `function` names nothing.
-fn bits_cause(function: &StoredFunction) -> Option<StoredCause> {
+fn bits_cause(function: &StoredFunction) -> Option<EncodingCause> {
     machine_cause(&function.machine_env)
         .or_else(|| insts_cause(function.insts.as_slice()))
         .or_else(|| params_cause(function.block_params_in.as_slice()))
@@ -557,10 +270,10 @@ fn bits_cause(function: &StoredFunction) -> Option<StoredCause> {
 }
 
 /// Returns the cause if one of `sizes`, by class, isn't a power of two from 1 to 2^24.
-fn slot_sizes_cause(sizes: &[u64]) -> Option<StoredCause> {
+fn slot_sizes_cause(sizes: &[u64]) -> Option<LimitCause> {
     for (class, size) in CLASSES.iter().zip(sizes) {
         if *size > LARGEST_SLOT as u64 || !size.is_power_of_two() {
-            return Some(StoredCause::SlotSize {
+            return Some(LimitCause::SlotSize {
                 class: *class,
                 size: *size,
             });
@@ -570,7 +283,7 @@ fn slot_sizes_cause(sizes: &[u64]) -> Option<StoredCause> {
 }
 
 /// Returns the cause if `function` exceeds a limit.
-fn limits_cause(function: &StoredFunction) -> Option<StoredCause> {
+fn limits_cause(function: &StoredFunction) -> Option<LimitCause> {
     let limits = [
         (
             function.insts.len() as u64,
@@ -593,7 +306,7 @@ fn limits_cause(function: &StoredFunction) -> Option<StoredCause> {
     ];
     for (count, bound, what, limit) in limits {
         if count >= bound {
-            return Some(StoredCause::TooMany { count, what, limit });
+            return Some(LimitCause::TooMany { count, what, limit });
         }
     }
     slot_sizes_cause(function.spillslot_size.as_slice())
@@ -602,49 +315,49 @@ fn limits_cause(function: &StoredFunction) -> Option<StoredCause> {
 /// Returns the cause of the error `fault` in `function`. Linear in the function.
 pub fn explain_function(function: &StoredFunction, fault: StoredFault) -> StoredCause {
     let found = match fault {
-        StoredFault::Lengths => lengths_cause(function),
-        StoredFault::Index => index_cause(function),
-        StoredFault::Bits => bits_cause(function),
-        StoredFault::Limit => limits_cause(function),
+        StoredFault::Lengths => lengths_cause(function).map(StoredCause::Length),
+        StoredFault::Index => index_cause(function).map(StoredCause::Index),
+        StoredFault::Bits => bits_cause(function).map(StoredCause::Encoding),
+        StoredFault::Limit => limits_cause(function).map(StoredCause::Limit),
         StoredFault::Memory | StoredFault::Shape => None,
     };
     found.unwrap_or(StoredCause::Known(fault))
 }
 
 /// Returns the cause if an encoding in one of `moves` names nothing.
-fn moves_cause(moves: &[(u32, u32, u32)]) -> Option<StoredCause> {
+fn moves_cause(moves: &[(u32, u32, u32)]) -> Option<OutputCause> {
     for (index, (point, from, to)) in moves.iter().enumerate() {
         let are_places = Allocation::is_bits(*from) && Allocation::is_bits(*to);
         if !ProgPoint::is_index(*point) || !are_places {
-            return Some(StoredCause::Move { index });
+            return Some(OutputCause::Move { index });
         }
     }
     None
 }
 
 /// Returns the cause if one of `places` encodes no place.
-fn places_cause(places: &[u32]) -> Option<StoredCause> {
+fn places_cause(places: &[u32]) -> Option<OutputCause> {
     for (index, word) in places.iter().enumerate() {
         if !Allocation::is_bits(*word) {
-            return Some(StoredCause::Place { index, word: *word });
+            return Some(OutputCause::Place { index, word: *word });
         }
     }
     None
 }
 
 /// Returns the cause if an encoding in one of the debug locations `locations` names nothing.
-fn locations_cause(locations: &[(u32, u32, u32, u32)]) -> Option<StoredCause> {
+fn locations_cause(locations: &[(u32, u32, u32, u32)]) -> Option<OutputCause> {
     for (index, (_, from, until, place)) in locations.iter().enumerate() {
         let are_points = ProgPoint::is_index(*from) && ProgPoint::is_index(*until);
         if !are_points || !Allocation::is_bits(*place) {
-            return Some(StoredCause::Location { index });
+            return Some(OutputCause::Location { index });
         }
     }
     None
 }
 
 /// Returns the cause if an encoding of `output` names nothing.
-fn output_bits_cause(output: &StoredOutput) -> Option<StoredCause> {
+fn output_bits_cause(output: &StoredOutput) -> Option<OutputCause> {
     moves_cause(output.edits.as_slice())
         .or_else(|| places_cause(output.allocs.as_slice()))
         .or_else(|| locations_cause(output.debug_locations.as_slice()))
@@ -653,7 +366,7 @@ fn output_bits_cause(output: &StoredOutput) -> Option<StoredCause> {
 /// Returns the cause of the error `fault` in `output`. Linear in the output.
 pub fn explain_output(output: &StoredOutput, fault: StoredFault) -> StoredCause {
     let found = match fault {
-        StoredFault::Bits => output_bits_cause(output),
+        StoredFault::Bits => output_bits_cause(output).map(StoredCause::Output),
         _ => None,
     };
     found.unwrap_or(StoredCause::Known(fault))

@@ -1,19 +1,11 @@
 //! Operands of a form that the allocator doesn't support.
 
-use crate::explain::cause::{Cause, Site};
+use crate::explain::cause::{Cause, ConstraintCause, ReuseCause, Site};
 use crate::explain::stored::{is_allocatable, operands_at};
 use crate::named::{has_register, operand_of};
 use crate::spell::is_early_use;
-use regalloc2_names::{Operand, OperandConstraint, OperandKind, OperandPos};
+use regalloc2_names::{Operand, OperandConstraint};
 use regalloc2_serialize::{InstOpcode, StoredFunction};
-
-/// Returns the index of the operand that `operand` reuses, if it is a reuse.
-fn reused_index(operand: Operand) -> Option<usize> {
-    match operand.constraint() {
-        OperandConstraint::Reuse(index) => Some(index),
-        _ => None,
-    }
-}
 
 /// Returns whether the reuse `by` may take the place of `operand`.
 fn may_be_reused(function: &StoredFunction, by: Operand, operand: Operand) -> bool {
@@ -33,7 +25,7 @@ fn may_be_reused(function: &StoredFunction, by: Operand, operand: Operand) -> bo
 /// Returns whether `bits` encode an operand that reuses the operand at `index`.
 fn reuses(bits: u64, index: usize) -> bool {
     match operand_of(bits) {
-        Some(operand) => reused_index(operand) == Some(index),
+        Some(operand) => operand.reused_index() == Some(index),
         None => false,
     }
 }
@@ -54,14 +46,14 @@ fn reuse_cause(
     inst: usize,
     k: usize,
     operand: Operand,
-) -> Option<Cause> {
-    let index = reused_index(operand)?;
-    if operand.kind() != OperandKind::Def || operand.pos() != OperandPos::Late {
-        return Some(Cause::ReuseIsNoDef { inst });
+) -> Option<ReuseCause> {
+    let index = operand.reused_index()?;
+    if !operand.is_def() || !operand.is_late() {
+        return Some(ReuseCause::ReuseIsNoDef { inst });
     }
     let operands = operands_at(function, inst);
     let Some(bits) = operands.get(index) else {
-        return Some(Cause::ReusesNothing {
+        return Some(ReuseCause::ReusesNothing {
             inst,
             index,
             operands: operands.len(),
@@ -72,10 +64,10 @@ fn reuse_cause(
         None => false,
     };
     if !is_sound {
-        return Some(Cause::ReusesOther { inst, index });
+        return Some(ReuseCause::ReusesOther { inst, index });
     }
     if is_reused_before(operands, k, index) {
-        return Some(Cause::ReusedTwice { inst, index });
+        return Some(ReuseCause::ReusedTwice { inst, index });
     }
     None
 }
@@ -86,7 +78,7 @@ fn clobber_cause(
     inst: usize,
     k: usize,
     operand: Operand,
-) -> Option<Cause> {
+) -> Option<ConstraintCause> {
     let OperandConstraint::FixedReg(register) = operand.constraint() else {
         return None;
     };
@@ -95,16 +87,16 @@ fn clobber_cause(
     }
     match function.insts.get(inst) {
         Some(data) if has_register(data.clobbers.as_slice(), register) => {
-            Some(Cause::FixedClobbered { inst, register })
+            Some(ConstraintCause::FixedClobbered { inst, register })
         }
         _ => None,
     }
 }
 
 /// Returns the cause if `operand` has a limit constraint.
-fn limit_cause(inst: usize, operand: Operand) -> Option<Cause> {
+fn limit_cause(inst: usize, operand: Operand) -> Option<ConstraintCause> {
     match operand.constraint() {
-        OperandConstraint::Limit(_) => Some(Cause::Limited { inst }),
+        OperandConstraint::Limit(_) => Some(ConstraintCause::Limited { inst }),
         _ => None,
     }
 }
@@ -114,12 +106,14 @@ fn branch_definition_cause(
     function: &StoredFunction,
     inst: usize,
     operand: Operand,
-) -> Option<Cause> {
+) -> Option<ConstraintCause> {
     if function.insts.get(inst)?.op != InstOpcode::Branch || !operand.is_def() {
         return None;
     }
     match operand.constraint() {
-        OperandConstraint::Reg | OperandConstraint::Reuse(_) => Some(Cause::BranchDefines { inst }),
+        OperandConstraint::Reg | OperandConstraint::Reuse(_) => {
+            Some(ConstraintCause::BranchDefines { inst })
+        }
         _ => None,
     }
 }
@@ -143,10 +137,12 @@ impl Test {
         operand: Operand,
     ) -> Option<Cause> {
         match self {
-            Test::Reuses => reuse_cause(function, inst, k, operand),
-            Test::Clobbers => clobber_cause(function, inst, k, operand),
-            Test::Limits => limit_cause(inst, operand),
-            Test::Branches => branch_definition_cause(function, inst, operand),
+            Test::Reuses => reuse_cause(function, inst, k, operand).map(Cause::Reuse),
+            Test::Clobbers => clobber_cause(function, inst, k, operand).map(Cause::Constraint),
+            Test::Limits => limit_cause(inst, operand).map(Cause::Constraint),
+            Test::Branches => {
+                branch_definition_cause(function, inst, operand).map(Cause::Constraint)
+            }
         }
     }
 }

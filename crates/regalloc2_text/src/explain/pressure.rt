@@ -2,13 +2,11 @@
 //!
 //! An instruction fits as `Fits` says, in `specs/Fits.antt` of `regalloc2_semantics`.
 
-use crate::explain::cause::{Cause, Site};
+use crate::explain::cause::{Cause, ConstraintCause, CountCause, Site};
 use crate::explain::operands::is_reused;
 use crate::explain::stored::{is_allocatable, operands_at};
 use crate::named::{has_register, is_register_of, operand_of, vreg_of};
-use regalloc2_names::{
-    Operand, OperandConstraint, OperandKind, OperandPos, PReg, PRegSet, RegClass,
-};
+use regalloc2_names::{Operand, OperandConstraint, OperandPos, PReg, PRegSet, RegClass};
 use regalloc2_serialize::{StoredFunction, StoredInst};
 
 /// Returns the register that `operand` is fixed to, unless its register isn't allocated.
@@ -27,7 +25,7 @@ pub(crate) fn is_in_any(bits: u64, class: RegClass) -> bool {
     let Some(operand) = operand_of(bits) else {
         return false;
     };
-    operand.constraint() == OperandConstraint::Reg && operand.class() == class
+    operand.is_any_reg() && operand.class() == class
 }
 
 /// Returns how many of `operands` may be in any register of `class`.
@@ -187,7 +185,7 @@ impl Supply {
 }
 
 /// Returns the cause if `inst` needs more registers of the class of `supply` than the machine has.
-fn class_cause(function: &StoredFunction, inst: usize, supply: Supply) -> Option<Cause> {
+fn class_cause(function: &StoredFunction, inst: usize, supply: Supply) -> Option<CountCause> {
     let Supply {
         class,
         available,
@@ -208,7 +206,7 @@ fn class_cause(function: &StoredFunction, inst: usize, supply: Supply) -> Option
     if needed <= available {
         return None;
     }
-    Some(Cause::Registers {
+    Some(CountCause::Registers {
         inst,
         class,
         needed,
@@ -218,17 +216,11 @@ fn class_cause(function: &StoredFunction, inst: usize, supply: Supply) -> Option
 
 /// Returns whether `operand`, at the index `k` of `operands`, occupies its register at `pos`.
 fn holds_at(operands: &[u64], k: usize, operand: Operand, pos: OperandPos) -> bool {
-    let is_def = operand.kind() == OperandKind::Def;
-    let is_late = operand.pos() == OperandPos::Late;
+    let (is_def, is_late) = (operand.is_def(), operand.is_late());
     match pos {
-        OperandPos::Early => !(is_def && is_late) || is_reuse(operand),
+        OperandPos::Early => !(is_def && is_late) || operand.reused_index().is_some(),
         OperandPos::Late => is_def || is_late || is_reused(operands, k),
     }
-}
-
-/// Returns whether `operand` is a reuse.
-fn is_reuse(operand: Operand) -> bool {
-    matches!(operand.constraint(), OperandConstraint::Reuse(_))
 }
 
 /// The registers that fixed operands of an instruction occupy early and late.
@@ -257,7 +249,7 @@ impl Held {
 }
 
 /// Returns the cause if an operand of `inst` is fixed to a register that it can't get.
-fn fixed_cause(function: &StoredFunction, inst: usize) -> Option<(Cause, Site)> {
+fn fixed_cause(function: &StoredFunction, inst: usize) -> Option<(ConstraintCause, Site)> {
     let machine = &function.machine_env;
     let operands = operands_at(function, inst);
     let mut held = Held {
@@ -274,12 +266,15 @@ fn fixed_cause(function: &StoredFunction, inst: usize) -> Option<(Cause, Site)> 
         let is_slot = has_register(machine.fixed_stack_slots.as_slice(), register);
         if !is_slot && !is_allocatable(machine, register) {
             return Some((
-                Cause::NoSuchRegister { inst, register },
+                ConstraintCause::NoSuchRegister { inst, register },
                 Site::Operand(inst, k),
             ));
         }
         if held.clashes(operands, k, operand, register) {
-            return Some((Cause::FixedTwice { inst, register }, Site::Operand(inst, k)));
+            return Some((
+                ConstraintCause::FixedTwice { inst, register },
+                Site::Operand(inst, k),
+            ));
         }
     }
     None
@@ -293,7 +288,7 @@ fn count_cause(
 ) -> Option<(Cause, Site)> {
     for supply in supplies {
         if let Some(cause) = class_cause(function, inst, *supply) {
-            return Some((cause, Site::Inst(inst)));
+            return Some((Cause::Count(cause), Site::Inst(inst)));
         }
     }
     None
@@ -307,8 +302,8 @@ pub(crate) fn live_regs_cause(function: &StoredFunction) -> (Cause, Site) {
         Supply::of(function, RegClass::Vector),
     ];
     for inst in 0..function.insts.len() {
-        if let Some(found) = fixed_cause(function, inst) {
-            return found;
+        if let Some((cause, site)) = fixed_cause(function, inst) {
+            return (Cause::Constraint(cause), site);
         }
         if let Some(found) = count_cause(function, inst, &supplies) {
             return found;

@@ -46,7 +46,7 @@ impl fmt::Display for SourceLine<'_> {
     }
 }
 
-/// The bytes of a text before the byte index `at`, and the bytes from `at` on.
+/// Returns the bytes of a text before the byte index `at`, and the bytes from `at` on.
 fn split(text: &str, at: usize) -> (&str, &str) {
     text.split_at_checked(at).unwrap_or((text, ""))
 }

@@ -146,7 +146,7 @@ impl Search {
         Ok(path)
     }
 
-    /// The writes that are found, each with its path.
+    /// Returns the writes that are found, each with its path.
     fn writes(&self, alloc: Global) -> Result<Vec<WriteOnPath>, AllocError> {
         let mut writes = Vec::new(alloc);
         for (from, write) in self.writes.iter() {
@@ -183,8 +183,8 @@ fn search_back(
     Ok(search)
 }
 
-/// The last write of `place` in the block from instruction `first` on, before the use at `pos` of instruction `inst`
-/// reads it.
+/// Returns the last write of `place` in the block from instruction `first` on, before the use at `pos` of instruction
+/// `inst` reads it.
 fn last_in_block(
     function: &StoredFunction,
     output: &StoredOutput,
@@ -200,8 +200,8 @@ fn last_in_block(
     last_between(function, output, first, inst, point_after(inst), place)
 }
 
-/// The last writes of `place` before a use at `pos` of instruction `inst` reads it. `None` if no block holds the
-/// instruction.
+/// Returns the last writes of `place` before a use at `pos` of instruction `inst` reads it. `None` if no block holds
+/// the instruction.
 ///
 /// The output's moves are sorted by program point. Linear in the function and the output, with a
 /// binary search of the moves for each block. An error means out of memory.

@@ -25,7 +25,7 @@ pub(super) struct DraftBlock<A: Allocator> {
     args: Vec<Vec<u32, A>, A>,
 }
 
-/// Vregs in brackets, or none.
+/// Reads a list of vregs in brackets, and returns their encodings; empty if no bracket is next.
 fn vregs<A: Allocator>(alloc: A, cursor: &mut Cursor<'_, '_>) -> Vec<u32, A>
     ensures { tokens_left cursor.new ≤ tokens_left cursor.old }
 {
@@ -33,7 +33,7 @@ fn vregs<A: Allocator>(alloc: A, cursor: &mut Cursor<'_, '_>) -> Vec<u32, A>
     if !cursor.has("(") || cursor.has(")") {
         return vregs;
     }
-    'vregs: loop {
+    loop {
         let vreg = cursor.vreg_bits();
         cursor.push(&mut vregs, vreg);
         if !cursor.has(",") {
@@ -44,11 +44,11 @@ fn vregs<A: Allocator>(alloc: A, cursor: &mut Cursor<'_, '_>) -> Vec<u32, A>
     vregs
 }
 
-/// Reads numbers, and adds them to `numbers`.
+/// Reads one or more numbers between commas, and adds them to `numbers`.
 fn read_numbers<A: Allocator>(cursor: &mut Cursor<'_, '_>, numbers: &mut Vec<u32, A>)
     ensures { tokens_left cursor.new ≤ tokens_left cursor.old }
 {
-    'numbers: loop {
+    loop {
         let number = cursor.word();
         cursor.push(numbers, number);
         if !cursor.has(",") {
@@ -57,7 +57,7 @@ fn read_numbers<A: Allocator>(cursor: &mut Cursor<'_, '_>, numbers: &mut Vec<u32
     }
 }
 
-/// Numbers of blocks, or `none`.
+/// Reads one or more blocks between commas, and returns their numbers; empty for `none`.
 fn block_numbers<A: Allocator>(alloc: A, cursor: &mut Cursor<'_, '_>) -> Vec<u32, A>
     ensures { tokens_left cursor.new ≤ tokens_left cursor.old }
 {
@@ -65,7 +65,7 @@ fn block_numbers<A: Allocator>(alloc: A, cursor: &mut Cursor<'_, '_>) -> Vec<u32
     if cursor.has("none") {
         return numbers;
     }
-    'numbers: loop {
+    loop {
         let number = cursor.named("block", "a block");
         cursor.push(&mut numbers, number);
         if !cursor.has(",") {
@@ -76,7 +76,8 @@ fn block_numbers<A: Allocator>(alloc: A, cursor: &mut Cursor<'_, '_>) -> Vec<u32
 }
 
 impl<A: Allocator + Copy> DraftBlock<A> {
-    /// The block of a line whose number is to be `next`, before its instructions, of which `inst` is the first.
+    /// Reads a block's line, and returns the block without instructions. Its number has to be `next`, and `inst` is the
+    /// number of the next instruction.
     pub(super) fn read(alloc: A, cursor: &mut Cursor<'_, '_>, next: usize, inst: u32) -> Self {
         let number = cursor.named("block", "a block");
         if number as usize != next {
@@ -92,7 +93,7 @@ impl<A: Allocator + Copy> DraftBlock<A> {
             succs: Vec::new(alloc),
             args: Vec::new(alloc),
         };
-        'parts: while cursor.has(";") {
+        while cursor.has(";") {
             block.read_part(alloc, cursor);
         }
         cursor.want(":");
@@ -102,8 +103,8 @@ impl<A: Allocator + Copy> DraftBlock<A> {
         block
     }
 
-    /// Reads the successors and the predecessors behind a block's colon in a dump, after the first bracket: `[succs
-    /// [2, 3] preds [0]]`.
+    /// Reads the successors and the predecessors behind a block's colon in a dump, as `[succs [2, 3] preds [0]]`, after
+    /// the first bracket.
     fn read_neighbours(&mut self, alloc: A, cursor: &mut Cursor<'_, '_>) {
         if self.has_succs || self.preds.is_some() {
             cursor.misfit_before("each part once");
@@ -128,11 +129,11 @@ impl<A: Allocator + Copy> DraftBlock<A> {
         cursor.want(close);
     }
 
-    /// Reads the numbers of successors, each perhaps with its arguments.
+    /// Reads one or more numbers of successors between commas, each with its arguments in brackets, if it has any.
     fn read_numbered_targets(&mut self, alloc: A, cursor: &mut Cursor<'_, '_>)
         ensures { tokens_left cursor.new ≤ tokens_left cursor.old }
     {
-        'targets: loop {
+        loop {
             let succ = cursor.word();
             let args = vregs(alloc, cursor);
             cursor.push(&mut self.succs, succ);
@@ -143,7 +144,7 @@ impl<A: Allocator + Copy> DraftBlock<A> {
         }
     }
 
-    /// Reads a part of a block's line.
+    /// Reads a part of a block's line, after its semicolon: the range, the predecessors or the successors.
     fn read_part(&mut self, alloc: A, cursor: &mut Cursor<'_, '_>)
         ensures { tokens_left cursor.new ≤ tokens_left cursor.old }
     {
@@ -168,7 +169,7 @@ impl<A: Allocator + Copy> DraftBlock<A> {
         }
     }
 
-    /// Reads a successor and its arguments.
+    /// Reads a successor and its arguments, and adds them to the block's.
     fn read_target(&mut self, alloc: A, cursor: &mut Cursor<'_, '_>)
         ensures { tokens_left cursor.new ≤ tokens_left cursor.old }
     {
@@ -178,17 +179,17 @@ impl<A: Allocator + Copy> DraftBlock<A> {
         cursor.push(&mut self.args, args);
     }
 
-    /// Reads successors and their arguments.
+    /// Reads one or more successors between commas with their arguments, and adds them to the block's.
     fn read_targets(&mut self, alloc: A, cursor: &mut Cursor<'_, '_>)
         ensures { tokens_left cursor.new ≤ tokens_left cursor.old }
     {
         self.read_target(alloc, cursor);
-        'targets: while cursor.has(",") {
+        while cursor.has(",") {
             self.read_target(alloc, cursor);
         }
     }
 
-    /// No instruction before one whose opcode is read has the block's successors.
+    /// Notes an error if an instruction before the one whose opcode was read last has the block's successors.
     pub(super) fn want_unended(&self, cursor: &mut Cursor<'_, '_>)
         ensures { tokens_left cursor.new ≤ tokens_left cursor.old }
     {
@@ -197,7 +198,7 @@ impl<A: Allocator + Copy> DraftBlock<A> {
         }
     }
 
-    /// Reads the successors behind the opcode of an instruction of the block, where they are there.
+    /// Reads the successors behind the opcode of an instruction of the block, if there are any.
     pub(super) fn read_succs(&mut self, alloc: A, cursor: &mut Cursor<'_, '_>)
         ensures { tokens_left cursor.new ≤ tokens_left cursor.old }
     {
@@ -211,7 +212,7 @@ impl<A: Allocator + Copy> DraftBlock<A> {
         self.read_targets(alloc, cursor);
     }
 
-    /// Notes that instructions of the block go up to `end`, unless its line says its range.
+    /// Sets the end of the block's range to `end`, unless the block's line says the range.
     pub(super) fn extend(&mut self, end: u32) {
         if !self.has_range {
             self.range.1 = end;
@@ -221,7 +222,7 @@ impl<A: Allocator + Copy> DraftBlock<A> {
 
 /// What a function keeps of its blocks, list by list.
 #[derive(Drop)]
-pub(super) struct BlockLists<A: Allocator> {
+pub(super) struct ReadBlocks<A: Allocator> {
     pub(super) ranges: Vec<(u32, u32), A>,
     pub(super) preds: Vec<Vec<u32, A>, A>,
     pub(super) succs: Vec<Vec<u32, A>, A>,
@@ -243,7 +244,7 @@ fn add_pred<A: Allocator>(
     }
 }
 
-/// Returns the predecessors of each of `blocks`, as they follow from the successors.
+/// Returns the predecessors of each of `blocks`, which follow from the successors.
 fn default_preds<A: Allocator + Copy>(
     alloc: A,
     cursor: &mut Cursor<'_, '_>,
@@ -256,14 +257,14 @@ fn default_preds<A: Allocator + Copy>(
     preds
 }
 
-impl<A: Allocator + Copy> BlockLists<A> {
-    /// The lists of `blocks`.
+impl<A: Allocator + Copy> ReadBlocks<A> {
+    /// Returns the lists of `blocks`.
     pub(super) fn new(
         alloc: A,
         cursor: &mut Cursor<'_, '_>,
         blocks: Vec<DraftBlock<A>, A>,
     ) -> Self {
-        let mut lists = BlockLists {
+        let mut lists = ReadBlocks {
             ranges: Vec::new(alloc),
             preds: default_preds(alloc, cursor, blocks.as_slice()),
             succs: Vec::new(alloc),

@@ -5,7 +5,7 @@ use super::function::DraftFunction;
 use super::insts::opcode_named;
 use super::output::DraftOutput;
 use super::stored::StoredLists;
-use crate::cursor::{Cursor, Expected, Flaw, Token, is_numbered};
+use crate::cursor::{Cursor, Expected, LineError, Token, is_numbered};
 use std::alloc::Allocator;
 
 /// What a line leaves to the lines after it.
@@ -28,7 +28,7 @@ pub(super) struct Draft<A: Allocator> {
 }
 
 impl<A: Allocator + Copy> Draft<A> {
-    /// Nothing is said.
+    /// Returns the draft before the first line.
     pub(super) fn new(alloc: A) -> Self {
         Draft {
             function: DraftFunction::new(alloc),
@@ -37,12 +37,12 @@ impl<A: Allocator + Copy> Draft<A> {
         }
     }
 
-    /// Reads a line, given as `tokens`.
+    /// Reads a line, given as `tokens`. Returns what the line leaves to the lines after it, or the line's first error.
     pub(super) fn read_line<'t>(
         &mut self,
         alloc: A,
         tokens: &[Token<'t>],
-    ) -> Result<LineEffect, Flaw<'t>> {
+    ) -> Result<LineEffect, LineError<'t>> {
         let Some(first) = tokens.first() else {
             return Ok(LineEffect::Nothing);
         };
@@ -56,8 +56,8 @@ impl<A: Allocator + Copy> Draft<A> {
         cursor.finish_with(effect)
     }
 
-    /// Reads the line of an instruction or of a point, whose first word is one of an instruction and has `sign`
-    /// behind it.
+    /// Reads a line whose first word is `inst` with a number: the line of a move of a dump, if `sign` behind the word
+    /// is `-`, else the line of an instruction. Returns what the line leaves to the lines after it.
     fn read_numbered(&mut self, alloc: A, sign: &str, cursor: &mut Cursor<'_, '_>) -> LineEffect {
         match sign {
             "-" => {
@@ -72,7 +72,8 @@ impl<A: Allocator + Copy> Draft<A> {
         LineEffect::Inst
     }
 
-    /// Reads a line whose first word is `word`, with `sign` behind it.
+    /// Reads a line whose first word is `word`, with `sign` behind it. Returns what the line leaves to the lines after
+    /// it.
     fn read_kind(
         &mut self,
         alloc: A,
@@ -103,7 +104,8 @@ impl<A: Allocator + Copy> Draft<A> {
         LineEffect::Nothing
     }
 
-    /// Reads what follows `word`, the first word of a line that is no block's, instruction's or move's.
+    /// Reads what follows `word`, the first word of a line of the machine, the settings or the output. Notes an error
+    /// if no line begins with `word`.
     fn read_other(&mut self, alloc: A, word: &str, cursor: &mut Cursor<'_, '_>) {
         match word {
             "regs" => self.function.machine.read_preferred(alloc, cursor),
@@ -122,8 +124,8 @@ impl<A: Allocator + Copy> Draft<A> {
         }
     }
 
-    /// What the lines of the whole text say.
-    pub(super) fn finish<'t>(self, alloc: A) -> Result<Text<A>, Flaw<'t>> {
+    /// Returns the function and the output that all lines describe, or the first error.
+    pub(super) fn finish<'t>(self, alloc: A) -> Result<Text<A>, LineError<'t>> {
         let no_tokens: [Token<'t>; 0] = [];
         let mut cursor = Cursor::new(&no_tokens, 0);
         let mut function = self.function.finish(alloc, &mut cursor);

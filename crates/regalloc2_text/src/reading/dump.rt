@@ -66,7 +66,8 @@ pub fn is_logged(text: &str) -> bool {
     split_prefix(text).1 != 1
 }
 
-/// The opcode of an instruction, after its number, which is to be `next`, and a colon.
+/// Reads an instruction's number, which has to be `next`, a colon and the opcode, and returns the opcode. Returns
+/// `Op`, with an error, if there is no opcode.
 pub(super) fn read_dumped_opcode(cursor: &mut Cursor<'_, '_>, next: u32) -> InstOpcode {
     if cursor.named("inst", "an instruction") != next {
         cursor.fault_before(Expected::NextInst(next as usize));
@@ -94,12 +95,12 @@ struct SlotRule<'f> {
 }
 
 impl SlotRule<'_> {
-    /// The units that a slot of `class` takes.
+    /// Returns the number of units that a slot of `class` takes.
     fn units(&self, class: RegClass) -> u64 {
         self.sizes.get(class.code()).copied().unwrap_or(1)
     }
 
-    /// The first unit past the slot of `class` that `place` names; 0 if `place` is no slot.
+    /// Returns the first unit past the slot of `class` that `place` names; 0 if `place` is no slot.
     fn end_of(&self, place: u32, class: RegClass) -> u64 {
         let Some(slot) = slot_of(place) else {
             return 0;
@@ -112,7 +113,7 @@ impl SlotRule<'_> {
         (slot.index() as u64).saturating_add(units)
     }
 
-    /// The first unit past each slot that is among the `places` of `operands`.
+    /// Returns the first unit past all slots among `places`, the places of `operands`.
     fn end_of_operands(&self, operands: &[u64], places: &[u32]) -> u64 {
         let mut end = 0;
         for (bits, place) in operands.iter().zip(places) {
@@ -123,8 +124,8 @@ impl SlotRule<'_> {
         end
     }
 
-    /// The first unit past each slot that a move in `moves` names. The register at the other end of a move tells the
-    /// slot's class; upstream moves nothing from stack to stack.
+    /// Returns the first unit past all slots that `moves` name. A slot has the class of the register at the other end
+    /// of the move; upstream moves nothing from stack to stack.
     fn end_of_moves(&self, moves: &[(u32, u32, u32)]) -> u64 {
         let mut end = 0;
         for (_, from, to) in moves {

@@ -1,6 +1,6 @@
 //! What the lines say of a function.
 
-use super::blocks::{BlockLists, DraftBlock};
+use super::blocks::{DraftBlock, ReadBlocks};
 use super::dump::read_dumped_opcode;
 use super::insts::{DraftInst, read_opcode};
 use super::machine::{ByClass, DraftMachine};
@@ -23,7 +23,7 @@ pub(super) struct DraftFunction<A: Allocator> {
 }
 
 impl<A: Allocator + Copy> DraftFunction<A> {
-    /// Nothing is said.
+    /// Returns the draft before the first line.
     pub(super) fn new(alloc: A) -> Self {
         DraftFunction {
             machine: DraftMachine::new(alloc),
@@ -35,7 +35,7 @@ impl<A: Allocator + Copy> DraftFunction<A> {
         }
     }
 
-    /// The number of the next instruction.
+    /// Returns the number of the next instruction; 0, with an error, if 32 bits can't hold it.
     pub(super) fn next_inst(&self, cursor: &mut Cursor<'_, '_>) -> u32 {
         match u32::try_from(self.insts.len()) {
             Ok(number) => number,
@@ -46,14 +46,14 @@ impl<A: Allocator + Copy> DraftFunction<A> {
         }
     }
 
-    /// Reads the line of a block.
+    /// Reads the line of a block, and adds the block.
     pub(super) fn read_block(&mut self, alloc: A, cursor: &mut Cursor<'_, '_>) {
         let inst = self.next_inst(cursor);
         let block = DraftBlock::read(alloc, cursor, self.blocks.len(), inst);
         cursor.push(&mut self.blocks, block);
     }
 
-    /// Reads the line of an instruction, whose places go to `output`.
+    /// Reads the line of an instruction, and adds the instruction; its places are added to `output`.
     pub(super) fn read_inst(
         &mut self,
         alloc: A,
@@ -71,7 +71,7 @@ impl<A: Allocator + Copy> DraftFunction<A> {
         self.add_inst(cursor, number, parts, output);
     }
 
-    /// Reads the line of an instruction of a dump, whose places go to `output`.
+    /// Reads the line of an instruction of a dump, and adds the instruction; its places are added to `output`.
     pub(super) fn read_dumped_inst(
         &mut self,
         alloc: A,
@@ -88,7 +88,7 @@ impl<A: Allocator + Copy> DraftFunction<A> {
         self.add_inst(cursor, number, parts, output);
     }
 
-    /// Adds the instruction `number` with its places, `parts`, after all of its line is read.
+    /// Adds `parts`, the instruction `number` and its places, which are added to `output`. All of its line is read.
     fn add_inst(
         &mut self,
         cursor: &mut Cursor<'_, '_>,
@@ -107,7 +107,7 @@ impl<A: Allocator + Copy> DraftFunction<A> {
         }
     }
 
-    /// Reads what follows `label`.
+    /// Reads what follows `label` in a line, and adds the label of a vreg.
     pub(super) fn read_label(&mut self, cursor: &mut Cursor<'_, '_>) {
         let label = cursor.word();
         cursor.want(":");
@@ -116,9 +116,9 @@ impl<A: Allocator + Copy> DraftFunction<A> {
         cursor.push(&mut self.labels, (vreg, from, until, label));
     }
 
-    /// The function, with what follows from the lines where they don't say it.
+    /// Returns the function. What no line says has its default, which follows from the other lines.
     pub(super) fn finish(self, alloc: A, cursor: &mut Cursor<'_, '_>) -> StoredFunction<A> {
-        let lists = BlockLists::new(alloc, cursor, self.blocks);
+        let lists = ReadBlocks::new(alloc, cursor, self.blocks);
         let settings = self.settings;
         let flags = settings.flags.unwrap_or(Flags::NONE);
         StoredFunction {

@@ -8,7 +8,7 @@ use crate::cursor::{Cursor, Expected};
 use regalloc2_serialize::{InstOpcode, StoredInst};
 use std::alloc::Allocator;
 
-/// The opcode that `name` names, if any.
+/// Returns the opcode that `name` names, if any.
 pub(super) fn opcode_named(name: &str) -> Option<InstOpcode> {
     match name {
         "op" => Some(InstOpcode::Op),
@@ -18,7 +18,8 @@ pub(super) fn opcode_named(name: &str) -> Option<InstOpcode> {
     }
 }
 
-/// The opcode of an instruction, after its number, which is to be `next` where it is there.
+/// Reads an instruction's number, which may be left out and else has to be `next`, and its opcode, and returns the
+/// opcode. Returns `Op`, with an error, if there is no opcode.
 pub(super) fn read_opcode(cursor: &mut Cursor<'_, '_>, next: u32) -> InstOpcode {
     if cursor.begins("inst") && cursor.named("inst", "an instruction") != next {
         cursor.fault_before(Expected::NextInst(next as usize));
@@ -35,7 +36,7 @@ pub(super) fn read_opcode(cursor: &mut Cursor<'_, '_>, next: u32) -> InstOpcode 
     }
 }
 
-/// What follows an opcode and its successors.
+/// What a line says of an instruction behind its opcode and its successors.
 #[derive(Drop)]
 pub(super) struct DraftInst<A: Allocator> {
     operands: Vec<u64, A>,
@@ -47,7 +48,7 @@ pub(super) struct DraftInst<A: Allocator> {
 }
 
 impl<A: Allocator + Copy> DraftInst<A> {
-    /// Nothing is read.
+    /// Returns an instruction without operands.
     fn new(alloc: A) -> Self {
         DraftInst {
             operands: Vec::new(alloc),
@@ -57,19 +58,20 @@ impl<A: Allocator + Copy> DraftInst<A> {
         }
     }
 
-    /// Reads the operands and the parts of an instruction's line.
+    /// Reads what follows an instruction's opcode and successors, and returns the operands, places and clobbers.
     pub(super) fn read(alloc: A, cursor: &mut Cursor<'_, '_>) -> Self {
         let mut inst = DraftInst::new(alloc);
         if cursor.has(":") {
             inst.read_operands(cursor);
         }
-        'parts: while cursor.has(";") {
+        while cursor.has(";") {
             inst.read_part(alloc, cursor);
         }
         inst
     }
 
-    /// Reads the operands of an instruction of a dump, each with its place, and the clobbers in brackets.
+    /// Reads what follows the opcode of an instruction of a dump: operands, each with its place, and clobbers in
+    /// brackets. Returns them.
     pub(super) fn read_dumped(alloc: A, cursor: &mut Cursor<'_, '_>) -> Self {
         let mut inst = DraftInst::new(alloc);
         match cursor.peek() {
@@ -87,17 +89,17 @@ impl<A: Allocator + Copy> DraftInst<A> {
         inst
     }
 
-    /// Reads operands and their places.
+    /// Reads one or more operands between commas with their places, and adds them.
     fn read_operands(&mut self, cursor: &mut Cursor<'_, '_>)
         ensures { tokens_left cursor.new ≤ tokens_left cursor.old }
     {
         self.read_operand(cursor);
-        'operands: while cursor.has(",") {
+        while cursor.has(",") {
             self.read_operand(cursor);
         }
     }
 
-    /// Reads an operand, and its place where that follows.
+    /// Reads an operand, and its place in brackets if it has one, and adds them.
     fn read_operand(&mut self, cursor: &mut Cursor<'_, '_>)
         ensures { tokens_left cursor.new ≤ tokens_left cursor.old }
     {
@@ -114,7 +116,7 @@ impl<A: Allocator + Copy> DraftInst<A> {
         cursor.want("]");
     }
 
-    /// Reads a place.
+    /// Reads a place, and adds it.
     fn read_place(&mut self, cursor: &mut Cursor<'_, '_>)
         ensures { tokens_left cursor.new ≤ tokens_left cursor.old }
     {
@@ -122,7 +124,7 @@ impl<A: Allocator + Copy> DraftInst<A> {
         cursor.push(&mut self.places, place);
     }
 
-    /// Reads a part of an instruction's line.
+    /// Reads a part of an instruction's line, after its semicolon: the clobbers, or further places.
     fn read_part(&mut self, alloc: A, cursor: &mut Cursor<'_, '_>)
         ensures { tokens_left cursor.new ≤ tokens_left cursor.old }
     {
@@ -143,7 +145,7 @@ impl<A: Allocator + Copy> DraftInst<A> {
         }
     }
 
-    /// Reads the places after the operands' places.
+    /// Reads one or more places between commas, and adds them after the operands' places.
     fn read_more(&mut self, cursor: &mut Cursor<'_, '_>)
         ensures { tokens_left cursor.new ≤ tokens_left cursor.old }
     {
@@ -151,12 +153,12 @@ impl<A: Allocator + Copy> DraftInst<A> {
             cursor.misfit_before("`more` where each operand has a place");
         }
         self.read_place(cursor);
-        'places: while cursor.has(",") {
+        while cursor.has(",") {
             self.read_place(cursor);
         }
     }
 
-    /// The instruction with the opcode `op`, and the places.
+    /// Returns the instruction with the opcode `op`, and its places.
     pub(super) fn into_parts(self, alloc: A, op: InstOpcode) -> (StoredInst<A>, Vec<u32, A>) {
         let inst = StoredInst {
             op,

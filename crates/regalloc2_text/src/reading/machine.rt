@@ -92,7 +92,7 @@ fn read_span_list<A: Allocator>(
     if cursor.has("none") {
         return spans;
     }
-    'spans: loop {
+    loop {
         let span = read_span(cursor, class);
         cursor.push(&mut spans, span);
         if !cursor.has(",") {
@@ -148,7 +148,7 @@ pub(super) struct DraftMachine<A: Allocator> {
 }
 
 impl<A: Allocator + Copy> DraftMachine<A> {
-    /// No registers.
+    /// Returns the draft before the first line: no registers.
     pub(super) fn new(alloc: A) -> Self {
         DraftMachine {
             is_named: false,
@@ -159,7 +159,8 @@ impl<A: Allocator + Copy> DraftMachine<A> {
         }
     }
 
-    /// The spans of a line after its first word and the name of a class, where one is there.
+    /// Reads what follows the first word of a line: the name of a class, if there is one, and registers. Returns the
+    /// registers.
     fn read_spans(&mut self, alloc: A, cursor: &mut Cursor<'_, '_>) -> Vec<Span, A> {
         self.is_named = true;
         let class = class_named(cursor.peek().unwrap_or(""));
@@ -199,7 +200,7 @@ impl<A: Allocator + Copy> DraftMachine<A> {
         read_registers(alloc, cursor, &mut self.fixed_stack_slots);
     }
 
-    /// The machine, with the registers that it has where no line names any.
+    /// Returns the machine. If no line names registers, it has the integer registers 0 to 9.
     pub(super) fn finish(self, alloc: A, cursor: &mut Cursor<'_, '_>) -> StoredMachine<A> {
         let mut preferred = self.preferred;
         if !self.is_named {

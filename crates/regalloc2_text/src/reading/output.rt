@@ -2,14 +2,14 @@
 
 use super::dump::frame_units;
 use super::settings::first_of_kind;
-use crate::cursor::{Cursor, Expected, Flaw, Found};
+use crate::cursor::{Cursor, Expected, Found, LineError};
 use crate::named::point_at;
 use regalloc2_function::StoredOutput;
 use regalloc2_names::InstPosition;
 use regalloc2_serialize::StoredFunction;
 use std::alloc::Allocator;
 
-/// What the text needs if there are more instructions or places than 32 bits can number.
+/// What a text is expected to have if its instructions or places are more than 32 bits can number.
 pub(super) const TOO_MANY: &str = "fewer instructions and places";
 
 /// What the lines so far say of an output.
@@ -26,7 +26,7 @@ pub(super) struct DraftOutput<A: Allocator> {
     debug_locations: Vec<(u32, u32, u32, u32), A>,
 }
 
-/// Returns the number of the point before instruction `inst`.
+/// Returns the number of the point before instruction `inst`; 0, with an error, if there is no such point.
 fn before_inst(cursor: &mut Cursor<'_, '_>, inst: u32) -> u32 {
     match point_at(inst as usize, InstPosition::Before) {
         Some(point) => point.to_index(),
@@ -37,7 +37,7 @@ fn before_inst(cursor: &mut Cursor<'_, '_>, inst: u32) -> u32 {
     }
 }
 
-/// The places from which and to which a move goes.
+/// Reads the ends of a move, as `p0i -> stack1`, and returns the encodings of its source and its target.
 fn read_ends(cursor: &mut Cursor<'_, '_>) -> (u32, u32) {
     let from = cursor.place_bits();
     cursor.want("->");
@@ -45,7 +45,7 @@ fn read_ends(cursor: &mut Cursor<'_, '_>) -> (u32, u32) {
 }
 
 impl<A: Allocator + Copy> DraftOutput<A> {
-    /// Nothing is said.
+    /// Returns the draft before the first line.
     pub(super) fn new(alloc: A) -> Self {
         DraftOutput {
             is_named: false,
@@ -89,8 +89,8 @@ impl<A: Allocator + Copy> DraftOutput<A> {
         cursor.push(&mut self.edits, (point, from, to));
     }
 
-    /// Reads what follows `move`, before the instruction of number `next`. Returns whether it says
-    /// no point.
+    /// Reads what follows `move`, and adds the move, by default before the instruction `next`. Returns whether the line
+    /// says no point.
     pub(super) fn read_move(&mut self, cursor: &mut Cursor<'_, '_>, next: u32) -> bool {
         self.is_named = true;
         let (from, to) = read_ends(cursor);
@@ -104,13 +104,13 @@ impl<A: Allocator + Copy> DraftOutput<A> {
         !has_point
     }
 
-    /// Reads what follows `slots`.
+    /// Reads what follows `slots`: the number of units of spill slots.
     pub(super) fn read_slots(&mut self, cursor: &mut Cursor<'_, '_>) {
         first_of_kind(cursor, self.num_spillslots.is_some(), "slots");
         self.num_spillslots = Some(cursor.number(u64::MAX));
     }
 
-    /// Reads what follows `debug`.
+    /// Reads what follows `debug`, and adds the debug location.
     pub(super) fn read_debug(&mut self, cursor: &mut Cursor<'_, '_>) {
         self.is_named = true;
         let label = cursor.word();
@@ -120,8 +120,8 @@ impl<A: Allocator + Copy> DraftOutput<A> {
         cursor.push(&mut self.debug_locations, (label, from, until, place));
     }
 
-    /// The output of `function`, if lines say something of it, with `stored_allocs` and `stored_offsets` in place of
-    /// its own lists.
+    /// Returns the output of `function`, or `None` if no line says anything of an output. `stored_allocs` and
+    /// `stored_offsets` take the place of the lists that the lines give.
     pub(super) fn finish(
         self,
         function: &StoredFunction<A>,
@@ -141,7 +141,7 @@ impl<A: Allocator + Copy> DraftOutput<A> {
         let Some(num_spillslots) = num_spillslots else {
             if self.is_named || stored_allocs.is_some() || stored_offsets.is_some() {
                 let expected = Expected::Words("a line `slots N`, since the text has places");
-                cursor.fail(Flaw::new(1, expected, Found::TextEnd));
+                cursor.fail(LineError::new(1, expected, Found::TextEnd));
             }
             return None;
         };

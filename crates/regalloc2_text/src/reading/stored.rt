@@ -9,7 +9,7 @@ use std::alloc::Allocator;
 
 /// What is written as numbers and lists of them in brackets.
 pub(super) trait FromTokens<A: Allocator> {
-    /// The value that is next.
+    /// Reads the value that is next, and returns it.
     fn from_tokens(alloc: A, cursor: &mut Cursor<'_, '_>) -> Self
         ensures { tokens_left cursor.new ≤ tokens_left cursor.old };
 }
@@ -48,7 +48,7 @@ impl<T: FromTokens<A> + Drop, A: Allocator + Copy> FromTokens<A> for Vec<T, A> {
         if cursor.has("]") {
             return items;
         }
-        'items: loop {
+        loop {
             let item = T::from_tokens(alloc, cursor);
             cursor.push(&mut items, item);
             if !cursor.has(",") {
@@ -97,7 +97,7 @@ fn read_once<T: FromTokens<A> + Drop, A: Allocator>(
 }
 
 impl<A: Allocator + Copy> StoredLists<A> {
-    /// No lists.
+    /// Returns the draft before the first line: no list is read.
     pub(super) fn new() -> Self {
         StoredLists {
             block_preds: None,
@@ -125,7 +125,7 @@ impl<A: Allocator + Copy> StoredLists<A> {
         }
     }
 
-    /// Reads a list by block, where its name is next, and says whether it is.
+    /// Reads a list by block if its name is next. Returns whether it is.
     fn read_of_blocks(&mut self, alloc: A, cursor: &mut Cursor<'_, '_>) -> bool {
         match cursor.peek().unwrap_or("") {
             "block_preds" => read_once(alloc, cursor, "stored block_preds", &mut self.block_preds),
@@ -147,7 +147,7 @@ impl<A: Allocator + Copy> StoredLists<A> {
         true
     }
 
-    /// Reads a list by class, where its name is next, and says whether it is.
+    /// Reads a list by class if its name is next. Returns whether it is.
     fn read_of_classes(&mut self, alloc: A, cursor: &mut Cursor<'_, '_>) -> bool {
         match cursor.peek().unwrap_or("") {
             "preferred_regs_by_class" => read_once(
@@ -179,7 +179,7 @@ impl<A: Allocator + Copy> StoredLists<A> {
         true
     }
 
-    /// Reads a list of an output, where its name is next, and says whether it is.
+    /// Reads a list of an output if its name is next. Returns whether it is.
     fn read_of_output(&mut self, alloc: A, cursor: &mut Cursor<'_, '_>) -> bool {
         match cursor.peek().unwrap_or("") {
             "allocs" => read_once(alloc, cursor, "stored allocs", &mut self.allocs),

@@ -19,8 +19,8 @@ fn opcode_name(op: InstOpcode) -> &'static str {
     }
 }
 
-/// Writes successors, each with its arguments in parentheses, and `before` before the first. `targets` has the successors
-/// and the arguments for each.
+/// Writes successors, each with its arguments in parentheses, and `before` before the first. `targets` has the
+/// successors and the arguments for each.
 fn write_targets<A: Allocator, W: fmt::Write>(
     before: &str,
     targets: (&[u32], &[Vec<u32, A>]),

@@ -131,8 +131,9 @@ fn write_lines<A: Allocator + Copy, W: fmt::Write>(
 
 /// Returns the lines of `function` with its machine, and of an `output` if there is one. Linear in them.
 ///
-/// A function may be ill-formed, and its numbers may name nothing. If no text says what it is, as with 2^32 instructions
-/// or blocks, these lines read back as another function or output. The only error is that the system is out of memory.
+/// A function may be ill-formed, and its numbers may name nothing. If no text says what it is, as with 2^32
+/// instructions or blocks, these lines read back as another function or output. The only error is that the system is
+/// out of memory.
 pub fn lay_out<A: Allocator + Copy>(
     alloc: A,
     function: &StoredFunction<A>,

@@ -34,7 +34,7 @@ pub(crate) struct Moves<'a> {
 }
 
 impl<'a> Moves<'a> {
-    /// The moves `moves`, which stand beside their instructions.
+    /// Returns the moves `moves`, which stand beside their instructions.
     pub(crate) fn new(moves: &'a [StoredMove]) -> Moves<'a> {
         Moves { rest: moves }
     }

@@ -73,7 +73,7 @@ impl<'a, A: Allocator + Copy> ShownOutput<'a, A> {
         })
     }
 
-    /// The places that stand beside their instructions.
+    /// Returns the places that stand beside their instructions.
     pub(crate) fn places(&self) -> Places<'a> {
         if !self.has_places {
             return Places::none();
@@ -84,7 +84,7 @@ impl<'a, A: Allocator + Copy> ShownOutput<'a, A> {
         }
     }
 
-    /// The moves that stand beside their instructions.
+    /// Returns the moves that stand beside their instructions.
     pub(crate) fn moves(&self) -> Moves<'a> {
         if self.has_moves {
             Moves::new(self.output.edits.as_slice())

@@ -1,6 +1,6 @@
 //! Reads a user's text.
 
-use regalloc2_text::{Expected, Fault, Found, Text, TextError, read};
+use regalloc2_text::{Expected, Found, Text, TextError, TextFault, read};
 use std::alloc::{AllocError, Global};
 use strsim::osa_distance;
 
@@ -26,7 +26,7 @@ fn nearest_word(alloc: Global, word: &str) -> Result<Option<&'static str>, Alloc
 }
 
 /// Returns `fault`, with a suggestion if a word begins no line.
-fn suggesting<'t>(alloc: Global, mut fault: Fault<'t>) -> Result<Fault<'t>, AllocError> {
+fn suggesting<'t>(alloc: Global, mut fault: TextFault<'t>) -> Result<TextFault<'t>, AllocError> {
     if let (Expected::LineBeginning(None), Found::Token(word)) = (fault.expected, fault.found) {
         fault.expected = Expected::LineBeginning(nearest_word(alloc, word)?);
     }

@@ -139,7 +139,7 @@ static ARGUMENTS: [Argument; 5] = [
     },
 ];
 
-/// The command with its subcommands.
+/// Returns the command with its subcommands.
 fn command<'a>(alloc: Global) -> Result<Command<'a>, AllocError> {
     let commands = Commands {
         subcommands: &SUBCOMMANDS,

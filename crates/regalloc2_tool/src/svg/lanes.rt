@@ -16,7 +16,7 @@ pub(crate) struct Lanes<A: Allocator> {
     edges: Vec<usize, A>,
 }
 
-/// The left edges of `columns` columns, and of the space after them. `in_columns` has the column of
+/// Returns the left edges of `columns` columns, and of the space after them. `in_columns` has the column of
 /// each lane and the index of its place, by rising column.
 fn edges_of<A: Allocator>(
     alloc: A,
@@ -35,7 +35,7 @@ fn edges_of<A: Allocator>(
     Ok(edges)
 }
 
-/// The lanes of `in_columns`, pairs of a column and the index of a place in rising order. Lanes are
+/// Returns the lanes of `in_columns`, pairs of a column and the index of a place in rising order. Lanes are
 /// counted in each column from the left.
 fn shown_in<A: Allocator>(
     alloc: A,
@@ -66,7 +66,7 @@ impl<A: Allocator + Copy> Lanes<A> {
         }
     }
 
-    /// The lanes of `columns` columns; `sightings` lists the places that each column shows. An error
+    /// Returns the lanes of `columns` columns; `sightings` lists the places that each column shows. An error
     /// means out of memory.
     pub(crate) fn of(
         alloc: A,
@@ -93,7 +93,7 @@ impl<A: Allocator + Copy> Lanes<A> {
 }
 
 impl<A: Allocator> Lanes<A> {
-    /// The places, each once.
+    /// Returns the places, each once.
     pub(crate) fn places(&self) -> &[Allocation] {
         self.places.as_slice()
     }
@@ -103,12 +103,12 @@ impl<A: Allocator> Lanes<A> {
         self.places.as_slice().binary_search(&place).ok()
     }
 
-    /// The index of each place, with a column that shows it and its lane there.
+    /// Returns the index of each place, with a column that shows it and its lane there.
     pub(crate) fn shown(&self) -> &[(usize, usize, usize)] {
         self.shown.as_slice()
     }
 
-    /// What `shown` returns, from the first column of the place `index` that isn't left of the column
+    /// Returns what `shown` returns, from the first column of the place `index` that isn't left of the column
     /// of `row`.
     pub(crate) fn shown_from(&self, index: usize, row: usize) -> &[(usize, usize, usize)] {
         let column = shapes::column_of(row);
@@ -132,7 +132,7 @@ impl<A: Allocator> Lanes<A> {
         Some(shapes::middle(self.edge(column), lane))
     }
 
-    /// The width of all columns.
+    /// Returns the width of all columns.
     pub(crate) fn width(&self) -> usize {
         self.edges.last().copied().unwrap_or(0)
     }

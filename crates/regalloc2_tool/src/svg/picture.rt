@@ -42,7 +42,7 @@ pub struct Picture<A: Allocator = Global> {
 }
 
 impl<A: Allocator + Copy> Picture<A> {
-    /// A picture, not yet drawn.
+    /// Returns a picture, not yet drawn.
     pub fn new(alloc: A) -> Picture<A> {
         Picture {
             alloc,

@@ -47,12 +47,12 @@ pub(crate) fn column_of(row: usize) -> usize {
     row / COLUMN_ROWS
 }
 
-/// The width of a column of `lanes` lanes.
+/// Returns the width of a column of `lanes` lanes.
 pub(crate) fn width(lanes: usize) -> usize {
     lanes.saturating_mul(LANE).saturating_add(LEFT + LANE / 2)
 }
 
-/// The horizontal middle of `lane` in a column whose left edge is at `edge`.
+/// Returns the horizontal middle of `lane` in a column whose left edge is at `edge`.
 pub(crate) fn middle(edge: usize, lane: usize) -> usize {
     width(lane).saturating_add(edge)
 }
@@ -95,7 +95,7 @@ pub(crate) fn begin<W: Write>(width: usize, rows: usize, to: &mut W) -> io::Resu
     to.write_all(LEGEND.as_bytes())
 }
 
-/// The number of columns that `rows` rows take.
+/// Returns the number of columns that `rows` rows take.
 pub(crate) fn columns(rows: usize) -> usize {
     rows.saturating_sub(1) / COLUMN_ROWS + 1
 }

@@ -14,7 +14,7 @@ use std::alloc::{AllocError, Allocator};
 /// How many rows an instruction takes: one for its early operands, one for the late ones.
 pub(crate) const INST_ROWS: usize = 2;
 
-/// The row of an operand of an instruction that begins in `row`.
+/// Returns the row of an operand of an instruction that begins in `row`.
 pub(crate) fn row_of(operand: Operand, row: usize) -> usize {
     if operand.is_late() {
         row.saturating_add(1)

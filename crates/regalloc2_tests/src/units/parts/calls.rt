@@ -48,7 +48,7 @@ static CASES: [(Pairs, &[usize], usize, u8, u8); 19] = [
     (&[(IN_MEMORY, SLOT), (3, 4)], &[5], 2, 8, 0),
 ];
 
-/// Returns the register with the number `number`.
+/// Returns the integer register with the number `number`; past the last register the first ones follow again.
 fn register(number: usize) -> PReg {
     PReg::new(number % 64, RegClass::Int)
 }

@@ -33,7 +33,8 @@ static RESOLVED: [Pairs; 6] = [
     &[(0, SLOT), (SLOT, 0), (0, 1), (SLOT, SLOT + 1)],
 ];
 
-/// Returns the place with the number `number`: registers below 64, then slots.
+/// Returns the place with the number `number`: registers below 64, then a million slots; past them the first slots
+/// follow again.
 pub fn place(number: usize) -> Allocation
     ensures { result ≢ NoPlace }
 {

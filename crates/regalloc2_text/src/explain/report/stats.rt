@@ -1,8 +1,8 @@
 //! Counts of an allocated function.
 
-use crate::named::{has_register, operand_of, place_of};
+use crate::named::{operand_of, place_of, register_of};
 use regalloc2_function::StoredOutput;
-use regalloc2_names::OperandConstraint;
+use regalloc2_names::{OperandConstraint, PRegSet};
 use regalloc2_serialize::{StoredFunction, StoredMachine};
 use std::fmt;
 
@@ -52,15 +52,22 @@ fn index_of(constraint: OperandConstraint) -> usize {
     }
 }
 
-/// Returns whether the place with the encoding `bits` is a stack place: a spill slot, or a register
-/// that is a fixed stack slot.
-fn is_stack_place(machine: &StoredMachine, bits: u32) -> bool {
-    let Some(place) = place_of(bits) else {
-        return false;
-    };
-    match place.as_reg() {
-        Some(register) => has_register(machine.fixed_stack_slots.as_slice(), register),
-        None => place.is_stack(),
+/// Returns the fixed stack slots of `machine`.
+fn fixed_stack_of(machine: &StoredMachine) -> PRegSet {
+    let mut slots = PRegSet::empty();
+    for index in &machine.fixed_stack_slots {
+        if let Some(register) = register_of(*index) {
+            slots.add(register);
+        }
+    }
+    slots
+}
+
+/// Returns whether `bits` encode a stack place on a machine with the fixed stack slots `fixed_stack`.
+fn is_stack_place(bits: u32, fixed_stack: PRegSet) -> bool {
+    match place_of(bits) {
+        Some(place) => place.is_memory(fixed_stack),
+        None => false,
     }
 }
 
@@ -82,8 +89,9 @@ impl Stats {
         for inst in &function.insts {
             stats.count_operands(inst.operands.as_slice());
         }
+        let fixed_stack = fixed_stack_of(&function.machine_env);
         for (_, from, to) in &output.edits {
-            stats.count_move(&function.machine_env, *from, *to);
+            stats.count_move(fixed_stack, *from, *to);
         }
         stats
     }
@@ -99,11 +107,11 @@ impl Stats {
         }
     }
 
-    /// Counts the move from place `from` to place `to`.
-    fn count_move(&mut self, machine: &StoredMachine, from: u32, to: u32) {
-        if is_stack_place(machine, to) {
+    /// Counts the move from place `from` to place `to` on a machine with the fixed stack slots `fixed_stack`.
+    fn count_move(&mut self, fixed_stack: PRegSet, from: u32, to: u32) {
+        if is_stack_place(to, fixed_stack) {
             self.stores = self.stores.saturating_add(1);
-        } else if is_stack_place(machine, from) {
+        } else if is_stack_place(from, fixed_stack) {
             self.loads = self.loads.saturating_add(1);
         } else {
             self.register_moves = self.register_moves.saturating_add(1);

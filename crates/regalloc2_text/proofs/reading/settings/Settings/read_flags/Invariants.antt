@@ -1,5 +1,5 @@
 use Rattle.regalloc2_text.specs.Cursor.Cursor.{tokens_left}
 use Rattle.regalloc2_text.proofs.reading.settings.Settings.read_flags.Given as goal
 
-abbrev pub decreases-flags : goal.decreases-flags
-decreases-flags l = tokens_left l.cursor
+abbrev pub decreases-loop-cursor : goal.decreases-loop-cursor
+decreases-loop-cursor l = tokens_left l.cursor

@@ -1,8 +1,0 @@
-use Rattle.std.proofs.Common.{append_assoc}
-use Rattle.std.proofs.Output.{has_written_of_eq}
-use Rattle.regalloc2_text.proofs.explain.faults.StoredCause.write_output.Goals as goal
-
-pub returns-in-Place : goal.returns-in-Place
-returns-in-Place g c = λ plain ok.
-    has_written_of_eq _ _ _ _ _ (rw c.in-Place.is (simp append_assoc))
-    (c.write-in-Place.ensures.writes plain ok)
