@@ -66,7 +66,7 @@ fn fixed_stack_of(machine: &StoredMachine) -> PRegSet {
 /// Returns whether `bits` encode a stack place on a machine with the fixed stack slots `fixed_stack`.
 fn is_stack_place(bits: u32, fixed_stack: PRegSet) -> bool {
     match place_of(bits) {
-        Some(place) => place.is_memory(fixed_stack),
+        Some(place) => place.is_on_stack(fixed_stack),
         None => false,
     }
 }
