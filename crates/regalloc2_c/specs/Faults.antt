@@ -1,5 +1,5 @@
 -- The words of the faults of an output, and which faults they are.
-use Rattle.std.specs.Prelude.{ℕ, ◌≡◌, ◌⊎◌, ◌/◌, ◌%◌, ◌^◌, List, [], ◌∷◌, ◌++◌, map, length, zero, suc, Bool, ◌&&◌, nat_eq, nat_lt, slice_index_or, if◌then◌else◌}
+use Rattle.std.specs.Prelude.{ℕ, ◌≡◌, ◌⊎◌, ◌/◌, ◌%◌, ◌^◌, List, [], ◌∷◌, ◌++◌, map, length, zero, suc, Bool, ◌&&◌, nat_eq, nat_lt, if◌then◌else◌}
 use Rattle.std.specs.List.{flat_map}
 use Rattle.std.specs.Global.{Vec}
 use Rattle.std.specs.declared.alloc.Global.{Global}
@@ -9,13 +9,13 @@ use Rattle.regalloc2_names.specs.Place.{Place, NoPlace}
 use Rattle.regalloc2_names.specs.PlaceBits.{bits_of_place}
 use Rattle.regalloc2_names.specs.Register.{VirtualRegister}
 use Rattle.regalloc2_names.specs.RegisterBits.{bits_of_vreg}
-use Rattle.regalloc2_function.specs.FunctionValue.{FunctionValue, inst_at}
+use Rattle.regalloc2_function.specs.FunctionValue.{FunctionValue, inst_at, op_at}
 use Rattle.regalloc2_function.specs.Machine.{MachineValue}
 use Rattle.regalloc2_function.specs.OutputValue.{OutputValue, IsInOrder, place_at, allocs_of}
 use Rattle.regalloc2_semantics.specs.Faithful.{IsFaithful}
 use Rattle.regalloc2_checker.specs.Cells.{AreCells}
 use Rattle.regalloc2_checker.specs.CellFaults.{IsCellFault}
-use Rattle.regalloc2_checker.specs.Report.{IsReport, invalid_operand}
+use Rattle.regalloc2_checker.specs.Report.{IsReport}
 use Rattle.regalloc2_checker.specs.declared.cells.CellFault.{CellFault}
 use Rattle.regalloc2_checker.specs.declared.cells.CellFault.TheVariants.{Operand, MoveEnd, OtherClass, Location, Slot, Shared, Memory as CellMemory}
 use Rattle.regalloc2_checker.specs.declared.errors.CheckerError.{CheckerError}
@@ -34,7 +34,7 @@ first_index test k (suc n) = if test k then as_word k else first_index test (suc
 
 -- whether operand `k` has the encoding of `op` and is in the place `p`
 abbrev pub is_placed : List OperandValue → List Place → OperandValue → Place → ℕ → Bool
-is_placed ops places op p k = nat_eq (bits_of_operand (slice_index_or ops k invalid_operand)) (bits_of_operand op)
+is_placed ops places op p k = nat_eq (bits_of_operand (op_at ops k)) (bits_of_operand op)
     && nat_eq (bits_of_place (place_at places k)) (bits_of_place p)
 
 -- the index of the first operand of instruction `i` with the encoding of `op` that is in the place `p`
