@@ -1,6 +1,6 @@
 -- Tests of the definitions of kept labels and of instructions that fit: one that is and one that isn't.
 use Rattle.std.proofs.Common.{ℕ, zero, suc, ◌≡◌, ◌+◌, ◌/◌, ◌<◌, ◌≤◌, false, true, [], ◌∷◌, refl, arith, inl, inr, subst}
-use Rattle.std.specs.Prelude.{◌⊎◌, slice_index_or, None, ◌&&◌, count_by, if◌then◌else◌, is_none, nat_eq, nat_lt}
+use Rattle.std.specs.Prelude.{◌⊎◌, None, ◌&&◌, count_by, if◌then◌else◌, is_none, nat_eq, nat_lt}
 use Rattle.regalloc2_names.specs.declared.OperandConstraint.TheVariants.{FixedReg, Reuse}
 use Rattle.regalloc2_names.specs.declared.OperandKind.{OperandKind}
 use Rattle.regalloc2_names.specs.declared.OperandKind.TheVariants.{Def, Use}
@@ -11,7 +11,7 @@ use Rattle.regalloc2_names.specs.declared.RegClass.TheVariants.{Int, Float, Vect
 use Rattle.regalloc2_names.specs.Operand.{OperandValue, is_fixed_nonallocatable}
 use Rattle.regalloc2_names.specs.Register.{Register, has_register, class_code, empty_set}
 use Rattle.regalloc2_names.specs.Place.{after}
-use Rattle.regalloc2_function.specs.FunctionValue.{FunctionValue, InstValue, Label, EachOperand}
+use Rattle.regalloc2_function.specs.FunctionValue.{FunctionValue, InstValue, Label, EachOperand, op_at}
 use Rattle.regalloc2_function.specs.Machine.{MachineValue, is_allocatable, IsFixedStackSlot, allocatable_count, count_below, scratch_of}
 use Rattle.regalloc2_semantics.specs.Debug.{UsesAt, IsLastUse, IsLastPoint, IsKept}
 use Rattle.regalloc2_semantics.specs.Live.{ReadsAt, PassesAt}
